@@ -1,0 +1,7 @@
+pub mod Contents
+pub mod DataMembers
+pub mod Exclusion
+pub mod Literals
+pub mod Numbers
+pub mod PathCommands
+pub mod Utf8Json

@@ -1,0 +1,13 @@
+pub mod Vector
+pub mod Scene
+pub mod Fraction
+pub mod Frac
+pub mod Gauss
+pub mod FracLaws
+pub mod EdgeVolume
+pub mod EdgeSide
+pub mod TriangleHit
+pub mod Measures
+pub mod Counted
+pub mod Decided
+pub mod HitValue

@@ -1,0 +1,168 @@
+use crate::{Frac, Ray, Steps, Tri, Vec3, hit_tri};
+use std::cmp::Ordering;
+use std::marker::Brand;
+use std::mem;
+
+// The greatest tmax, 2^40.
+const FAR: u64 = 1 << 40;
+
+// The numbers of t, u and v, and whether den is negative.
+type Told = ((u64, u64), (u64, u64), (u64, u64), bool);
+
+const fn at(x: i64, y: i64, z: i64) -> Vec3 {
+    Vec3 { x, y, z }
+}
+
+// What the ray from an origin along a direction, from tmin to tmax, meets of a triangle.
+fn told(
+    (origin, dir): (Vec3, Vec3),
+    (tmin, tmax): (u64, u64),
+    (v0, v1, v2): (Vec3, Vec3, Vec3),
+) -> Option<Told> {
+    let ray = Ray::new(origin, dir, tmin, tmax)?;
+    let tri = Tri::new(v0, v1, v2)?;
+    let hit = hit_tri(&ray, &tri)?;
+    let weights = (hit.u.lowest(), hit.v.lowest());
+    Some((hit.t.lowest(), weights.0, weights.1, hit.den_negative))
+}
+
+#[test]
+fn hits_triangles(rt: HostRuntime) {
+    let down = at(0, 0, -1);
+    let up = at(0, 0, 1);
+    let corner = (at(0, 0, 0), at(4, 0, 0), at(0, 4, 0));
+    let inside = (at(1, 1, 5), down);
+    let quarters = Some(((5, 1), (1, 4), (1, 4), true));
+    // A square in two triangles, and the middle of their shared edge, from above and from below.
+    let lower = (at(0, 0, 0), at(4, 0, 0), at(4, 4, 0));
+    let upper = (at(0, 0, 0), at(4, 4, 0), at(0, 4, 0));
+    let above = (at(2, 2, 5), down);
+    let below = (at(2, 2, -5), up);
+    // The greatest coordinates, and the same with the third vertex raised by 1.
+    let (left, right) = (at(-524288, -524288, 0), at(524288, -524288, 0));
+    let flat = (left, right, at(0, 524288, 0));
+    let raised = (left, right, at(0, 524288, 1));
+    let long = (at(0, 0, 524288), at(0, 0, -1048576));
+    let all = (0, FAR);
+    let no_weights = Some(((5, 1), (0, 1), (0, 1), true));
+    let from_above = Some(((5, 1), (0, 1), (1, 2), true));
+    let from_below = Some(((5, 1), (0, 1), (1, 2), false));
+    let half = Some(((1, 2), (1, 4), (1, 2), true));
+    let nearly_half = Some(((1048575, 2097152), (1, 4), (1, 2), true));
+    let on_vertex = (at(0, 0, 5), down);
+    let along_plane = (at(-1, 1, 0), at(1, 0, 0));
+    let cases = [
+        ("inside", inside, all, corner, quarters),
+        ("first vertex", on_vertex, all, corner, no_weights),
+        ("edge from above, lower", above, all, lower, from_above),
+        ("edge from above, upper", above, all, upper, None),
+        ("edge from below, lower", below, all, lower, from_below),
+        ("edge from below, upper", below, all, upper, None),
+        ("greatest numbers", long, all, flat, half),
+        ("long fraction", long, all, raised, nearly_half),
+        ("beside", (at(3, 3, 5), down), all, corner, None),
+        ("behind", (at(1, 1, 5), up), all, corner, None),
+        ("in the plane", along_plane, all, corner, None),
+        ("at both ends", inside, (327680, 327680), corner, quarters),
+        ("tmin above", inside, (327681, FAR), corner, None),
+        ("tmax below", inside, (0, 327679), corner, None),
+    ];
+    for (name, ray, interval, tri, want) in cases {
+        assert_eq!(rt; told(ray, interval, tri), want, "{name}");
+    }
+}
+
+#[test]
+fn makes_fractions(rt: HostRuntime) {
+    let limit = 6917529027641081856;
+    let cases = [
+        ("zero", 0, 5, Some((0, 1))),
+        ("reduced", 6, 4, Some((3, 2))),
+        ("lowest already", 5, 7, Some((5, 7))),
+        ("no denominator", 1, 0, None),
+        ("nothing over nothing", 0, 0, None),
+        ("both at the limit", limit, limit, Some((1, 1))),
+        ("numerator at the limit", limit, 1, Some((limit, 1))),
+        ("numerator beyond the limit", limit + 1, 1, None),
+        ("denominator at the limit", 1, limit, Some((1, limit))),
+        ("denominator beyond the limit", 1, limit + 1, None),
+    ];
+    for (name, num, den, want) in cases {
+        assert_eq!(rt; Frac::new(num, den).map(|f| f.lowest()), want, "{name}");
+    }
+}
+
+#[test]
+fn orders_fractions(rt: HostRuntime) {
+    let limit = 6917529027641081856;
+    let cases = [
+        ("a half and a third", (1, 2), (1, 3), Ordering::Greater),
+        ("a half and two quarters", (1, 2), (2, 4), Ordering::Equal),
+        ("less, with more above", (2, 9), (1, 3), Ordering::Less),
+        ("zero and the least", (0, 3), (1, limit), Ordering::Less),
+        (
+            "both next to one",
+            (limit, limit - 1),
+            (limit - 1, limit),
+            Ordering::Greater,
+        ),
+    ];
+    for (name, (a, b), (c, d), want) in cases {
+        let left = Frac::new(a, b).expect(&rt, name);
+        let right = Frac::new(c, d).expect(&rt, name);
+        assert_eq!(rt; left.cmp(&right), want, "{name}");
+        assert_eq!(rt; left.partial_cmp(&right), Some(want), "{name}");
+    }
+}
+
+#[test]
+fn limits_rays(rt: HostRuntime) {
+    let zero = at(0, 0, 0);
+    let one = at(1, 0, 0);
+    let far = at(524288, -524288, 524288);
+    let fast = at(-1048576, 1048576, -1048576);
+    let cases = [
+        ("plain", zero, one, 0, FAR, true),
+        ("origin at its limits", far, one, 0, 0, true),
+        ("origin x beyond", at(524289, 0, 0), one, 0, 0, false),
+        ("origin y beyond", at(0, -524289, 0), one, 0, 0, false),
+        ("origin z beyond", at(0, 0, 524289), one, 0, 0, false),
+        ("direction at its limits", zero, fast, 0, 0, true),
+        ("direction x beyond", zero, at(1048577, 0, 0), 0, 0, false),
+        ("direction y beyond", zero, at(0, -1048577, 0), 0, 0, false),
+        ("direction z beyond", zero, at(0, 0, 1048577), 0, 0, false),
+        ("no direction", zero, zero, 0, 0, false),
+        ("direction along z alone", zero, at(0, 0, -1), 0, 0, true),
+        ("tmin at tmax", zero, one, FAR, FAR, true),
+        ("tmin above tmax", zero, one, 1, 0, false),
+        ("tmax beyond", zero, one, 0, FAR + 1, false),
+        ("the least number", at(i64::MIN, 0, 0), one, 0, 0, false),
+    ];
+    for (name, origin, dir, tmin, tmax, want) in cases {
+        assert_eq!(rt; Ray::new(origin, dir, tmin, tmax).is_some(), want, "{name}");
+    }
+}
+
+#[test]
+fn limits_triangles(rt: HostRuntime) {
+    let zero = at(0, 0, 0);
+    let far = at(524288, -524288, 524288);
+    let away = at(-524288, 524288, -524288);
+    let cases = [
+        ("at the limits", far, away, far, true),
+        ("v0 beyond", at(524289, 0, 0), zero, zero, false),
+        ("v1 beyond", zero, at(0, -524289, 0), zero, false),
+        ("v2 beyond", zero, zero, at(0, 0, 524289), false),
+        ("a single point", zero, zero, zero, true),
+    ];
+    for (name, v0, v1, v2, want) in cases {
+        assert_eq!(rt; Tri::new(v0, v1, v2).is_some(), want, "{name}");
+    }
+}
+
+#[test]
+fn counts_without_bytes(rt: HostRuntime) {
+    let mut steps: Steps<Brand> = Steps::zero();
+    steps.tick();
+    assert_eq!(rt; mem::size_of::<Steps<Brand>>(), 0);
+}

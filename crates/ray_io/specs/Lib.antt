@@ -1,0 +1,9 @@
+pub mod Faults
+pub mod Source
+pub mod Sink
+pub mod MemSource
+pub mod MemSink
+pub mod ReadAll
+pub mod WriteAll
+pub mod StdSource
+pub mod StdSink

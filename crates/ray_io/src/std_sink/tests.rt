@@ -1,0 +1,45 @@
+use super::*;
+use crate::read_error::ReadError;
+use crate::reading::read_all;
+use crate::std_source::StdSource;
+use crate::write_fault::WriteFault;
+use crate::writing::write_all;
+use std::fs;
+use std::test::Fail;
+
+const PATH: &str = "ray_io_std_edge.bin";
+
+#[test]
+fn a_file_takes_and_gives_bytes(rt: HostRuntime) -> Result<(), Fail> {
+    let mut written = StdSink::new(fs::create(&rt, PATH)?);
+    write_all(&mut written, b"first ")?;
+    write_all(&mut written, b"second")?;
+
+    let mut read = StdSource::new(fs::open(&rt, PATH)?);
+    let all = read_all(rt.alloc(), &mut read, 12)?;
+    assert_eq!(rt; all.as_slice(), b"first second".as_slice());
+
+    // A file that is open for the other thing only.
+    let mut unreadable = StdSource::new(fs::create(&rt, PATH)?);
+    let fault = read_all(rt.alloc(), &mut unreadable, 12).err();
+    assert_eq!(rt; fault, Some(ReadError::ReadFault));
+    let mut unwritable = StdSink::new(fs::open(&rt, PATH)?);
+    assert_eq!(rt;
+        write_all(&mut unwritable, b"third").err(),
+        Some(WriteFault)
+    );
+    fs::remove_file(&rt, PATH)?;
+    Ok(())
+}
+
+#[test]
+fn a_slice_longer_than_the_window_comes_whole(rt: HostRuntime) -> Result<(), Fail> {
+    let long = vec![in rt.alloc(); 7; 20000]?;
+    let mut source = StdSource::new(long.as_slice());
+    let all = read_all(rt.alloc(), &mut source, 20000)?;
+    assert_eq!(rt; all.as_slice(), long.as_slice());
+    let mut source = StdSource::new(long.as_slice());
+    let error = read_all(rt.alloc(), &mut source, 19999).err();
+    assert_eq!(rt; error, Some(ReadError::TooLong));
+    Ok(())
+}
