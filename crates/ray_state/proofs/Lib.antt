@@ -1,0 +1,4 @@
+pub mod Bytes
+pub mod Changes
+pub mod Decisions
+pub mod Commands

@@ -1,0 +1,198 @@
+-- What each command does: it reads some locations, computes an output from them, and writes some locations. (Own; after
+-- the chapters on acceleration structures, ray queries and copies of the Vulkan specification.)
+use Rattle.std.specs.Prelude.{◌≡◌, ◌<◌, length, slice_index, slice_index_or, ℕ, ◌+◌, ◌-◌, ◌&&◌, ◌==◌, nat_lt, nat_le, Bool, true, false, List, [], slice_get, Option, Some, None, option_map, unwrap_or, if◌then◌else◌}
+use Rattle.ray_cmd.specs.declared.command.Command.{Command}
+use Rattle.ray_cmd.specs.declared.command.Command.TheVariants as commands
+use Rattle.ray_state.specs.declared.spot.Spot.{Spot}
+use Rattle.ray_state.specs.declared.structure_kind.StructureKind.{StructureKind}
+use Rattle.ray_state.specs.declared.structure_kind.StructureKind.TheVariants.{Bottom, Top}
+use Rattle.ray_state.specs.declared.structure.Structure.{Structure}
+use Rattle.ray_state.specs.declared.contents.Contents.{Contents}
+use Rattle.ray_state.specs.declared.output.Output.{Output}
+use Rattle.ray_state.specs.declared.output.Output.TheVariants.{Nothing, Hit, Built}
+use Rattle.ray_state.specs.Records.{hit_bytes}
+use Rattle.ray_state.specs.Memory.{Location, ByteAt, BufferAt, StructureAt, Held, Memory}
+
+-- what is done at one moment: by a host command, or by a piece of a device command
+pub data Action : Type 0 where
+  MakeBuffer : (id size : ℕ) (content : List ℕ) → Action
+  MakeStructure : (id : ℕ) (kind : StructureKind) → Action
+  BuildBottom : (structure : ℕ) (vertices : Spot) → Action
+  BuildTop : (structure : ℕ) (instance : Spot) → Action
+  TraceRay : (top : ℕ) (ray hit : Spot) → Action
+  ShowHit : (hit : Spot) → Action
+  Rest : Action
+
+-- a spot in a buffer
+abbrev pub spot : ℕ → ℕ → Spot
+spot buffer offset = record { buffer = buffer; offset = offset }
+
+-- the one action of a command of the path form
+abbrev pub action_of : Command → Action
+action_of (commands.InputBuffer content) = MakeBuffer 0 128 content
+action_of commands.StructureBuffer = MakeBuffer 1 1024 []
+action_of commands.ScratchBuffer = MakeBuffer 2 512 []
+action_of (commands.StorageBuffer content) = MakeBuffer 3 144 content
+action_of commands.BottomStructure = MakeStructure 0 Bottom
+action_of commands.TopStructure = MakeStructure 1 Top
+action_of commands.Begin = Rest
+action_of commands.BuildBottom = BuildBottom 0 (spot 0 0)
+action_of commands.FullBarrier = Rest
+action_of commands.BuildTop = BuildTop 1 (spot 0 64)
+action_of commands.Trace = TraceRay 1 (spot 3 0) (spot 3 64)
+action_of commands.HostBarrier = Rest
+action_of commands.End = Rest
+action_of commands.Submit = Rest
+action_of commands.Wait = Rest
+action_of commands.ReadHits = ShowHit (spot 3 64)
+
+-- command number i, where there is one
+abbrev pub command_at : List Command → ℕ → Command
+command_at rec i = slice_index_or rec i commands.Begin
+
+-- the action of command number i
+abbrev pub action_at : List Command → ℕ → Action
+action_at rec i = action_of (command_at rec i)
+
+-- whether an action is the host's, and is done at once
+abbrev pub is_host : Action → Bool
+is_host (MakeBuffer id size content) = true
+is_host (MakeStructure id kind) = true
+is_host (BuildBottom structure vertices) = false
+is_host (BuildTop structure instance) = false
+is_host (TraceRay top ray hit) = false
+is_host (ShowHit hit) = true
+is_host Rest = false
+
+-- what the host does at a command, and rest where a device command is
+abbrev pub host_action_of : Command → Action
+host_action_of command = if is_host (action_of command) then action_of command else Rest
+
+-- what a piece of a command does: nothing where the host does it
+abbrev pub device_action_of : Command → Action
+device_action_of command = if is_host (action_of command) then Rest else action_of command
+
+-- the same of command number i
+abbrev pub host_action_at : List Command → ℕ → Action
+host_action_at rec i = host_action_of (command_at rec i)
+
+abbrev pub device_action_at : List Command → ℕ → Action
+device_action_at rec i = device_action_of (command_at rec i)
+
+-- the trace of the path form
+abbrev pub trace_action : Action
+trace_action = TraceRay 1 (spot 3 0) (spot 3 64)
+
+-- how many pieces a command has: none where the host does it, else one
+abbrev pub piece_count : Command → ℕ
+piece_count (commands.InputBuffer content) = 0
+piece_count commands.StructureBuffer = 0
+piece_count commands.ScratchBuffer = 0
+piece_count (commands.StorageBuffer content) = 0
+piece_count commands.BottomStructure = 0
+piece_count commands.TopStructure = 0
+piece_count commands.Begin = 0
+piece_count commands.BuildBottom = 1
+piece_count commands.FullBarrier = 1
+piece_count commands.BuildTop = 1
+piece_count commands.Trace = 1
+piece_count commands.HostBarrier = 1
+piece_count commands.End = 0
+piece_count commands.Submit = 0
+piece_count commands.Wait = 0
+piece_count commands.ReadHits = 0
+
+-- how many pieces command number i has
+abbrev pub pieces_of : List Command → ℕ → ℕ
+pieces_of rec i = piece_count (command_at rec i)
+
+-- whether a location is a byte among n from a spot on
+abbrev pub is_among : Spot → ℕ → Location → Bool
+is_among spot n (ByteAt buffer at) = (buffer == spot.buffer) && (nat_le spot.offset at && nat_lt at (spot.offset + n))
+is_among spot n (BufferAt id) = false
+is_among spot n (StructureAt id) = false
+
+-- whether a location is the structure of an id
+abbrev pub is_structure : ℕ → Location → Bool
+is_structure id (ByteAt buffer at) = false
+is_structure id (BufferAt buffer) = false
+is_structure id (StructureAt structure) = structure == id
+
+-- whether a location belongs to the buffer of an id
+abbrev pub is_of_buffer : ℕ → Location → Bool
+is_of_buffer id (ByteAt buffer at) = buffer == id
+is_of_buffer id (BufferAt buffer) = buffer == id
+is_of_buffer id (StructureAt structure) = false
+
+-- whether an action writes a location
+abbrev pub writes : Action → Location → Bool
+writes (MakeBuffer id size content) l = is_of_buffer id l
+writes (MakeStructure id kind) l = is_structure id l
+writes (BuildBottom structure vertices) l = is_structure structure l
+writes (BuildTop structure instance) l = is_structure structure l
+writes (TraceRay top ray hit) l = is_among hit 80 l
+writes (ShowHit hit) l = false
+writes Rest l = false
+
+-- what a location of a new buffer holds: the content, and then zeros
+abbrev pub fresh : ℕ → List ℕ → (l : Location) → Held l → Held l
+fresh size content (ByteAt buffer at) old = if nat_lt at size then Some (unwrap_or (slice_get content at) 0) else None
+fresh size content (BufferAt id) old = Some size
+fresh size content (StructureAt id) old = old
+
+-- these bytes are the content, cut or filled up with zeros to a size
+pub record IsFresh (size : ℕ) (content bytes : List ℕ) : Type 0 where
+  pub sized : length bytes ≡ size
+  pub each : (k : ℕ) → k < size → slice_get bytes k ≡ Some (unwrap_or (slice_get content k) 0)
+
+-- what a location holds once a structure is made there: it isn't built
+abbrev pub unbuilt : StructureKind → (l : Location) → Held l → Held l
+unbuilt kind (ByteAt buffer at) old = old
+unbuilt kind (BufferAt id) old = old
+unbuilt kind (StructureAt id) old = Some (record { kind = kind; contents = None })
+
+-- the byte at a place once the first n bytes of `from` are written over those from an offset on
+abbrev pub overwritten : ℕ → ℕ → List ℕ → List ℕ → ℕ → ℕ
+overwritten offset n from bytes at = if nat_le offset at && nat_lt at (offset + n) then slice_index from (at - offset) else slice_index bytes at
+
+-- what a location holds once bytes are written from a spot on: the byte for it, where it has one
+abbrev pub stored : Spot → List ℕ → (l : Location) → Held l → Held l
+stored spot bytes (ByteAt buffer at) old = option_map (λ byte. unwrap_or (slice_get bytes (at - spot.offset)) byte) old
+stored spot bytes (BufferAt id) old = old
+stored spot bytes (StructureAt id) old = old
+
+-- a structure with these contents
+abbrev pub with_contents : Contents → Structure → Structure
+with_contents contents structure = record structure { contents = Some contents }
+
+-- what a location holds once a structure there, if it is live, has these contents
+abbrev pub built : Contents → (l : Location) → Held l → Held l
+built contents (ByteAt buffer at) old = old
+built contents (BufferAt id) old = old
+built contents (StructureAt id) old = option_map (with_contents contents) old
+
+-- what a structure holds once the output of its build is stored
+abbrev pub rebuilt : Output → (l : Location) → Held l → Held l
+rebuilt Nothing l old = old
+rebuilt (Hit found) l old = old
+rebuilt (Built contents) l old = built contents l old
+
+-- what a byte among those of a hit holds once the output of its trace is stored
+abbrev pub recorded : Spot → Output → (l : Location) → Held l → Held l
+recorded spot Nothing l old = old
+recorded spot (Hit found) l old = stored spot (hit_bytes found) l old
+recorded spot (Built contents) l old = old
+
+-- what a location that an action writes holds afterwards
+abbrev pub written : Action → Output → (l : Location) → Held l → Held l
+written (MakeBuffer id size content) output l old = fresh size content l old
+written (MakeStructure id kind) output l old = unbuilt kind l old
+written (BuildBottom structure vertices) output l old = rebuilt output l old
+written (BuildTop structure instance) output l old = rebuilt output l old
+written (TraceRay top ray hit) output l old = recorded hit output l old
+written (ShowHit hit) output l old = old
+written Rest output l old = old
+
+-- the memory once an action's output is stored: what it writes is changed, and all else is as before
+abbrev pub put : Action → Output → Memory → Memory
+put action output memory l = if writes action l then written action output l (memory l) else memory l

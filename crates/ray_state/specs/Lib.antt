@@ -1,0 +1,8 @@
+pub mod Records
+pub mod Memory
+pub mod Fetched
+pub mod Action
+pub mod Text
+pub mod DataPlace
+pub mod Meaning
+pub mod Run

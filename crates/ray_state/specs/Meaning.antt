@@ -1,0 +1,167 @@
+-- What the output of an action is: computed from the memory at one moment. (Vulkan: acceleration structure builds, ray
+-- traversal, ray queries; own: the records, the limits, exact numbers.)
+use Rattle.std.specs.Prelude.{◌≡◌, Result, Ok, Err, ℕ, pos, negsuc, ◌+◌, ◌*◌, ◌/◌, ◌%◌, ◌-◌, ◌^◌, ◌==◌, ◌&&◌, ◌||◌, nat_lt, Bool, true, false, not, List, Option, Some, None, option_and_then, option_map, unwrap_or, bit_and, if◌then◌else◌}
+use Rattle.std.specs.Ordering.{int_eq}
+use Rattle.std.specs.Bool.{beq}
+use Rattle.ray_geom.specs.Scene.{RayValue, TriValue}
+use Rattle.ray_geom.specs.Decided.{where_so, ray_decided, tri_decided}
+use Rattle.ray_geom.specs.HitValue.{HitValue, hit_of}
+use Rattle.ray_state.specs.declared.spot.Spot.{Spot}
+use Rattle.ray_state.specs.declared.data_rule.DataRule.{DataRule}
+use Rattle.ray_state.specs.declared.data_rule.DataRule.TheVariants.{X2, X11}
+use Rattle.ray_state.specs.declared.place.Place.{Place}
+use Rattle.ray_state.specs.declared.place.Place.TheVariants.{Part, Element}
+use Rattle.ray_state.specs.declared.data_fault.DataFault.{DataFault}
+use Rattle.ray_state.specs.declared.fetch_fault.FetchFault.{FetchFault}
+use Rattle.ray_state.specs.declared.fetch_fault.FetchFault.TheVariants.{Data, NoMemory}
+use Rattle.ray_state.specs.declared.instance.Instance.{Instance}
+use Rattle.ray_state.specs.declared.structure.Structure.{Structure}
+use Rattle.ray_state.specs.declared.contents.Contents.{Contents}
+use Rattle.ray_state.specs.declared.contents.Contents.TheVariants.{Bottom, Top}
+use Rattle.ray_state.specs.declared.hit_record.HitRecord.{HitRecord}
+use Rattle.ray_state.specs.declared.output.Output.{Output}
+use Rattle.ray_state.specs.declared.output.Output.TheVariants.{Nothing, Hit, Built}
+use Rattle.ray_state.specs.DataPlace.{place_of}
+use Rattle.ray_state.specs.Records.{word_at, signed_at, long_at, point_at, hit_of_bytes}
+use Rattle.ray_state.specs.Memory.{Memory, StructureAt, bytes_at}
+use Rattle.ray_state.specs.Action.{Action, MakeBuffer, MakeStructure, BuildBottom, BuildTop, TraceRay, ShowHit, Rest}
+
+-- a data rule that an action's inputs break, and where
+pub record Fault : Type 0 where
+  pub rule : DataRule
+  pub place : Place
+
+-- what an action gives: an output, or the first data rule that its inputs break
+pub data Outcome : Type 0 where
+  Gives : (output : Output) → Outcome
+  Breaks : (fault : Fault) → Outcome
+
+-- a build's result is an outcome: its contents are given, or its fault is the broken rule
+abbrev pub IsBuilt : Outcome → Result Contents DataFault → Type 0
+IsBuilt outcome (Ok contents) = outcome ≡ Gives (Built contents)
+IsBuilt outcome (Err fault) = outcome ≡ Breaks (record { rule = fault.rule; place = place_of fault })
+
+-- an outcome is the cause of a fetch's fault: want of memory has none
+abbrev pub Causes : FetchFault → Outcome → Type 0
+Causes (Data rule place) outcome = outcome ≡ Breaks (record { rule = rule; place = place })
+Causes NoMemory outcome = Unit {0}
+
+-- a fetch's result is an outcome: its output is given, or its fault has its cause
+abbrev pub IsFetched : Outcome → Result Output FetchFault → Type 0
+IsFetched outcome (Ok output) = outcome ≡ Gives output
+IsFetched outcome (Err fault) = Causes fault outcome
+
+-- a trace's result is an outcome
+abbrev pub IsTraced : Outcome → Result HitRecord FetchFault → Type 0
+IsTraced outcome (Ok hit) = outcome ≡ Gives (Hit hit)
+IsTraced outcome (Err fault) = Causes fault outcome
+
+-- the triangle whose three vertices stand in 36 bytes
+abbrev pub triangle_of : List ℕ → TriValue
+triangle_of bytes = record { v0 = point_at bytes 0; v1 = point_at bytes 12; v2 = point_at bytes 24 }
+
+-- the ray of 40 bytes: origin, direction, and the ends of the interval in 1/65536
+abbrev pub ray_of : List ℕ → RayValue
+ray_of bytes = record { origin = point_at bytes 0; dir = point_at bytes 12; tmin = long_at bytes 24; tmax = long_at bytes 32 }
+
+-- that ray, where it keeps the limits
+abbrev pub ray_within : List ℕ → Option RayValue
+ray_within bytes = where_so (ray_decided (ray_of bytes)) (ray_of bytes)
+
+-- the triangle of 36 bytes, where it keeps the limits
+abbrev pub triangle_within : List ℕ → Option TriValue
+triangle_within bytes = where_so (tri_decided (triangle_of bytes)) (triangle_of bytes)
+
+-- whether the first vertex's x marks a triangle as inactive: it is -2^31 (own)
+abbrev pub is_inactive : List ℕ → Bool
+is_inactive bytes = int_eq (signed_at bytes 0) (negsuc (2 ^ 31 - 1))
+
+-- what a build of a triangle within the limits gives, or of one beyond them
+abbrev pub bottom_with : Option TriValue → Outcome
+bottom_with (Some triangle) = Gives (Built (Bottom (Some triangle)))
+bottom_with None = Breaks (record { rule = X2; place = Element 0 0 0 })
+
+-- what a build of the one triangle of 36 bytes gives: an inactive one has no limits
+abbrev pub bottom_of : List ℕ → Outcome
+bottom_of bytes =
+    if is_inactive bytes then Gives (Built (Bottom None))
+    else bottom_with (triangle_within bytes)
+
+-- the id of the structure that a reference names, if it names one: the reference is 256 times one more than the id (own)
+abbrev pub structure_id_of : ℕ → Option ℕ
+structure_id_of reference =
+    if (reference % 256 == 0) && (nat_lt 0 reference && nat_lt (reference / 256) (2 ^ 32 + 1)) then Some (reference / 256 - 1) else None
+
+-- the instance of 64 bytes, active where its reference names a structure (Vulkan: VkAccelerationStructureInstanceKHR)
+abbrev pub instance_of : List ℕ → Option Instance
+instance_of bytes = option_map (λ id. record {
+    custom = word_at bytes 48 % 2 ^ 24; mask = word_at bytes 48 / 2 ^ 24;
+    sbt = word_at bytes 52 % 2 ^ 24; flags = word_at bytes 52 / 2 ^ 24; id = id }) (structure_id_of (long_at bytes 56))
+
+-- what the structure of an id holds, where it is live and built
+abbrev pub contents_at : Memory → ℕ → Option Contents
+contents_at memory id = option_and_then (λ structure. structure.contents) (memory (StructureAt id))
+
+-- the active instance of a top structure
+abbrev pub instance_in : Contents → Option Instance
+instance_in (Top instance) = instance
+instance_in (Bottom triangle) = None
+
+-- the active triangle of a bottom structure
+abbrev pub triangle_in : Contents → Option TriValue
+triangle_in (Top instance) = None
+triangle_in (Bottom triangle) = triangle
+
+-- admission of an opaque triangle, to a ray with cull mask 255 and no flags: its instance's mask isn't 0, and the instance
+-- doesn't force it to be not opaque, since what isn't opaque is offered to a script without rules and ignored
+abbrev pub admits : Instance → Bool
+admits instance = not (instance.mask == 0) && (bit_and instance.flags 8 == 0)
+
+-- the face: the front where the determinant in the direction is negative, turned by the instance's flag 2
+abbrev pub face_of : Instance → Bool → ℕ
+face_of instance den_negative = if not (beq den_negative (not (bit_and instance.flags 2 == 0))) then 1 else 2
+
+-- the record of a hit of the one triangle of the one instance
+abbrev pub record_of : Instance → HitValue → HitRecord
+record_of instance hit = record {
+    kind = 1; instance = 0; custom = instance.custom; sbt = instance.sbt; geometry = 0; primitive = 0;
+    face = face_of instance hit.den_negative; spare = 0; t = hit.t; u = hit.u; v = hit.v }
+
+-- the record of a miss
+abbrev pub miss : HitRecord
+miss = record {
+    kind = 0; instance = 0; custom = 0; sbt = 0; geometry = 0; primitive = 0;
+    face = 0; spare = 0; t = (0, 0); u = (0, 0); v = (0, 0) }
+
+-- what the ray hits of a triangle of an instance
+abbrev pub hit_of_triangle : RayValue → Instance → TriValue → Option HitRecord
+hit_of_triangle ray instance triangle = option_map (record_of instance) (hit_of ray triangle)
+
+-- what the ray hits of an instance
+abbrev pub hit_of_instance : Memory → RayValue → Instance → Option HitRecord
+hit_of_instance memory ray instance =
+    if admits instance then option_and_then (hit_of_triangle ray instance) (option_and_then triangle_in (contents_at memory instance.id))
+    else None
+
+-- what the ray hits of a top structure: each primitive is tested
+abbrev pub hit_through : Memory → ℕ → RayValue → HitRecord
+hit_through memory top ray = unwrap_or (option_and_then (hit_of_instance memory ray) (option_and_then instance_in (contents_at memory top))) miss
+
+-- what a trace of a ray within the limits gives, or of one beyond them
+abbrev pub trace_with : Memory → ℕ → Option RayValue → Outcome
+trace_with memory top (Some ray) = Gives (Hit (hit_through memory top ray))
+trace_with memory top None = Breaks (record { rule = X11; place = Part 0 })
+
+-- what a trace of the one ray of 40 bytes gives
+abbrev pub trace_of : Memory → ℕ → List ℕ → Outcome
+trace_of memory top bytes = trace_with memory top (ray_within bytes)
+
+-- what an action gives at a memory
+abbrev pub outcome_of : Action → Memory → Outcome
+outcome_of (MakeBuffer id size content) memory = Gives Nothing
+outcome_of (MakeStructure id kind) memory = Gives Nothing
+outcome_of (BuildBottom structure vertices) memory = bottom_of (bytes_at memory vertices 36)
+outcome_of (BuildTop structure instance) memory = Gives (Built (Top (instance_of (bytes_at memory instance 64))))
+outcome_of (TraceRay top ray hit) memory = trace_of memory top (bytes_at memory ray 40)
+outcome_of (ShowHit hit) memory = Gives (Hit (hit_of_bytes (bytes_at memory hit 80)))
+outcome_of Rest memory = Gives Nothing

@@ -1,0 +1,50 @@
+//! The device's memory, and what each command does to it.
+//!
+//! A state is the live buffers with their bytes and the live structures with what they hold. A
+//! device command is a list of pieces: `fetch` computes a piece's output from the state as it is,
+//! `store` writes it. `host` makes buffers and structures, `text` shows bytes. The crate stands on
+//! ray_cmd (the commands), ray_geom (the intersection) and `byteorder` (the records).
+#![tactic(auto)]
+
+mod bottom;
+mod contents;
+mod data_fault;
+mod data_rule;
+mod fetching;
+mod fetch_fault;
+mod hit_record;
+mod instance;
+mod output;
+mod path;
+mod piece;
+mod piece_out;
+mod place;
+mod records;
+mod refusal;
+mod rule;
+mod spot;
+mod state;
+mod storing;
+mod structure;
+mod structure_kind;
+mod text;
+mod top;
+mod trace;
+
+pub use contents::Contents;
+pub use data_fault::DataFault;
+pub use data_rule::DataRule;
+pub use fetching::{fetch, pieces};
+pub use fetch_fault::FetchFault;
+pub use hit_record::HitRecord;
+pub use instance::Instance;
+pub use output::Output;
+pub use piece::Piece;
+pub use piece_out::PieceOut;
+pub use place::Place;
+pub use refusal::Refusal;
+pub use rule::Rule;
+pub use state::State;
+pub use structure::Structure;
+pub use structure_kind::StructureKind;
+pub use storing::store;

@@ -1,0 +1,5 @@
+pub mod Stepping
+pub mod Words
+pub mod Lines
+pub mod Reply
+pub mod Stops

@@ -1,0 +1,7 @@
+-- The words after the program's name. (Own.)
+use Rattle.std.specs.Prelude.{◌≡◌, List, [], ◌∷◌, map, codes, String, string_bytes}
+use Rattle.std.specs.declared.alloc.Global.{Global}
+
+-- the words are `run` alone
+abbrev pub IsRun : List (String Global) → Type 0
+IsRun words = map string_bytes words ≡ codes "run" ∷ []

@@ -1,0 +1,105 @@
+ghost use Rattle.std.specs.Prelude.{◌↔◌, IfOk, IsTrue};
+ghost use Rattle.vkray.specs.Words.{IsRun};
+ghost use Rattle.vkray.specs.Reply.{reading, writing, Answers, IsReply, IsSent};
+ghost use Rattle.vkray.specs.Stops.{IsCalled};
+
+use std::alloc::{AllocError, Global};
+use std::thread::Threads;
+
+use ray_io::{Sink, Source, read_all, write_all};
+
+use crate::executing::execute;
+use crate::gate::Gate;
+use crate::reply::Reply;
+use crate::status::Status;
+use crate::stop::Stop;
+
+/// The greatest number of bytes that an input may have, 2^26.
+pub const MOST_BYTES: u32 = 1 << 26;
+
+/// The program. `words` are those after the program's name: `run` reads a recording from the
+/// source, runs it and writes its text to the sink; all others are bad. Whatever ends the run
+/// before its text, one line says why. The whole text is made before the first write.
+pub fn vkray<R: Threads + Sync, S: Source, K: Sink, G: Gate + Sync>(
+    rt: &R,
+    alloc: Global,
+    words: &[String],
+    source: &mut S,
+    sink: &mut K,
+    gate: &G,
+) -> Status
+    ensures answer { Answers words.now
+        (reading (S.left source.old) (S.left source.new) (S.faults source.old) (S.faults source.new))
+        (writing (K.taken sink.old) (K.taken sink.new) (K.faults sink.old) (K.faults sink.new)
+            (K.zero_writes sink.old) (K.zero_writes sink.new))
+        result }
+{
+    match reply(rt, alloc, words, source, gate) {
+        Ok(reply) => send(sink, &reply),
+        Err(_) => Status::NoMemory,
+    }
+}
+
+// Writes the text, and gives its status, or that it could not be written.
+fn send<K: Sink>(sink: &mut K, reply: &Reply) -> Status
+    ensures { IsSent reply.now.status reply.now.text.items
+        (writing (K.taken sink.old) (K.taken sink.new) (K.faults sink.old) (K.faults sink.new)
+            (K.zero_writes sink.old) (K.zero_writes sink.new))
+        result }
+{
+    match write_all(sink, reply.text.as_slice()) {
+        Ok(()) => reply.status,
+        Err(_) => Status::WriteFault,
+    }
+}
+
+// What is written, and the status once it is.
+fn reply<R: Threads + Sync, S: Source, G: Gate + Sync>(
+    rt: &R,
+    alloc: Global,
+    words: &[String],
+    source: &mut S,
+    gate: &G,
+) -> Result<Reply, AllocError>
+    ensures { IfOk result (λ reply. IsReply words.now
+        (reading (S.left source.old) (S.left source.new) (S.faults source.old) (S.faults source.new))
+        reply.status reply.text.items) }
+{
+    match text(rt, alloc, words, source, gate) {
+        Ok(text) => Ok(Reply {
+            status: Status::Done,
+            text,
+        }),
+        Err(stop) => Reply::of_stop(alloc, stop),
+    }
+}
+
+// The text of the run.
+fn text<R: Threads + Sync, S: Source, G: Gate + Sync>(
+    rt: &R,
+    alloc: Global,
+    words: &[String],
+    source: &mut S,
+    gate: &G,
+) -> Result<Vec<u8>, Stop>
+    ensures { IsCalled words.now
+        (reading (S.left source.old) (S.left source.new) (S.faults source.old) (S.faults source.new)) result }
+{
+    if !is_run(words) {
+        return Err(Stop::BadWords);
+    }
+    match read_all(alloc, source, MOST_BYTES) {
+        Ok(bytes) => execute(rt, alloc, bytes.as_slice(), gate),
+        Err(fault) => Err(Stop::from(fault)),
+    }
+}
+
+// Whether the words are `run` alone.
+fn is_run(words: &[String]) -> bool
+    ensures { IsTrue result ↔ IsRun words.now }
+{
+    match words {
+        [word] => word.as_str() == "run",
+        _ => false,
+    }
+}

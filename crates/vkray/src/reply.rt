@@ -1,0 +1,46 @@
+ghost use Rattle.std.specs.Prelude.{IfOk};
+ghost use Rattle.vkray.specs.Stops.{HasLine, IsStopReply};
+
+use std::alloc::{AllocError, Global};
+
+use crate::line::{refusal_line, unbuilt_line};
+use crate::status::Status;
+use crate::stop::Stop;
+
+/// What is written, and the status once it is.
+#[derive(Drop)]
+pub(crate) struct Reply {
+    pub(crate) status: Status,
+    pub(crate) text: Vec<u8>,
+}
+
+impl Reply {
+    // The line that says why there is no text of a run. Want of memory has none.
+    pub(crate) fn of_stop(alloc: Global, stop: Stop) -> Result<Reply, AllocError>
+        ensures { IfOk result (λ reply. IsStopReply stop reply.status reply.text.items) }
+    {
+        match stop {
+            Stop::BadWords => Reply::of_line(alloc, Status::BadWords, b"bad-words\n"),
+            Stop::ReadFault => Reply::of_line(alloc, Status::ReadFault, b"read-fault\n"),
+            Stop::TooLong => Reply::of_line(alloc, Status::TooLong, b"too-long\n"),
+            Stop::NotJson => Reply::of_line(alloc, Status::BadRecording, b"not-json\n"),
+            Stop::Unbuilt(command) => {
+                let line = unbuilt_line(alloc, command)?;
+                Reply::of_line(alloc, Status::Unbuilt, line.as_bytes())
+            }
+            Stop::Refused(refusal) => {
+                let line = refusal_line(alloc, &refusal)?;
+                Reply::of_line(alloc, Status::Refused, line.as_bytes())
+            }
+            Stop::NoMemory => Err(AllocError),
+        }
+    }
+
+    // A status with its line.
+    fn of_line(alloc: Global, status: Status, line: &[u8]) -> Result<Reply, AllocError>
+        ensures { IfOk result (λ reply. HasLine status line.now reply.status reply.text.items) }
+    {
+        let text = Vec::from_slice(alloc, line)?;
+        Ok(Reply { status, text })
+    }
+}

@@ -1,0 +1,39 @@
+/// How a call of the program ends. (Own.)
+#[derive(Clone, Copy, Debug, PartialEq, Eq)]
+pub enum Status {
+    /// The input was read to its end, no rule is broken, and the whole text is written.
+    Done,
+    /// A command of the recording breaks a rule.
+    Refused,
+    /// The input is no JSON.
+    BadRecording,
+    /// The words are none of the program's.
+    BadWords,
+    /// A read failed.
+    ReadFault,
+    /// A write failed, or took nothing.
+    WriteFault,
+    /// The input is longer than 2^26 bytes.
+    TooLong,
+    /// Memory ran out.
+    NoMemory,
+    /// A command of the recording has a form that isn't built yet.
+    Unbuilt,
+}
+
+impl Status {
+    /// The number with which the program ends, from 0 to 8.
+    pub fn code(self) -> u8 {
+        match self {
+            Status::Done => 0,
+            Status::Refused => 1,
+            Status::BadRecording => 2,
+            Status::BadWords => 3,
+            Status::ReadFault => 4,
+            Status::WriteFault => 5,
+            Status::TooLong => 6,
+            Status::NoMemory => 7,
+            Status::Unbuilt => 8,
+        }
+    }
+}

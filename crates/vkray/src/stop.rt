@@ -1,0 +1,68 @@
+use ray_cmd::RecordingFault;
+use ray_io::ReadError;
+use ray_state::Refusal;
+
+use crate::run_fault::RunFault;
+
+/// Why there is no text of a run.
+#[derive(Clone, Copy, Debug, PartialEq, Eq)]
+pub(crate) enum Stop {
+    /// The words are none of the program's.
+    BadWords,
+    /// A read failed.
+    ReadFault,
+    /// The input is longer than 2^26 bytes.
+    TooLong,
+    /// The input is no JSON.
+    NotJson,
+    /// The command of this number has a form that isn't built yet.
+    Unbuilt(u32),
+    /// A command breaks a rule.
+    Refused(Refusal),
+    /// Memory ran out.
+    NoMemory,
+}
+
+impl From<ReadError> for Stop {
+    ghost use Rattle.std.specs.Prelude.{◌≡◌};
+    ghost use Rattle.vkray.specs.Stops.{stop_of_read};
+
+    ghost from_gives = { λ error stop. stop ≡ stop_of_read error };
+
+    fn from(error: ReadError) -> Stop {
+        match error {
+            ReadError::ReadFault => Stop::ReadFault,
+            ReadError::TooLong => Stop::TooLong,
+            ReadError::NoMemory => Stop::NoMemory,
+        }
+    }
+}
+
+impl From<RecordingFault> for Stop {
+    ghost use Rattle.std.specs.Prelude.{◌≡◌};
+    ghost use Rattle.vkray.specs.Stops.{stop_of_recording};
+
+    ghost from_gives = { λ fault stop. stop ≡ stop_of_recording fault };
+
+    fn from(fault: RecordingFault) -> Stop {
+        match fault {
+            RecordingFault::NotJson => Stop::NotJson,
+            RecordingFault::Unbuilt(command) => Stop::Unbuilt(command),
+            RecordingFault::NoMemory => Stop::NoMemory,
+        }
+    }
+}
+
+impl From<RunFault> for Stop {
+    ghost use Rattle.std.specs.Prelude.{◌≡◌};
+    ghost use Rattle.vkray.specs.Stops.{stop_of_run};
+
+    ghost from_gives = { λ fault stop. stop ≡ stop_of_run fault };
+
+    fn from(fault: RunFault) -> Stop {
+        match fault {
+            RunFault::Refused(refusal) => Stop::Refused(refusal),
+            RunFault::NoMemory => Stop::NoMemory,
+        }
+    }
+}
