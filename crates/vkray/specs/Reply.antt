@@ -76,6 +76,10 @@ pub record IsRead (reading : Reading) (input : List ℕ) : Type 0 where
 abbrev pub IsTooLong : Reading → Type 0
 IsTooLong reading = IfSome reading.before (λ bytes. (most_bytes < length bytes) × (reading.after ≡ Some (drop (most_bytes + 1) bytes)))
 
+-- so many bytes were taken of a source that tells them
+abbrev pub TakesTooMany : Reading → Type 0
+TakesTooMany reading = (bytes : List ℕ) × (reading.before ≡ Some bytes) × (most_bytes < length bytes) × (reading.after ≡ Some (drop (most_bytes + 1) bytes))
+
 -- the text was written, all of it and nothing else
 abbrev pub IsWritten : Writing → List ℕ → Type 0
 IsWritten writing text = IfSome writing.before (λ bytes. writing.after ≡ Some (bytes ++ text))
@@ -97,7 +101,7 @@ pub record IsOfInput (P : List ℕ → List ℕ → Type 0) (reading : Reading) 
 -- why a status comes, and with which text: words, reading, recording and rules, in this order
 abbrev pub IsReply : List (String Global) → Reading → Status → List ℕ → Type 0
 IsReply words reading statuses.BadWords text = (¬ IsRun words) × (reading.after ≡ reading.before) × (text ≡ codes "bad-words\n")
-IsReply words reading statuses.ReadFault text = IsRun words × HasRisen reading.faults_before reading.faults_after × (text ≡ codes "read-fault\n")
+IsReply words reading statuses.ReadFault text = IsRun words × HasRisen reading.faults_before reading.faults_after × (¬ TakesTooMany reading) × (text ≡ codes "read-fault\n")
 IsReply words reading statuses.TooLong text = IsRun words × IsTooLong reading × (text ≡ codes "too-long\n")
 IsReply words reading statuses.BadRecording text = IsRun words × IsOfInput IsNotJson reading text
 IsReply words reading statuses.Unbuilt text = IsRun words × IsOfInput IsUnbuiltAt reading text

@@ -1,4 +1,4 @@
-ghost use Rattle.std.specs.Prelude.{◌↔◌, IfOk, IsTrue};
+ghost use Rattle.std.specs.Prelude.{◌≡◌, ◌↔◌, IfOk, IsTrue};
 ghost use Rattle.vkray.specs.Words.{IsRun};
 ghost use Rattle.vkray.specs.Reply.{reading, writing, Answers, IsReply, IsSent};
 ghost use Rattle.vkray.specs.Stops.{IsCalled};
@@ -33,6 +33,10 @@ pub fn vkray<R: Threads + Sync, S: Source, K: Sink, G: Gate + Sync>(
         (writing (K.taken sink.old) (K.taken sink.new) (K.faults sink.old) (K.faults sink.new)
             (K.zero_writes sink.old) (K.zero_writes sink.new))
         result }
+
+    // Bad words read nothing, and for want of memory nothing is written.
+    ensures unread { ¬ IsRun words.now → source.new ≡ source.old }
+    ensures unwritten { result ≡ Status.NoMemory → sink.new ≡ sink.old }
 {
     match reply(rt, alloc, words, source, gate) {
         Ok(reply) => send(sink, &reply),
@@ -61,9 +65,10 @@ fn reply<R: Threads + Sync, S: Source, G: Gate + Sync>(
     source: &mut S,
     gate: &G,
 ) -> Result<Reply, AllocError>
-    ensures { IfOk result (λ reply. IsReply words.now
+    ensures replies { IfOk result (λ reply. IsReply words.now
         (reading (S.left source.old) (S.left source.new) (S.faults source.old) (S.faults source.new))
         reply.status reply.text.items) }
+    ensures unread { ¬ IsRun words.now → source.new ≡ source.old }
 {
     match text(rt, alloc, words, source, gate) {
         Ok(text) => Ok(Reply {
@@ -82,8 +87,9 @@ fn text<R: Threads + Sync, S: Source, G: Gate + Sync>(
     source: &mut S,
     gate: &G,
 ) -> Result<Vec<u8>, Stop>
-    ensures { IsCalled words.now
+    ensures called { IsCalled words.now
         (reading (S.left source.old) (S.left source.new) (S.faults source.old) (S.faults source.new)) result }
+    ensures unread { ¬ IsRun words.now → source.new ≡ source.old }
 {
     if !is_run(words) {
         return Err(Stop::BadWords);
