@@ -2,9 +2,10 @@
 //! ends with its status. Nothing goes to standard error.
 #![tactic(auto)]
 
-use std::alloc::{AllocError, Global};
+use std::alloc::AllocError;
 use std::io::ErrorKind;
 use std::process::ExitCode;
+use std::rt::Env;
 use std::{env, io};
 
 use ray_io::{StdSink, StdSource};
