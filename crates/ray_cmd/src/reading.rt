@@ -33,6 +33,10 @@ const COMMANDS: usize = 17;
 /// command is compared, and it can take many times the memory of the bytes.
 pub fn read_recording(alloc: Global, bytes: &[u8]) -> Result<Recording, RecordingFault>
     ensures ok { IfOk result (λ recording. IsPathRecording bytes.now recording) }
+
+    // One text is read as one recording.
+    ensures only { IfOk result (λ recording.
+        (cs : List Command) → IsPathRecording bytes.now cs → cs ≡ recording) }
     ensures not_json { result ≡ Err RecordingFault.NotJson → json_of bytes.now ≡ None }
     ensures unbuilt { (i : ℕ) → result ≡ Err (RecordingFault.Unbuilt i)
         → IsUnbuilt bytes.now i }

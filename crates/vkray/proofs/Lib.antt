@@ -1,3 +1,4 @@
 pub mod Runs
 pub mod Texts
 pub mod Replies
+pub mod Completeness

@@ -141,3 +141,19 @@ Answers words reading writing statuses.Unbuilt = IsAnswered words reading writin
 abbrev pub IsSent : Status → List ℕ → Writing → Status → Type 0
 IsSent status text writing result =
     ((result ≡ status) × IsWritten writing text) ⊎ ((result ≡ statuses.WriteFault) × IsCut writing text × HasFailed writing)
+
+-- a call that is to be answered: the word is `run`, the source gives all of an input within the limit without a fault, the
+-- sink takes what is written, and the input is a path recording that breaks no rule
+pub record IsGoodCall (words : List (String Global)) (reading : Reading) (writing : Writing) (input : List ℕ) (commands : List Command) : Type 0 where
+  pub run : IsRun words
+  pub told : reading.before ≡ Some input
+  pub limited : length input ≤ most_bytes
+  pub source_holds : ¬ HasRisen reading.faults_before reading.faults_after
+  pub sink_holds : ¬ HasFailed writing
+  pub reads : IsPathRecording input commands
+  pub clean : IsClean commands (length commands)
+
+-- the run's whole text is written, or memory ran out
+abbrev pub IsCompleted : Writing → List Command → Status → Type 0
+IsCompleted writing commands result =
+    (result ≡ statuses.NoMemory) ⊎ ((result ≡ statuses.Done) × IsWritten writing (text_before commands (length commands)))

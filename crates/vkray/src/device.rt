@@ -1,6 +1,7 @@
-ghost use Rattle.std.specs.Prelude.{◌≡◌, ◌↔◌, IfOk, IsTrue};
+ghost use Rattle.std.specs.Prelude.{◌≡◌, ◌↔◌, ℕ, List, IfOk, IsTrue};
+ghost use Rattle.ray_cmd.specs.declared.command.Command.{Command};
 ghost use Rattle.vkray.specs.Words.{IsRun};
-ghost use Rattle.vkray.specs.Reply.{reading, writing, Answers, IsReply, IsSent};
+ghost use Rattle.vkray.specs.Reply.{reading, writing, Answers, IsReply, IsSent, IsGoodCall, IsCompleted};
 ghost use Rattle.vkray.specs.Stops.{IsCalled};
 
 use std::alloc::{AllocError, Global};
@@ -34,7 +35,38 @@ pub fn vkray<R: Threads + Sync, S: Source, K: Sink, G: Gate + Sync>(
             (K.zero_writes sink.old) (K.zero_writes sink.new))
         result }
 
+    // A good input is answered.
+    ensures complete { (input : List ℕ) (commands : List Command) → IsGoodCall words.now
+        (reading (S.left source.old) (S.left source.new) (S.faults source.old) (S.faults source.new))
+        (writing (K.taken sink.old) (K.taken sink.new) (K.faults sink.old) (K.faults sink.new)
+            (K.zero_writes sink.old) (K.zero_writes sink.new))
+        input commands
+        → IsCompleted
+        (writing (K.taken sink.old) (K.taken sink.new) (K.faults sink.old) (K.faults sink.new)
+            (K.zero_writes sink.old) (K.zero_writes sink.new))
+        commands result }
+
     // Bad words read nothing, and for want of memory nothing is written.
+    ensures unread { ¬ IsRun words.now → source.new ≡ source.old }
+    ensures unwritten { result ≡ Status.NoMemory → sink.new ≡ sink.old }
+{
+    answer(rt, alloc, words, source, sink, gate)
+}
+
+// Makes the reply, and then writes it.
+fn answer<R: Threads + Sync, S: Source, K: Sink, G: Gate + Sync>(
+    rt: &R,
+    alloc: Global,
+    words: &[String],
+    source: &mut S,
+    sink: &mut K,
+    gate: &G,
+) -> Status
+    ensures answer { Answers words.now
+        (reading (S.left source.old) (S.left source.new) (S.faults source.old) (S.faults source.new))
+        (writing (K.taken sink.old) (K.taken sink.new) (K.faults sink.old) (K.faults sink.new)
+            (K.zero_writes sink.old) (K.zero_writes sink.new))
+        result }
     ensures unread { ¬ IsRun words.now → source.new ≡ source.old }
     ensures unwritten { result ≡ Status.NoMemory → sink.new ≡ sink.old }
 {

@@ -1,5 +1,5 @@
-use Rattle.vkray.proofs.Replies.{answers_of_sent}
+use Rattle.vkray.proofs.Completeness.{completed}
 use Rattle.vkray.proofs.device.vkray.Goals as goal
 
-pub returns-in-Ok-clause-answer : goal.returns-in-Ok-clause-answer
-returns-in-Ok-clause-answer g c = answers_of_sent c.args.words.now _ _ c.in-Ok.reply.status c.in-Ok.reply.text.items c.send.result c.in-Ok.ensures.replies c.send.ensures
+pub returns-clause-complete : goal.returns-clause-complete
+returns-clause-complete g c input commands good = completed _ _ _ input commands good c.answer.result c.answer.ensures.answer
