@@ -58,14 +58,16 @@ pub record Writing : Type 0 where
   pub zero_writes_before : ℕ
   pub zero_writes_after : ℕ
 
-abbrev pub reading : Option (List ℕ) → Option (List ℕ) → ℕ → ℕ → Reading
-reading before after faults_before faults_after = record {
-  before = before; after = after; faults_before = faults_before; faults_after = faults_after }
+-- the same of a source that tells so, before and after
+abbrev pub reading : {X : Type 0} → (X → Option (List ℕ)) → (X → ℕ) → X → X → Reading
+reading left faults old new = record {
+  before = left old; after = left new; faults_before = faults old; faults_after = faults new }
 
-abbrev pub writing : Option (List ℕ) → Option (List ℕ) → ℕ → ℕ → ℕ → ℕ → Writing
-writing before after faults_before faults_after zero_writes_before zero_writes_after = record {
-  before = before; after = after; faults_before = faults_before; faults_after = faults_after;
-  zero_writes_before = zero_writes_before; zero_writes_after = zero_writes_after }
+-- the same of a sink
+abbrev pub writing : {X : Type 0} → (X → Option (List ℕ)) → (X → ℕ) → (X → ℕ) → X → X → Writing
+writing taken faults zero_writes old new = record {
+  before = taken old; after = taken new; faults_before = faults old; faults_after = faults new;
+  zero_writes_before = zero_writes old; zero_writes_after = zero_writes new }
 
 -- the input was read to its end: it has at most 2^26 bytes, and where the source tells its bytes they are the input, and none is left
 pub record IsRead (reading : Reading) (input : List ℕ) : Type 0 where

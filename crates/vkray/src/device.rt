@@ -30,21 +30,16 @@ pub fn vkray<R: Threads + Sync, S: Source, K: Sink, G: Gate + Sync>(
     gate: &G,
 ) -> Status
     ensures answer { Answers words.now
-        (reading (S.left source.old) (S.left source.new) (S.faults source.old) (S.faults source.new))
-        (writing (K.taken sink.old) (K.taken sink.new) (K.faults sink.old) (K.faults sink.new)
-            (K.zero_writes sink.old) (K.zero_writes sink.new))
+        (reading S.left S.faults source.old source.new)
+        (writing K.taken K.faults K.zero_writes sink.old sink.new)
         result }
 
     // A good input is answered.
     ensures complete { (input : List ℕ) (commands : List Command) → IsGoodCall words.now
-        (reading (S.left source.old) (S.left source.new) (S.faults source.old) (S.faults source.new))
-        (writing (K.taken sink.old) (K.taken sink.new) (K.faults sink.old) (K.faults sink.new)
-            (K.zero_writes sink.old) (K.zero_writes sink.new))
+        (reading S.left S.faults source.old source.new)
+        (writing K.taken K.faults K.zero_writes sink.old sink.new)
         input commands
-        → IsCompleted
-        (writing (K.taken sink.old) (K.taken sink.new) (K.faults sink.old) (K.faults sink.new)
-            (K.zero_writes sink.old) (K.zero_writes sink.new))
-        commands result }
+        → IsCompleted (writing K.taken K.faults K.zero_writes sink.old sink.new) commands result }
 
     // Bad words read nothing, and for want of memory nothing is written.
     ensures unread { ¬ IsRun words.now → source.new ≡ source.old }
@@ -63,9 +58,8 @@ fn answer<R: Threads + Sync, S: Source, K: Sink, G: Gate + Sync>(
     gate: &G,
 ) -> Status
     ensures answer { Answers words.now
-        (reading (S.left source.old) (S.left source.new) (S.faults source.old) (S.faults source.new))
-        (writing (K.taken sink.old) (K.taken sink.new) (K.faults sink.old) (K.faults sink.new)
-            (K.zero_writes sink.old) (K.zero_writes sink.new))
+        (reading S.left S.faults source.old source.new)
+        (writing K.taken K.faults K.zero_writes sink.old sink.new)
         result }
     ensures unread { ¬ IsRun words.now → source.new ≡ source.old }
     ensures unwritten { result ≡ Status.NoMemory → sink.new ≡ sink.old }
@@ -79,8 +73,7 @@ fn answer<R: Threads + Sync, S: Source, K: Sink, G: Gate + Sync>(
 // Writes the text, and gives its status, or that it could not be written.
 fn send<K: Sink>(sink: &mut K, reply: &Reply) -> Status
     ensures { IsSent reply.now.status reply.now.text.items
-        (writing (K.taken sink.old) (K.taken sink.new) (K.faults sink.old) (K.faults sink.new)
-            (K.zero_writes sink.old) (K.zero_writes sink.new))
+        (writing K.taken K.faults K.zero_writes sink.old sink.new)
         result }
 {
     match write_all(sink, reply.text.as_slice()) {
@@ -98,7 +91,7 @@ fn reply<R: Threads + Sync, S: Source, G: Gate + Sync>(
     gate: &G,
 ) -> Result<Reply, AllocError>
     ensures replies { IfOk result (λ reply. IsReply words.now
-        (reading (S.left source.old) (S.left source.new) (S.faults source.old) (S.faults source.new))
+        (reading S.left S.faults source.old source.new)
         reply.status reply.text.items) }
     ensures unread { ¬ IsRun words.now → source.new ≡ source.old }
 {
@@ -120,7 +113,7 @@ fn text<R: Threads + Sync, S: Source, G: Gate + Sync>(
     gate: &G,
 ) -> Result<Vec<u8>, Stop>
     ensures called { IsCalled words.now
-        (reading (S.left source.old) (S.left source.new) (S.faults source.old) (S.faults source.new)) result }
+        (reading S.left S.faults source.old source.new) result }
     ensures unread { ¬ IsRun words.now → source.new ≡ source.old }
 {
     if !is_run(words) {

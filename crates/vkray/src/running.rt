@@ -25,7 +25,7 @@ pub fn run_waves<R: Threads + Sync, G: Gate + Sync>(
     state: &mut State,
     rec: &Recording,
     until: u32,
-    _workers: u32,
+    workers: u32,
     gate: &G,
 ) -> Result<Vec<u8>, RunFault>
     requires new { (l : Location) → memory_of state.old l ≡ nothing_live l }
