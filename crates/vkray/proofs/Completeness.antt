@@ -1,5 +1,5 @@
 -- A good call is answered: each other answer is contradicted.
-use Rattle.std.proofs.Common.{◌≡◌, [], ℕ, ◌+◌, ◌<◌, ◌≤◌, List, length, drop, Option, Some, None, Global, refl, sym, ap, subst, ◌∙◌, inl, inr, arith}
+use Rattle.std.proofs.Common.{◌≡◌, [], ℕ, ◌+◌, ◌<◌, List, length, drop, Option, Some, None, Global, refl, ap, subst, ◌∙◌, inl, inr, arith}
 use Rattle.std.specs.Prelude.{String, IfSome}
 use Rattle.ray_cmd.specs.declared.command.Command.{Command}
 use Rattle.ray_cmd.specs.Json.{json_of}
@@ -7,7 +7,6 @@ use Rattle.ray_cmd.specs.PathForm.{IsPathRecording, IsUnbuilt}
 use Rattle.ray_cmd.proofs.Exclusion.{path_not_unbuilt}
 use Rattle.ray_cmd.proofs.Unique.{path_unique}
 use Rattle.ray_state.specs.declared.refusal.Refusal.{Refusal}
-use Rattle.ray_state.specs.Meaning.{Outcome, Breaks}
 use Rattle.ray_state.specs.Run.{fault_of, outcome_at, text_before, IsClean, IsRefusal}
 use Rattle.vkray.specs.declared.status.Status.{Status}
 use Rattle.vkray.specs.declared.status.Status.TheVariants as statuses
@@ -25,7 +24,7 @@ module _ (words : List (String Global)) (reading : Reading) (writing : Writing) 
   same_input : (read : List ℕ) → IsRead reading read → read ≡ input
   same_input read is =
       let all : IfSome (Some input) (λ bytes. (read ≡ bytes) × (reading.after ≡ Some [])) =
-        subst (λ (o : Option (List ℕ)). IfSome o (λ bytes. (read ≡ bytes) × (reading.after ≡ Some []))) good.told is.all in
+      subst (λ (o : Option (List ℕ)). IfSome o (λ bytes. (read ≡ bytes) × (reading.after ≡ Some []))) good.told is.all in
       all.0
 
   -- a recording that is read of it is the same
@@ -53,7 +52,7 @@ module _ (words : List (String Global)) (reading : Reading) (writing : Writing) 
   not_too_long : IsTooLong reading → ⊥
   not_too_long h =
       let long : IfSome (Some input) (λ bytes. (most_bytes < length bytes) × (reading.after ≡ Some (drop (most_bytes + 1) bytes))) =
-        subst (λ (o : Option (List ℕ)). IfSome o (λ bytes. (most_bytes < length bytes) × (reading.after ≡ Some (drop (most_bytes + 1) bytes)))) good.told h in
+      subst (λ (o : Option (List ℕ)). IfSome o (λ bytes. (most_bytes < length bytes) × (reading.after ≡ Some (drop (most_bytes + 1) bytes)))) good.told h in
       let above = long.0 in
       let below = good.limited in
       omega arith

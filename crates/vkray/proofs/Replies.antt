@@ -1,5 +1,5 @@
 -- From why there is no text to what is written, and from what is written to how the program ends.
-use Rattle.std.proofs.Common.{◌≡◌, ℕ, List, Vec, Global, Result, Ok, Err, inl, inr, sym, subst}
+use Rattle.std.proofs.Common.{ℕ, List, Global, Result, Ok, Err, inl, inr, sym, subst}
 use Rattle.std.specs.Prelude.{String, IfOk}
 use Rattle.std.specs.declared.alloc.AllocError.{AllocError}
 use Rattle.vkray.specs.declared.reply.Reply.{Reply}
@@ -7,7 +7,7 @@ use Rattle.vkray.specs.declared.status.Status.{Status}
 use Rattle.vkray.specs.declared.status.Status.TheVariants as statuses
 use Rattle.vkray.specs.declared.stop.Stop.{Stop}
 use Rattle.vkray.specs.declared.stop.Stop.TheVariants.{BadWords, ReadFault, TooLong, NotJson, Unbuilt, Refused, NoMemory}
-use Rattle.vkray.specs.Reply.{Reading, Writing, IsReply, IsSent, IsAnswered, IsCutShort, IsWritten, Answers}
+use Rattle.vkray.specs.Reply.{Reading, Writing, IsReply, IsSent, IsWritten, Answers}
 use Rattle.vkray.specs.Stops.{StopsCall, IsStopReply}
 
 -- the reply to a stop
@@ -25,9 +25,20 @@ reply_of_stop words reading (Unbuilt command) status text h line =
     subst (λ (s : Status). IsReply words reading s text) (sym line.status_is)
     (h.0, record { input = h.1.input; read = h.1.read; is = record { command = command; differs = h.1.stops; line = line.text_is } })
 reply_of_stop words reading (Refused refusal) status text h line =
-    subst (λ (s : Status). IsReply words reading s text) (sym line.status_is)
-    (h.0, record { input = h.1.input; read = h.1.read; is = record {
-      commands = h.1.stops.commands; reads = h.1.stops.reads; refusal = refusal; broken = h.1.stops.broken; line = line.text_is } })
+    subst (λ (s : Status). IsReply words reading s text) (sym line.status_is) (
+      h.0,
+      record {
+        input = h.1.input;
+        read = h.1.read;
+        is = record {
+          commands = h.1.stops.commands;
+          reads = h.1.stops.reads;
+          refusal = refusal;
+          broken = h.1.stops.broken;
+          line = line.text_is;
+        };
+      },
+    )
 reply_of_stop words reading NoMemory status text h line = absurd line
 
 pub reply_of : (words : List (String Global)) (reading : Reading) (stop : Stop) (r : Result Reply AllocError) → StopsCall words reading stop → IfOk r (λ reply. IsStopReply stop reply.status reply.text.items) → IfOk r (λ reply. IsReply words reading reply.status reply.text.items)

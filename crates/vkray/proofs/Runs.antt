@@ -1,11 +1,11 @@
 -- The run so far, and one command more.
-use Rattle.std.proofs.Common.{◌≡◌, ℕ, ◌+◌, ◌<◌, List, [], ◌++◌, None, suc, refl, sym, ap, subst, ◌∙◌, inl, inr, arith, add-one}
+use Rattle.std.proofs.Common.{◌≡◌, ℕ, ◌+◌, ◌<◌, List, [], ◌++◌, None, sym, ap, subst, ◌∙◌, inl, inr, arith, add-one}
 use Rattle.std.proofs.lemmas.Bool.{cases_lt}
 use Rattle.ray_cmd.specs.declared.command.Command.{Command}
 use Rattle.ray_state.specs.declared.refusal.Refusal.{Refusal}
-use Rattle.ray_state.specs.Memory.{Location, Held, Memory, nothing_live}
+use Rattle.ray_state.specs.Memory.{Location, Memory, nothing_live}
 use Rattle.ray_state.specs.Action.{action_at}
-use Rattle.ray_state.specs.Meaning.{Outcome, Breaks, outcome_of}
+use Rattle.ray_state.specs.Meaning.{Breaks, outcome_of}
 use Rattle.ray_state.specs.Run.{after, shown, fault_of, memory_before, outcome_at, text_before, IsClean, IsRefusal}
 use Rattle.vkray.specs.Stepping.{IsStep, IsBroken}
 
@@ -23,7 +23,8 @@ pub run_begins : (rec : List Command) (memory : Memory) (text : List ℕ) → ((
 run_begins rec memory text new empty = record {
   memory_is = same_memory memory nothing_live new;
   text_is = empty;
-  clean = λ i below. absurd (omega arith) }
+  clean = λ i below. absurd (omega arith);
+}
 
 pub run_goes_on : (rec : List Command) (i : ℕ) (old new : Memory) (text_old text_new : List ℕ) → IsRun rec i old text_old → IsStep (action_at rec i) old new text_old text_new → IsRun rec (i + 1) new text_new
 run_goes_on rec i old new text_old text_new run step =
@@ -31,12 +32,13 @@ run_goes_on rec i old new text_old text_new run step =
     (record {
       memory_is = same_memory new _ step.memory ∙ ap (λ (m : Memory). after (action_at rec i) (outcome_of (action_at rec i) m) m) run.memory_is;
       text_is = step.text ∙ (ap (λ (t : List ℕ). t ++ shown (action_at rec i) (outcome_of (action_at rec i) old)) run.text_is
-        ∙ ap (λ (m : Memory). text_before rec i ++ shown (action_at rec i) (outcome_of (action_at rec i) m)) run.memory_is);
+          ∙ ap (λ (m : Memory). text_before rec i ++ shown (action_at rec i) (outcome_of (action_at rec i) m)) run.memory_is);
       clean = λ k below. elim (cases_lt k i) [
-        inl earlier ↦ run.clean k earlier
-      | inr late ↦ (let same : i ≡ k = omega arith in subst (λ n. fault_of (outcome_at rec n) ≡ None) same
-          (subst (λ (m : Memory). fault_of (outcome_of (action_at rec i) m) ≡ None) run.memory_is step.clean))
-      ] })
+        | inl earlier ↦ run.clean k earlier
+        | inr late ↦ (let same : i ≡ k = omega arith in subst (λ n. fault_of (outcome_at rec n) ≡ None) same
+            (subst (λ (m : Memory). fault_of (outcome_of (action_at rec i) m) ≡ None) run.memory_is step.clean))
+      ];
+    })
 
 pub run_stops : (rec : List Command) (until i : ℕ) (memory : Memory) (text : List ℕ) (refusal : Refusal) → IsRun rec i memory text → i < until → IsBroken i (outcome_of (action_at rec i) memory) refusal → IsRefusal rec until refusal
 run_stops rec until i memory text refusal run below broken = record {
@@ -45,4 +47,5 @@ run_stops rec until i memory text refusal run below broken = record {
   rule = broken.rule;
   named = broken.named;
   broken = subst (λ n. outcome_at rec n ≡ Breaks (record { rule = broken.rule; place = refusal.place })) (sym broken.at)
-    (subst (λ (m : Memory). outcome_of (action_at rec i) m ≡ Breaks (record { rule = broken.rule; place = refusal.place })) run.memory_is broken.broken) }
+      (subst (λ (m : Memory). outcome_of (action_at rec i) m ≡ Breaks (record { rule = broken.rule; place = refusal.place })) run.memory_is broken.broken);
+}

@@ -1,5 +1,5 @@
 -- What the program answers to an input. (Own.)
-use Rattle.std.specs.Prelude.{◌≡◌, ◌≤◌, ◌<◌, ◌+◌, ◌^◌, ℕ, List, [], ◌++◌, length, take, drop, Option, Some, None, IfSome, codes, ◌⊎◌, Result, Ok, Err, String}
+use Rattle.std.specs.Prelude.{◌≡◌, ◌≤◌, ◌<◌, ◌+◌, ◌^◌, ℕ, List, [], ◌++◌, length, take, drop, Option, Some, None, IfSome, codes, ◌⊎◌, String}
 use Rattle.std.specs.declared.alloc.Global.{Global}
 use Rattle.ray_io.specs.Faults.{HasRisen}
 use Rattle.ray_cmd.specs.declared.command.Command.{Command}
@@ -61,13 +61,22 @@ pub record Writing : Type 0 where
 -- the same of a source that tells so, before and after
 abbrev pub reading : {X : Type 0} → (X → Option (List ℕ)) → (X → ℕ) → X → X → Reading
 reading left faults old new = record {
-  before = left old; after = left new; faults_before = faults old; faults_after = faults new }
+  before = left old;
+  after = left new;
+  faults_before = faults old;
+  faults_after = faults new;
+}
 
 -- the same of a sink
 abbrev pub writing : {X : Type 0} → (X → Option (List ℕ)) → (X → ℕ) → (X → ℕ) → X → X → Writing
 writing taken faults zero_writes old new = record {
-  before = taken old; after = taken new; faults_before = faults old; faults_after = faults new;
-  zero_writes_before = zero_writes old; zero_writes_after = zero_writes new }
+  before = taken old;
+  after = taken new;
+  faults_before = faults old;
+  faults_after = faults new;
+  zero_writes_before = zero_writes old;
+  zero_writes_after = zero_writes new;
+}
 
 -- the input was read to its end: it has at most 2^26 bytes, and where the source tells its bytes they are the input, and none is left
 pub record IsRead (reading : Reading) (input : List ℕ) : Type 0 where

@@ -4,16 +4,14 @@ ghost use Rattle.vkray.specs.Words.{IsRun};
 ghost use Rattle.vkray.specs.Reply.{reading, writing, Answers, IsReply, IsSent, IsGoodCall, IsCompleted};
 ghost use Rattle.vkray.specs.Stops.{IsCalled};
 
-use std::alloc::{AllocError, Global};
-use std::thread::Threads;
-
-use ray_io::{Sink, Source, read_all, write_all};
-
 use crate::executing::execute;
 use crate::gate::Gate;
 use crate::reply::Reply;
 use crate::status::Status;
 use crate::stop::Stop;
+use ray_io::{Sink, Source, read_all, write_all};
+use std::alloc::{AllocError, Global};
+use std::thread::Threads;
 
 /// The greatest number of bytes that an input may have, 2^26.
 pub const MOST_BYTES: u32 = 1 << 26;

@@ -2,15 +2,13 @@ ghost use Rattle.std.specs.Prelude.{MatchResult};
 ghost use Rattle.vkray.specs.Reply.{IsDone};
 ghost use Rattle.vkray.specs.Stops.{IsRunText, StopsInput, StopsRun};
 
-use std::alloc::Global;
-use std::thread::Threads;
-
-use ray_cmd::{Recording, read_recording};
-use ray_state::State;
-
 use crate::gate::Gate;
 use crate::running::run_waves;
 use crate::stop::Stop;
+use ray_cmd::{Recording, read_recording};
+use ray_state::State;
+use std::alloc::Global;
+use std::thread::Threads;
 
 // Reads the bytes as a recording, and runs it.
 pub(crate) fn execute<R: Threads + Sync, G: Gate + Sync>(

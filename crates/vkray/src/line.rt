@@ -1,9 +1,8 @@
 ghost use Rattle.std.specs.Prelude.{◌≡◌, string_bytes, IfOk};
 ghost use Rattle.vkray.specs.Lines as lines;
 
-use std::alloc::{AllocError, Global};
-
 use ray_state::{DataRule, Place, Refusal, Rule};
+use std::alloc::{AllocError, Global};
 
 // The line of a command whose form isn't built.
 pub(crate) fn unbuilt_line(alloc: Global, command: u32) -> Result<String, AllocError>

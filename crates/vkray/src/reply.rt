@@ -1,11 +1,10 @@
 ghost use Rattle.std.specs.Prelude.{IfOk};
 ghost use Rattle.vkray.specs.Stops.{HasLine, IsStopReply};
 
-use std::alloc::{AllocError, Global};
-
 use crate::line::{refusal_line, unbuilt_line};
 use crate::status::Status;
 use crate::stop::Stop;
+use std::alloc::{AllocError, Global};
 
 /// What is written, and the status once it is.
 #[derive(Drop)]

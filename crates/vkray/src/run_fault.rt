@@ -1,6 +1,5 @@
-use std::alloc::AllocError;
-
 use ray_state::Refusal;
+use std::alloc::AllocError;
 
 /// Why a run has no text.
 #[derive(Clone, Copy, Debug, PartialEq, Eq)]

@@ -5,16 +5,14 @@ ghost use Rattle.ray_state.specs.Meaning.{outcome_of, Gives};
 ghost use Rattle.ray_state.specs.Run.{after, shown, text_before, IsClean, IsRefusal};
 ghost use Rattle.vkray.specs.Stepping.{IsStep, Stops, stop_of};
 
-use std::alloc::Global;
-use std::marker::Brand;
-use std::thread::Threads;
-
+use crate::gate::Gate;
+use crate::run_fault::RunFault;
 use ray_cmd::Recording;
 use ray_geom::Steps;
 use ray_state::{FetchFault, Piece, PieceOut, Refusal, Rule, State, fetch, pieces, store};
-
-use crate::gate::Gate;
-use crate::run_fault::RunFault;
+use std::alloc::Global;
+use std::marker::Brand;
+use std::thread::Threads;
 
 /// Runs the commands below `until` in recording order, on the calling thread: each piece is fetched
 /// and then stored. Gives the text, or the first command that breaks a data rule. `workers` is from

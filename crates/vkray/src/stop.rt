@@ -1,8 +1,7 @@
+use crate::run_fault::RunFault;
 use ray_cmd::RecordingFault;
 use ray_io::ReadError;
 use ray_state::Refusal;
-
-use crate::run_fault::RunFault;
 
 /// Why there is no text of a run.
 #[derive(Clone, Copy, Debug, PartialEq, Eq)]

@@ -1,11 +1,11 @@
-use Rattle.std.proofs.Common.{◌≡◌, subst, sym}
+use Rattle.std.proofs.Common.{◌≡◌, subst}
 use Rattle.std.proofs.lemmas.Result.{err_from_is_err_and}
 use Rattle.ray_state.specs.Memory.{memory_of}
 use Rattle.ray_state.specs.Action.{action_at}
 use Rattle.ray_state.specs.Meaning.{outcome_of}
 use Rattle.vkray.specs.declared.run_fault.RunFault.TheVariants.{Refused}
 use Rattle.vkray.specs.Stepping.{Stops}
-use Rattle.vkray.proofs.Runs.{IsRun, run_begins, run_goes_on, run_stops}
+use Rattle.vkray.proofs.Runs.{run_begins, run_goes_on, run_stops}
 use Rattle.vkray.proofs.running.run_waves.Goals as goal
 
 pub loop-command-init : goal.loop-command-init
