@@ -1,5 +1,6 @@
 pub mod Stepping
 pub mod Words
+pub mod Codes
 pub mod Lines
 pub mod Reply
 pub mod Stops

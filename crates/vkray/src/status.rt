@@ -1,3 +1,6 @@
+ghost use Rattle.std.specs.Prelude.{◌≡◌};
+ghost use Rattle.vkray.specs.Codes.{code_of};
+
 /// How a call of the program ends. (Own.)
 #[derive(Clone, Copy, Debug, PartialEq, Eq)]
 pub enum Status {
@@ -23,7 +26,9 @@ pub enum Status {
 
 impl Status {
     /// The number with which the program ends, from 0 to 8.
-    pub fn code(self) -> u8 {
+    pub fn code(self) -> u8
+        ensures { result ≡ code_of self }
+    {
         match self {
             Status::Done => 0,
             Status::Refused => 1,

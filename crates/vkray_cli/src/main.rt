@@ -2,13 +2,12 @@
 //! ends with its status. Nothing goes to standard error.
 #![tactic(auto)]
 
+use ray_io::{StdSink, StdSource};
 use std::alloc::AllocError;
 use std::io::ErrorKind;
 use std::process::ExitCode;
 use std::rt::Env;
 use std::{env, io};
-
-use ray_io::{StdSink, StdSource};
 use vkray::{NoGate, Status, vkray};
 
 fn main(rt: HostRuntime) -> ExitCode {

@@ -1,0 +1,5 @@
+pub mod Work
+pub mod Field
+pub mod Rays
+pub mod Tested
+pub mod Status
