@@ -1,6 +1,5 @@
 -- The bytes at a spot, one by one.
-use Rattle.std.proofs.Common.{◌≡◌, ℕ, ◌+◌, ◌<◌, length, get_or, map, unwrap_or, ap, ◌∙◌, arith}
-use Rattle.std.specs.List.{range_with_len}
+use Rattle.std.proofs.Common.{◌≡◌, ℕ, ◌+◌, ◌<◌, length, get_or, unwrap_or, arith}
 use Rattle.std.proofs.lemmas.List.FromFn.{length-map-range_with_len, get_or-map-range_with_len}
 use Rattle.ray_state.specs.declared.spot.Spot.{Spot}
 use Rattle.ray_state.specs.Memory.{Memory, ByteAt, bytes_at}
@@ -9,10 +8,14 @@ use Rattle.ray_state.specs.Memory.{Memory, ByteAt, bytes_at}
 abbrev pub byte_at : Memory → Spot → ℕ → ℕ
 byte_at memory spot k = unwrap_or (memory (ByteAt spot.buffer (spot.offset + k))) 0
 
+-- as many bytes as are asked for
 pub length-bytes_at : (memory : Memory) (spot : Spot) (n : ℕ) → length (bytes_at memory spot n) ≡ n
 unfolding bytes_at
 length-bytes_at memory spot n = length-map-range_with_len (byte_at memory spot) 0 n
 
-pub get_or-bytes_at : (memory : Memory) (spot : Spot) (n k : ℕ) → k < n → get_or (bytes_at memory spot n) k 0 ≡ byte_at memory spot k
+-- byte number k of them
+pub get_or-bytes_at :
+    (memory : Memory) (spot : Spot) (n k : ℕ) → k < n
+    → get_or (bytes_at memory spot n) k 0 ≡ byte_at memory spot k
 unfolding bytes_at
 get_or-bytes_at memory spot n k within = get_or-map-range_with_len (byte_at memory spot) 0 n k k 0 within (omega arith)

@@ -1,4 +1,9 @@
 pub mod Bytes
-pub mod Changes
+pub mod Choices
+pub mod Maps
+pub mod Buffers
+pub mod Making
+pub mod Building
+pub mod Overwriting
 pub mod Decisions
 pub mod Commands

@@ -1,6 +1,6 @@
 -- What each command does: it reads some locations, computes an output from them, and writes some locations. (Own; after
 -- the chapters on acceleration structures, ray queries and copies of the Vulkan specification.)
-use Rattle.std.specs.Prelude.{◌≡◌, ◌<◌, length, slice_index, slice_index_or, ℕ, ◌+◌, ◌-◌, ◌&&◌, ◌==◌, nat_lt, nat_le, Bool, true, false, List, [], slice_get, Option, Some, None, option_map, unwrap_or, if◌then◌else◌}
+use Rattle.std.specs.Prelude.{◌≡◌, ◌<◌, length, slice_index, slice_index_or, ℕ, ◌+◌, ◌-◌, ◌&&◌, ◌==◌, nat_lt, nat_le, Bool, true, false, List, [], slice_get, Some, None, option_map, unwrap_or, if◌then◌else◌}
 use Rattle.ray_cmd.specs.declared.command.Command.{Command}
 use Rattle.ray_cmd.specs.declared.command.Command.TheVariants as commands
 use Rattle.ray_state.specs.declared.spot.Spot.{Spot}
@@ -72,10 +72,11 @@ host_action_of command = if is_host (action_of command) then action_of command e
 abbrev pub device_action_of : Command → Action
 device_action_of command = if is_host (action_of command) then Rest else action_of command
 
--- the same of command number i
+-- what the host does at command number i
 abbrev pub host_action_at : List Command → ℕ → Action
 host_action_at rec i = host_action_of (command_at rec i)
 
+-- what a piece of command number i does
 abbrev pub device_action_at : List Command → ℕ → Action
 device_action_at rec i = device_action_of (command_at rec i)
 
@@ -153,7 +154,8 @@ unbuilt kind (StructureAt id) old = Some (record { kind = kind; contents = None 
 
 -- the byte at a place once the first n bytes of `from` are written over those from an offset on
 abbrev pub overwritten : ℕ → ℕ → List ℕ → List ℕ → ℕ → ℕ
-overwritten offset n from bytes at = if nat_le offset at && nat_lt at (offset + n) then slice_index from (at - offset) else slice_index bytes at
+overwritten offset n from bytes at =
+    if nat_le offset at && nat_lt at (offset + n) then slice_index from (at - offset) else slice_index bytes at
 
 -- what a location holds once bytes are written from a spot on: the byte for it, where it has one
 abbrev pub stored : Spot → List ℕ → (l : Location) → Held l → Held l

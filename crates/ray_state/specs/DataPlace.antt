@@ -9,5 +9,6 @@ abbrev pub place_in : Option ℕ → ℕ → Place
 place_in None geometry = Geometry 0 geometry
 place_in (Some element) geometry = Element 0 geometry element
 
+-- the place of a fault
 abbrev pub place_of : DataFault → Place
 place_of fault = place_in fault.element fault.geometry

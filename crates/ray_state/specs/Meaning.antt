@@ -1,12 +1,11 @@
 -- What the output of an action is: computed from the memory at one moment. (Vulkan: acceleration structure builds, ray
 -- traversal, ray queries; own: the records, the limits, exact numbers.)
-use Rattle.std.specs.Prelude.{◌≡◌, Result, Ok, Err, ℕ, pos, negsuc, ◌+◌, ◌*◌, ◌/◌, ◌%◌, ◌-◌, ◌^◌, ◌==◌, ◌&&◌, ◌||◌, nat_lt, Bool, true, false, not, List, Option, Some, None, option_and_then, option_map, unwrap_or, bit_and, if◌then◌else◌}
+use Rattle.std.specs.Prelude.{◌≡◌, Result, Ok, Err, ℕ, negsuc, ◌+◌, ◌/◌, ◌%◌, ◌-◌, ◌^◌, ◌==◌, ◌&&◌, nat_lt, Bool, not, List, Option, Some, None, option_and_then, option_map, unwrap_or, bit_and, if◌then◌else◌}
 use Rattle.std.specs.Ordering.{int_eq}
 use Rattle.std.specs.Bool.{beq}
 use Rattle.ray_geom.specs.Scene.{RayValue, TriValue}
 use Rattle.ray_geom.specs.Decided.{where_so, ray_decided, tri_decided}
 use Rattle.ray_geom.specs.HitValue.{HitValue, hit_of}
-use Rattle.ray_state.specs.declared.spot.Spot.{Spot}
 use Rattle.ray_state.specs.declared.data_rule.DataRule.{DataRule}
 use Rattle.ray_state.specs.declared.data_rule.DataRule.TheVariants.{X2, X11}
 use Rattle.ray_state.specs.declared.place.Place.{Place}
@@ -15,7 +14,6 @@ use Rattle.ray_state.specs.declared.data_fault.DataFault.{DataFault}
 use Rattle.ray_state.specs.declared.fetch_fault.FetchFault.{FetchFault}
 use Rattle.ray_state.specs.declared.fetch_fault.FetchFault.TheVariants.{Data, NoMemory}
 use Rattle.ray_state.specs.declared.instance.Instance.{Instance}
-use Rattle.ray_state.specs.declared.structure.Structure.{Structure}
 use Rattle.ray_state.specs.declared.contents.Contents.{Contents}
 use Rattle.ray_state.specs.declared.contents.Contents.TheVariants.{Bottom, Top}
 use Rattle.ray_state.specs.declared.hit_record.HitRecord.{HitRecord}
@@ -62,7 +60,8 @@ triangle_of bytes = record { v0 = point_at bytes 0; v1 = point_at bytes 12; v2 =
 
 -- the ray of 40 bytes: origin, direction, and the ends of the interval in 1/65536
 abbrev pub ray_of : List ℕ → RayValue
-ray_of bytes = record { origin = point_at bytes 0; dir = point_at bytes 12; tmin = long_at bytes 24; tmax = long_at bytes 32 }
+ray_of bytes =
+    record { origin = point_at bytes 0; dir = point_at bytes 12; tmin = long_at bytes 24; tmax = long_at bytes 32 }
 
 -- that ray, where it keeps the limits
 abbrev pub ray_within : List ℕ → Option RayValue
@@ -90,13 +89,19 @@ bottom_of bytes =
 -- the id of the structure that a reference names, if it names one: the reference is 256 times one more than the id (own)
 abbrev pub structure_id_of : ℕ → Option ℕ
 structure_id_of reference =
-    if (reference % 256 == 0) && (nat_lt 0 reference && nat_lt (reference / 256) (2 ^ 32 + 1)) then Some (reference / 256 - 1) else None
+    if (reference % 256 == 0) && (nat_lt 0 reference && nat_lt (reference / 256) (2 ^ 32 + 1))
+    then Some (reference / 256 - 1)
+    else None
 
 -- the instance of 64 bytes, active where its reference names a structure (Vulkan: VkAccelerationStructureInstanceKHR)
 abbrev pub instance_of : List ℕ → Option Instance
 instance_of bytes = option_map (λ id. record {
-    custom = word_at bytes 48 % 2 ^ 24; mask = word_at bytes 48 / 2 ^ 24;
-    sbt = word_at bytes 52 % 2 ^ 24; flags = word_at bytes 52 / 2 ^ 24; id = id }) (structure_id_of (long_at bytes 56))
+  custom = word_at bytes 48 % 2 ^ 24;
+  mask = word_at bytes 48 / 2 ^ 24;
+  sbt = word_at bytes 52 % 2 ^ 24;
+  flags = word_at bytes 52 / 2 ^ 24;
+  id = id;
+}) (structure_id_of (long_at bytes 56))
 
 -- what the structure of an id holds, where it is live and built
 abbrev pub contents_at : Memory → ℕ → Option Contents
@@ -124,14 +129,34 @@ face_of instance den_negative = if not (beq den_negative (not (bit_and instance.
 -- the record of a hit of the one triangle of the one instance
 abbrev pub record_of : Instance → HitValue → HitRecord
 record_of instance hit = record {
-    kind = 1; instance = 0; custom = instance.custom; sbt = instance.sbt; geometry = 0; primitive = 0;
-    face = face_of instance hit.den_negative; spare = 0; t = hit.t; u = hit.u; v = hit.v }
+  kind = 1;
+  instance = 0;
+  custom = instance.custom;
+  sbt = instance.sbt;
+  geometry = 0;
+  primitive = 0;
+  face = face_of instance hit.den_negative;
+  spare = 0;
+  t = hit.t;
+  u = hit.u;
+  v = hit.v;
+}
 
 -- the record of a miss
 abbrev pub miss : HitRecord
 miss = record {
-    kind = 0; instance = 0; custom = 0; sbt = 0; geometry = 0; primitive = 0;
-    face = 0; spare = 0; t = (0, 0); u = (0, 0); v = (0, 0) }
+  kind = 0;
+  instance = 0;
+  custom = 0;
+  sbt = 0;
+  geometry = 0;
+  primitive = 0;
+  face = 0;
+  spare = 0;
+  t = (0, 0);
+  u = (0, 0);
+  v = (0, 0);
+}
 
 -- what the ray hits of a triangle of an instance
 abbrev pub hit_of_triangle : RayValue → Instance → TriValue → Option HitRecord
@@ -140,12 +165,14 @@ hit_of_triangle ray instance triangle = option_map (record_of instance) (hit_of 
 -- what the ray hits of an instance
 abbrev pub hit_of_instance : Memory → RayValue → Instance → Option HitRecord
 hit_of_instance memory ray instance =
-    if admits instance then option_and_then (hit_of_triangle ray instance) (option_and_then triangle_in (contents_at memory instance.id))
+    if admits instance
+    then option_and_then (hit_of_triangle ray instance) (option_and_then triangle_in (contents_at memory instance.id))
     else None
 
 -- what the ray hits of a top structure: each primitive is tested
 abbrev pub hit_through : Memory → ℕ → RayValue → HitRecord
-hit_through memory top ray = unwrap_or (option_and_then (hit_of_instance memory ray) (option_and_then instance_in (contents_at memory top))) miss
+hit_through memory top ray =
+    unwrap_or (option_and_then (hit_of_instance memory ray) (option_and_then instance_in (contents_at memory top))) miss
 
 -- what a trace of a ray within the limits gives, or of one beyond them
 abbrev pub trace_with : Memory → ℕ → Option RayValue → Outcome

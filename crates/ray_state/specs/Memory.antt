@@ -1,5 +1,5 @@
 -- The device's memory as a function from locations to what they hold. (Own.)
-use Rattle.std.specs.Prelude.{ℕ, ◌+◌, List, map, length, slice_get, Option, Some, None, option_map, option_and_then, unwrap_or}
+use Rattle.std.specs.Prelude.{ℕ, ◌+◌, List, map, length, slice_get, Option, None, option_map, option_and_then, unwrap_or}
 use Rattle.std.specs.List.{range_with_len}
 use Rattle.std.specs.Ordering.{nat_cmp}
 use Rattle.std.specs.BTreeMap.{get}

@@ -1,6 +1,6 @@
 -- Records as bytes, little-endian. (Own: the layouts of rays and hits; the instance's layout is
 -- Vulkan's VkAccelerationStructureInstanceKHR, with whole numbers in its transform.)
-use Rattle.std.specs.Prelude.{ℕ, ◌+◌, ◌*◌, ◌/◌, ◌%◌, ◌^◌, ℤ, List, [], ◌∷◌, ◌++◌, drop}
+use Rattle.std.specs.Prelude.{ℕ, ◌+◌, ℤ, List, [], ◌∷◌, ◌++◌, drop}
 use Rattle.std.specs.Int.{w32, cast_signed}
 use Rattle.std.specs.List.{flat_map}
 use Rattle.ray_geom.specs.declared.vec3.Vec3.{Vec3}
@@ -32,6 +32,15 @@ hit_bytes h =
 -- the hit that stands in 80 bytes
 abbrev pub hit_of_bytes : List ℕ → HitRecord
 hit_of_bytes bytes = record {
-    kind = word_at bytes 0; instance = word_at bytes 4; custom = word_at bytes 8; sbt = word_at bytes 12;
-    geometry = word_at bytes 16; primitive = word_at bytes 20; face = word_at bytes 24; spare = word_at bytes 28;
-    t = (long_at bytes 32, long_at bytes 40); u = (long_at bytes 48, long_at bytes 56); v = (long_at bytes 64, long_at bytes 72) }
+  kind = word_at bytes 0;
+  instance = word_at bytes 4;
+  custom = word_at bytes 8;
+  sbt = word_at bytes 12;
+  geometry = word_at bytes 16;
+  primitive = word_at bytes 20;
+  face = word_at bytes 24;
+  spare = word_at bytes 28;
+  t = (long_at bytes 32, long_at bytes 40);
+  u = (long_at bytes 48, long_at bytes 56);
+  v = (long_at bytes 64, long_at bytes 72);
+}

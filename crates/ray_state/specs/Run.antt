@@ -1,8 +1,7 @@
 -- The run of a recording, in recording order. (Own.)
 use Rattle.std.specs.Prelude.{◌≡◌, ◌<◌, ℕ, zero, suc, List, [], ◌++◌, Option, Some, None}
 use Rattle.ray_cmd.specs.declared.command.Command.{Command}
-use Rattle.ray_state.specs.declared.output.Output.{Output}
-use Rattle.ray_state.specs.declared.output.Output.TheVariants.{Nothing, Hit, Built}
+use Rattle.ray_state.specs.declared.output.Output.TheVariants.{Hit}
 use Rattle.ray_state.specs.declared.data_rule.DataRule.{DataRule}
 use Rattle.ray_state.specs.declared.refusal.Refusal.{Refusal}
 use Rattle.ray_state.specs.declared.rule.Rule.TheVariants.{X}

@@ -1,5 +1,5 @@
 -- The text of a hit that is shown. (Own.)
-use Rattle.std.specs.Prelude.{ℕ, List, [], ◌∷◌, ◌++◌, codes, decimal, ◌==◌, if◌then◌else◌}
+use Rattle.std.specs.Prelude.{ℕ, List, ◌++◌, codes, decimal, ◌==◌, if◌then◌else◌}
 use Rattle.ray_state.specs.declared.hit_record.HitRecord.{HitRecord}
 
 -- what a kind is called
@@ -9,7 +9,12 @@ kind_word kind = if kind == 1 then codes "tri" else (if kind == 2 then codes "bo
 -- where a hit is
 abbrev pub place_text : HitRecord → List ℕ
 place_text h =
-    codes "inst " ++ (decimal h.instance ++ (codes " custom " ++ (decimal h.custom ++ (codes " sbt " ++ (decimal h.sbt ++ (codes " geom " ++ (decimal h.geometry ++ (codes " prim " ++ (decimal h.primitive ++ (codes " face " ++ decimal h.face))))))))))
+    codes "inst " ++ (decimal h.instance
+    ++ (codes " custom " ++ (decimal h.custom
+    ++ (codes " sbt " ++ (decimal h.sbt
+    ++ (codes " geom " ++ (decimal h.geometry
+    ++ (codes " prim " ++ (decimal h.primitive
+    ++ (codes " face " ++ decimal h.face))))))))))
 
 -- how far it is, and where in the primitive: fractions as numerator / denominator
 abbrev pub numbers_text : HitRecord → List ℕ
@@ -22,4 +27,6 @@ numbers_text h =
 abbrev pub hit_line : ℕ → HitRecord → List ℕ
 hit_line k h =
     if h.kind == 0 then decimal k ++ codes " none\n"
-    else decimal k ++ (codes " " ++ (kind_word h.kind ++ (codes " " ++ (place_text h ++ (codes " " ++ (numbers_text h ++ codes "\n"))))))
+    else decimal k ++ (codes " " ++ (kind_word h.kind
+    ++ (codes " " ++ (place_text h
+    ++ (codes " " ++ (numbers_text h ++ codes "\n"))))))

@@ -2,16 +2,14 @@ ghost use Rattle.std.specs.Prelude.{◌≡◌, ◌+◌, ◌≤◌, length};
 ghost use Rattle.ray_state.specs.Memory.{memory_of, bytes_at};
 ghost use Rattle.ray_state.specs.Meaning.{IsBuilt, bottom_of, bottom_with, is_inactive, triangle_within};
 
-use std::sync::ledger::Ledger;
-
-use ray_geom::{Steps, Tri};
-
 use crate::contents::Contents;
 use crate::data_fault::DataFault;
 use crate::data_rule::DataRule;
 use crate::records::{point, signed};
 use crate::spot::Spot;
 use crate::state::State;
+use ray_geom::{Steps, Tri};
+use std::sync::ledger::Ledger;
 
 // The contents of a bottom structure of the one triangle whose vertices stand at the spot, three
 // signed 32-bit numbers each. It is inactive where the first vertex's x is -2^31. One step.

@@ -1,6 +1,5 @@
-use ray_geom::Tri;
-
 use crate::instance::Instance;
+use ray_geom::Tri;
 
 /// What a built acceleration structure holds. (Vulkan: acceleration structure builds.)
 #[derive(Clone, Copy, Debug)]

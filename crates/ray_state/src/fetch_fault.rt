@@ -1,11 +1,7 @@
-ghost use Rattle.ray_state.specs.declared.fetch_fault.FetchFault.TheVariants.{NoMemory};
-ghost use Rattle.std.specs.Prelude.{◌≡◌};
-
-use std::alloc::AllocError;
-
 use crate::data_fault::DataFault;
 use crate::data_rule::DataRule;
 use crate::place::Place;
+use std::alloc::AllocError;
 
 /// Why a piece has no output.
 #[derive(Clone, Copy, Debug, PartialEq, Eq)]
@@ -17,6 +13,9 @@ pub enum FetchFault {
 }
 
 impl From<AllocError> for FetchFault {
+    ghost use Rattle.std.specs.Prelude.{◌≡◌};
+    ghost use Rattle.ray_state.specs.declared.fetch_fault.FetchFault.TheVariants.{NoMemory};
+
     ghost from_gives = { λ _ e. e ≡ NoMemory };
 
     fn from(_: AllocError) -> FetchFault {

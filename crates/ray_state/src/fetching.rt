@@ -3,25 +3,22 @@ ghost use Rattle.ray_state.specs.Memory.{memory_of, bytes_at};
 ghost use Rattle.ray_state.specs.Action.{device_action_of, device_action_at, pieces_of, trace_action};
 ghost use Rattle.ray_state.specs.Meaning.{outcome_of, Gives, Causes, IsFetched, IsTraced};
 
-use std::alloc::Global;
-use std::sync::ledger::Ledger;
-use std::thread::Threads;
-
-use ray_cmd::{Command, Recording};
-use ray_geom::Steps;
-
 use crate::bottom::bottom;
 use crate::data_rule::DataRule;
 use crate::fetch_fault::FetchFault;
 use crate::hit_record::HitRecord;
 use crate::output::Output;
-use crate::path;
 use crate::piece::Piece;
 use crate::piece_out::PieceOut;
 use crate::place::Place;
 use crate::state::State;
 use crate::top::top;
-use crate::trace;
+use crate::{path, trace};
+use ray_cmd::{Command, Recording};
+use ray_geom::Steps;
+use std::alloc::Global;
+use std::sync::ledger::Ledger;
+use std::thread::Threads;
 
 /// How many pieces command number `i` has: none where it is a host command, else one.
 pub fn pieces(rec: &Recording, i: u32) -> u32
@@ -39,10 +36,15 @@ pub fn pieces(rec: &Recording, i: u32) -> u32
 }
 
 /// Reads all inputs of a piece at this moment and computes its output from them. The state stays
-/// as it is.
+/// as it is. The runtime and the allocator are for commands that aren't built yet.
+///
+/// # Errors
+///
+/// `Data` where the inputs break a data rule: the first in order, and where. `NoMemory` comes from
+/// no command that is built today.
 pub fn fetch<R: Threads + Sync, L: Ledger>(
-    _rt: &R,
-    _alloc: Global,
+    rt: &R,
+    alloc: Global,
     state: &State,
     rec: &Recording,
     piece: Piece,
@@ -60,10 +62,8 @@ pub fn fetch<R: Threads + Sync, L: Ledger>(
     ensures rising { steps.old ≤ steps.new }
     ensures cost { steps.new ≤ steps.old + 1 }
 {
-    match output(state, rec.command(piece.command), steps) {
-        Ok(output) => Ok(PieceOut { piece, output }),
-        Err(fault) => Err(fault),
-    }
+    let output = output(state, rec.command(piece.command), steps)?;
+    Ok(PieceOut { piece, output })
 }
 
 // The output of a command's piece.

@@ -1,8 +1,7 @@
 ghost use Rattle.std.specs.Prelude.{◌≡◌, length};
 
-use byteorder::{ByteOrder, LittleEndian};
-
 use crate::records::{long, word};
+use byteorder::{ByteOrder, LittleEndian};
 
 /// A hit as it is stored: 80 bytes, little-endian. A miss is 80 zero bytes. (Own: the layout; the
 /// fields are those that a Vulkan ray query reports of its committed intersection.)
@@ -68,9 +67,7 @@ impl HitRecord {
             self.face,
             self.spare,
         ];
-        let numbers = [
-            self.t.0, self.t.1, self.u.0, self.u.1, self.v.0, self.v.1,
-        ];
+        let numbers = [self.t.0, self.t.1, self.u.0, self.u.1, self.v.0, self.v.1];
         let (head, tail) = out.split_at_mut(32);
         LittleEndian::write_u32_into(&words, head);
         LittleEndian::write_u64_into(&numbers, tail);

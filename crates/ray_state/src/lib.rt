@@ -1,17 +1,24 @@
 //! The device's memory, and what each command does to it.
 //!
 //! A state is the live buffers with their bytes and the live structures with what they hold. A
-//! device command is a list of pieces: `fetch` computes a piece's output from the state as it is,
-//! `store` writes it. `host` makes buffers and structures, `text` shows bytes. The crate stands on
-//! ray_cmd (the commands), ray_geom (the intersection) and `byteorder` (the records).
+//! device command is a list of pieces: [`fetch`] computes a piece's output from the state as it is,
+//! and [`store`] writes it. [`State::host`] makes buffers and structures, [`State::text`] shows
+//! bytes.
+//!
+//! The layer above uses `fetch` and `store`. The clauses `output` and `fault` of `fetch` say by
+//! `outcome_of` of `specs/Meaning` what a command gives at a memory. The clause of `store` says by
+//! `put` of `specs/Action` what the memory is afterwards. `specs/Run` makes of both the run of a
+//! recording in order.
+//!
+//! It stands on ray_cmd (the commands), ray_geom (the intersection) and `byteorder` (the records).
 #![tactic(auto)]
 
 mod bottom;
 mod contents;
 mod data_fault;
 mod data_rule;
-mod fetching;
 mod fetch_fault;
+mod fetching;
 mod hit_record;
 mod instance;
 mod output;
@@ -27,6 +34,8 @@ mod state;
 mod storing;
 mod structure;
 mod structure_kind;
+#[cfg(test)]
+mod tests;
 mod text;
 mod top;
 mod trace;
@@ -34,8 +43,8 @@ mod trace;
 pub use contents::Contents;
 pub use data_fault::DataFault;
 pub use data_rule::DataRule;
-pub use fetching::{fetch, pieces};
 pub use fetch_fault::FetchFault;
+pub use fetching::{fetch, pieces};
 pub use hit_record::HitRecord;
 pub use instance::Instance;
 pub use output::Output;
@@ -45,6 +54,6 @@ pub use place::Place;
 pub use refusal::Refusal;
 pub use rule::Rule;
 pub use state::State;
+pub use storing::store;
 pub use structure::Structure;
 pub use structure_kind::StructureKind;
-pub use storing::store;

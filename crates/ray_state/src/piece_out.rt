@@ -1,7 +1,6 @@
-use std::marker::Model;
-
 use crate::output::Output;
 use crate::piece::Piece;
+use std::marker::Model;
 
 /// A piece that was fetched, with its output, until it is stored.
 #[derive(Drop)]

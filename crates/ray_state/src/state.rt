@@ -2,15 +2,13 @@ ghost use Rattle.std.specs.Prelude.{◌≡◌, ◌+◌, ◌<◌, ◌^◌, if◌t
 ghost use Rattle.ray_state.specs.Action.{IsFresh, overwritten};
 ghost use Rattle.ray_state.specs.declared.output.Output.TheVariants.{Nothing};
 
-use std::alloc::{AllocError, Global};
-use std::collections::BTreeMap;
-
-use ray_cmd::{Command, Recording};
-
 use crate::contents::Contents;
 use crate::spot::Spot;
 use crate::structure::Structure;
 use crate::structure_kind::StructureKind;
+use ray_cmd::{Command, Recording};
+use std::alloc::{AllocError, Global};
+use std::collections::BTreeMap;
 
 /// The device's memory at one moment: the live buffers with their bytes, and the live structures
 /// with what they hold.
@@ -90,10 +88,7 @@ impl State {
     pub(crate) fn contents(&self, id: u32) -> Option<Contents>
         ensures { result ≡ contents_at (memory_of self.now) id }
     {
-        match self.structures.get(&id) {
-            Some(structure) => structure.contents,
-            None => None,
-        }
+        self.structures.get(&id)?.contents
     }
 
     // Fills `into` with the bytes that begin at the spot, 0 where there is none.

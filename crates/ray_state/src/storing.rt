@@ -2,14 +2,13 @@ ghost use Rattle.std.specs.Prelude.{◌≡◌, ◌<◌, if◌then◌else◌, len
 ghost use Rattle.ray_state.specs.Memory.{Location, memory_of};
 ghost use Rattle.ray_state.specs.Action.{device_action_at, is_structure, is_among, rebuilt, recorded, put};
 
-use ray_cmd::{Command, Recording};
-
 use crate::hit_record::HitRecord;
 use crate::output::Output;
 use crate::path;
 use crate::piece_out::PieceOut;
 use crate::spot::Spot;
 use crate::state::State;
+use ray_cmd::{Command, Recording};
 
 /// Writes the output of a fetched piece, and nothing else.
 pub fn store(state: &mut State, rec: &Recording, out: PieceOut)

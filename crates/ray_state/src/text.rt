@@ -1,14 +1,12 @@
 ghost use Rattle.std.specs.Prelude.{◌≡◌, ◌++◌, ◌<◌, length, string_bytes, IfOk, OnErr, OnOk};
 ghost use Rattle.ray_state.specs.Text.{hit_line, kind_word, place_text, numbers_text};
 
-use std::alloc::{AllocError, Global};
-
-use ray_cmd::{Command, Recording};
-
 use crate::hit_record::HitRecord;
 use crate::path;
 use crate::spot::Spot;
 use crate::state::State;
+use ray_cmd::{Command, Recording};
+use std::alloc::{AllocError, Global};
 
 impl State {
     ghost use Rattle.ray_state.specs.Memory.{memory_of, bytes_at};
@@ -18,7 +16,7 @@ impl State {
     ghost use Rattle.ray_state.specs.Run.{shown};
 
     /// Appends the text of command number `i` to `out`, from the bytes as they are now. Only a
-    /// `read` has text.
+    /// `read` has text. After a want of memory `out` is as before.
     pub fn text(&self, rec: &Recording, i: u32, out: &mut Vec<u8>) -> Result<(), AllocError>
         requires { i < length rec.now }
         ensures ok { OnOk result (out.new.items ≡ out.old.items
@@ -82,7 +80,9 @@ fn place(alloc: Global, hit: &HitRecord) -> Result<String, AllocError>
         face,
         ..
     } = *hit;
-    format!(in alloc; "inst {instance} custom {custom} sbt {sbt} geom {geometry} prim {primitive} face {face}")
+    format!(in alloc;
+        "inst {instance} custom {custom} sbt {sbt} geom {geometry} prim {primitive} face {face}"
+    )
 }
 
 // How far it is, and where in the primitive.

@@ -3,16 +3,14 @@ ghost use Rattle.ray_geom.specs.HitValue.{hit_value};
 ghost use Rattle.ray_state.specs.Memory.{memory_of, bytes_at};
 ghost use Rattle.ray_state.specs.Meaning.{ray_within, contents_at, instance_in, triangle_in, hit_of_instance, hit_through, admits, record_of};
 
-use std::sync::ledger::Ledger;
-
-use ray_geom::{Ray, Steps, Tri, TriHit, hit_tri};
-
 use crate::contents::Contents;
 use crate::hit_record::HitRecord;
 use crate::instance::Instance;
 use crate::records::{long, point};
 use crate::spot::Spot;
 use crate::state::State;
+use ray_geom::{Ray, Steps, Tri, TriHit, hit_tri};
+use std::sync::ledger::Ledger;
 
 // The ray that stands at the spot. None where it breaks the limits.
 pub(crate) fn ray(state: &State, spot: Spot) -> Option<Ray>
@@ -63,16 +61,10 @@ fn hit_in<L: Ledger>(
     if !is_admitted(instance) {
         return None;
     }
-    match triangle(state, instance.id) {
-        Some(triangle) => {
-            steps.tick();
-            match hit_tri(ray, &triangle) {
-                Some(hit) => Some(record(instance, &hit)),
-                None => None,
-            }
-        }
-        None => None,
-    }
+    let triangle = triangle(state, instance.id)?;
+    steps.tick();
+    let hit = hit_tri(ray, &triangle)?;
+    Some(record(instance, &hit))
 }
 
 // The active instance of the top structure of this id.

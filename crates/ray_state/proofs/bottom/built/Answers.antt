@@ -1,6 +1,5 @@
-use Rattle.std.proofs.Common.{◌≡◌, ◌∙◌, ap, sym, subst, Option}
+use Rattle.std.proofs.Common.{◌≡◌, ◌∙◌, ap, sym, subst}
 use Rattle.std.proofs.lemmas.Bool.{cond-false}
-use Rattle.ray_geom.specs.Scene.{TriValue}
 use Rattle.ray_state.specs.Meaning.{Outcome, IsBuilt, bottom_of, bottom_with, triangle_within, is_inactive}
 use Rattle.ray_state.proofs.bottom.built.Goals as goal
 

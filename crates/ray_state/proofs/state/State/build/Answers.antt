@@ -1,11 +1,11 @@
-use Rattle.std.proofs.Common.{◌≡◌, ◌∙◌, sym, ap, refl, Some, None, ℕ}
+use Rattle.std.proofs.Common.{◌≡◌, ◌∙◌, sym, ap, refl, Some, None}
 use Rattle.std.specs.Option.{option_copied_mut}
 use Rattle.std.specs.Ordering.{nat_cmp}
 use Rattle.std.specs.BTreeMap.{get}
 use Rattle.ray_state.specs.declared.state.State.{State}
 use Rattle.ray_state.specs.declared.structure.Structure.{Structure}
 use Rattle.ray_state.specs.Action.{with_contents}
-use Rattle.ray_state.proofs.Changes.{memory_of-built, memory_of-not_built}
+use Rattle.ray_state.proofs.Building.{memory_of-built, memory_of-not_built}
 use Rattle.ray_state.proofs.state.State.build.Goals as goal
 
 pub returns-in-Some : goal.returns-in-Some

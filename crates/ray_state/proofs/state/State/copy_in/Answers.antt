@@ -7,7 +7,7 @@ use Rattle.std.specs.Ordering.{nat_cmp}
 use Rattle.std.specs.BTreeMap.{get}
 use Rattle.ray_state.specs.declared.state.State.{State}
 use Rattle.ray_state.specs.Action.{overwritten}
-use Rattle.ray_state.proofs.Changes.{memory_of-overwritten, memory_of-no_buffer}
+use Rattle.ray_state.proofs.Overwriting.{memory_of-overwritten, memory_of-no_buffer}
 use Rattle.ray_state.proofs.state.State.copy_in.Goals as goal
 
 pub returns-in-Some : goal.returns-in-Some
@@ -23,9 +23,9 @@ returns-in-Some c =
     memory_of-overwritten old new c.args.spot c.args.from.now before after
     ((c.get_mut.follows.holds after).3 (rw found)) found (ap length items ∙ kept)
     (λ at within.
-      ap (λ bytes. get_or bytes at 0) items
-      ∙ (c.overwrite.ensures at (subst (λ bytes. at < length bytes) (sym lent) within)
-      ∙ ap (λ bytes. overwritten c.args.spot.offset (length c.args.from.now) c.args.from.now bytes at) lent))
+    ap (λ bytes. get_or bytes at 0) items
+    ∙ (c.overwrite.ensures at (subst (λ bytes. at < length bytes) (sym lent) within)
+    ∙ ap (λ bytes. overwritten c.args.spot.offset (length c.args.from.now) c.args.from.now bytes at) lent))
     refl
 
 pub returns-in_default : goal.returns-in_default

@@ -11,6 +11,6 @@ returns c =
     let sized : length c.loop-k.into ≡ n = c.loop-k.auto.into in
     same_number_lists _ _ (sized ∙ sym (length-bytes_at memory c.args.spot n))
     (λ k within.
-      let inside : k < n = omega arith in
-      let done : k < c.loop-k.k = omega arith in
-      c.loop-k.invariant k done ∙ sym (get_or-bytes_at memory c.args.spot n k inside))
+    let inside : k < n = omega arith in
+    let done : k < c.loop-k.k = omega arith in
+    c.loop-k.invariant k done ∙ sym (get_or-bytes_at memory c.args.spot n k inside))

@@ -1,6 +1,6 @@
 use Rattle.std.proofs.Common.{refl}
 use Rattle.ray_state.specs.declared.state.State.{State}
-use Rattle.ray_state.proofs.Changes.{memory_of-made_buffer}
+use Rattle.ray_state.proofs.Making.{memory_of-made_buffer}
 use Rattle.ray_state.proofs.state.State.make_buffer.Goals as goal
 
 pub returns-clause-ok : goal.returns-clause-ok

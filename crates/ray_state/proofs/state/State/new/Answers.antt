@@ -1,5 +1,5 @@
 use Rattle.ray_state.specs.declared.state.State.{State}
-use Rattle.ray_state.proofs.Changes.{memory_of-empty}
+use Rattle.ray_state.proofs.Making.{memory_of-empty}
 use Rattle.ray_state.proofs.state.State.new.Goals as goal
 
 pub returns : goal.returns

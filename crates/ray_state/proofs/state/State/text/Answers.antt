@@ -1,8 +1,6 @@
-use Rattle.std.proofs.Common.{◌≡◌, ◌++◌, [], List, ℕ, ap, sym, ◌∙◌, append-nil, string_bytes}
-use Rattle.ray_state.specs.Records.{hit_of_bytes}
-use Rattle.ray_state.specs.Memory.{Memory, memory_of, bytes_at}
-use Rattle.ray_state.specs.Action.{command_at, spot}
-use Rattle.ray_state.specs.Text.{hit_line}
+use Rattle.std.proofs.Common.{◌≡◌, ◌++◌, [], List, ℕ, ap, sym, ◌∙◌, append-nil}
+use Rattle.ray_state.specs.Memory.{Memory, memory_of}
+use Rattle.ray_state.specs.Action.{command_at}
 use Rattle.ray_cmd.specs.declared.command.Command.{Command}
 use Rattle.ray_cmd.specs.declared.command.Command.TheVariants as commands
 use Rattle.ray_state.proofs.Commands.{command_at-is, text_of, text_of-none, appended}
@@ -21,5 +19,5 @@ returns-in_default c =
     let memory : Memory = memory_of c.args.self.now in
     let is : command_at c.args.rec.now c.args.i ≡ c.command.result.now = command_at-is c.args.rec.now c.args.i c.command.result.now c.command.ensures in
     let none : text_of (command_at c.args.rec.now c.args.i) memory ≡ [] =
-      ap (λ (command : Command). text_of command memory) is ∙ text_of-none c.command.result.now memory c.in_default.not-ReadHits in
+    ap (λ (command : Command). text_of command memory) is ∙ text_of-none c.command.result.now memory c.in_default.not-ReadHits in
     record { ok = sym (ap (λ (text : List ℕ). c.args.out.now.items ++ text) none ∙ append-nil c.args.out.now.items); err = tt }

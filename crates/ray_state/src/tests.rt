@@ -1,0 +1,253 @@
+use crate::{
+    DataRule, FetchFault, HitRecord, Output, Piece, PieceOut, Place, State, fetch, pieces, store,
+};
+use ray_cmd::{Recording, read_recording};
+use ray_geom::Steps;
+use std::alloc::Global;
+use std::marker::Brand;
+use std::test::Fail;
+use std::thread::Threads;
+
+const TRIANGLE: &str = concat!(
+    r#"[{"op":"buffer","id":0,"size":128,"usage":["input"],"data":""#,
+    r#"000000000000000000000000040000000000000000000000000000000400000000000000"#,
+    r#"00000000000000000000000000000000000000000000000000000000"#,
+    r#"01000000000000000000000000000000"#,
+    r#"00000000010000000000000000000000"#,
+    r#"00000000000000000100000000000000"#,
+    r#"000000ff000000000001000000000000"#,
+    r#""}"#,
+    r#",{"op":"buffer","id":1,"size":1024,"usage":["structure"]}"#,
+    r#",{"op":"buffer","id":2,"size":512,"usage":["scratch"]}"#,
+    r#",{"op":"buffer","id":3,"size":144,"usage":["storage"],"data":""#,
+    r#"010000000100000005000000"#,
+    r#"0000000000000000ffffffff"#,
+    r#"0000000000000000"#,
+    r#"0000000100000000"#,
+    r#""}"#,
+    r#",{"op":"structure","id":0,"kind":"bottom","buffer":1,"offset":0,"size":512}"#,
+    r#",{"op":"structure","id":1,"kind":"top","buffer":1,"offset":512,"size":512}"#,
+    r#",{"op":"begin"}"#,
+    r#",{"op":"build","infos":[{"mode":"build","dst":0,"flags":[],"scratch":{"buffer":2,"#,
+    r#""offset":0},"geometries":[{"kind":"triangles","opaque":true,"format":"s32x3","#,
+    r#""vertex":{"buffer":0,"offset":0},"stride":12,"max_vertex":2,"count":1,"#,
+    r#""primitive_offset":0,"first_vertex":0,"transform_offset":0}]}]}"#,
+    r#",{"op":"barrier","src_stages":["all"],"src_access":["memory_write"],"#,
+    r#""dst_stages":["all"],"dst_access":["memory_read","memory_write"]}"#,
+    r#",{"op":"build","infos":[{"mode":"build","dst":1,"flags":[],"scratch":{"buffer":2,"#,
+    r#""offset":0},"geometries":[{"kind":"instances","data":{"buffer":0,"offset":64},"#,
+    r#""count":1,"primitive_offset":0}],"uses":[0]}]}"#,
+    r#",{"op":"barrier","src_stages":["all"],"src_access":["memory_write"],"#,
+    r#""dst_stages":["all"],"dst_access":["memory_read","memory_write"]}"#,
+    r#",{"op":"trace","top":1,"rays":{"buffer":3,"offset":0},"count":1,"hits":{"buffer":3,"#,
+    r#""offset":64},"flags":[],"mask":255,"script":[]}"#,
+    r#",{"op":"barrier","src_stages":["all"],"src_access":["memory_write"],"#,
+    r#""dst_stages":["host"],"dst_access":["host_read"]}"#,
+    r#",{"op":"end"}"#,
+    r#",{"op":"submit"}"#,
+    r#",{"op":"wait"}"#,
+    r#",{"op":"read","buffer":3,"offset":64,"size":80,"form":"hits"}"#,
+    r#"]"#,
+);
+
+// The number of the trace, and that of the read of its hit.
+const TRACE: u32 = 11;
+
+const READ: u32 = 16;
+
+// A triangle's hit at the distance 5, a quarter of the way along two edges.
+const NEAR: HitRecord = HitRecord {
+    kind: 1,
+    instance: 1,
+    custom: 2,
+    sbt: 3,
+    geometry: 4,
+    primitive: 5,
+    face: 1,
+    spare: 0,
+    t: (5, 1),
+    u: (1, 4),
+    v: (1, 4),
+};
+
+#[test]
+fn lays_out_records(rt: HostRuntime) {
+    let apart = HitRecord {
+        kind: 1,
+        instance: 0xffff_fffe,
+        custom: 0x00ab_cdef,
+        sbt: 4,
+        geometry: 5,
+        primitive: 6,
+        face: 2,
+        spare: 7,
+        t: (0x0102_0304_0506_0708, 9),
+        u: (10, 11),
+        v: (12, 1 << 63),
+    };
+    let apart_bytes = [
+        1, 0, 0, 0, 0xfe, 0xff, 0xff, 0xff, 0xef, 0xcd, 0xab, 0, 4, 0, 0, 0, //
+        5, 0, 0, 0, 6, 0, 0, 0, 2, 0, 0, 0, 7, 0, 0, 0, //
+        8, 7, 6, 5, 4, 3, 2, 1, 9, 0, 0, 0, 0, 0, 0, 0, //
+        10, 0, 0, 0, 0, 0, 0, 0, 11, 0, 0, 0, 0, 0, 0, 0, //
+        12, 0, 0, 0, 0, 0, 0, 0, 0, 0, 0, 0, 0, 0, 0, 0x80,
+    ];
+    let rows = [
+        ("each field apart", apart, apart_bytes),
+        ("a miss", HitRecord::MISS, [0; HitRecord::SIZE]),
+    ];
+    for (name, record, want) in rows {
+        let mut bytes = [255; HitRecord::SIZE];
+        record.write(&mut bytes);
+        assert_eq!(rt; bytes, want, "{name}");
+        assert_eq!(rt; HitRecord::read(&bytes), record, "{name}");
+    }
+}
+
+#[test]
+fn counts_pieces(rt: HostRuntime) -> Result<(), Fail> {
+    let wanted = [0, 0, 0, 0, 0, 0, 0, 1, 1, 1, 1, 1, 1, 0, 0, 0, 0];
+    let rec = read_recording(rt.alloc(), TRIANGLE.as_bytes())?;
+    assert_eq!(rt; rec.len(), 17);
+    for (i, want) in (0..).zip(wanted) {
+        assert!(rt; i < rec.len());
+        assert_eq!(rt; pieces(&rec, i), want, "command {i}");
+    }
+    Ok(())
+}
+
+// The text of a recording whose commands run in order, or the first fault with its command.
+fn run<R: Threads + Sync>(
+    rt: &R,
+    alloc: Global,
+    rec: &Recording,
+) -> Result<Vec<u8>, (u32, FetchFault)> {
+    let mut state = State::new(alloc);
+    let mut steps = Steps::<Brand>::zero();
+    let mut text = Vec::new(alloc);
+    for command in 0..rec.len() {
+        let no_memory = (command, FetchFault::NoMemory);
+        state.host(rec, command).map_err(|_| no_memory)?;
+        for part in 0..pieces(rec, command) {
+            let piece = Piece { command, part };
+            let out = fetch(rt, alloc, &state, rec, piece, &mut steps).map_err(|fault| (
+                command, fault,
+            ))?;
+            store(&mut state, rec, out);
+        }
+        state.text(rec, command, &mut text).map_err(|_| no_memory)?;
+    }
+    Ok(text)
+}
+
+#[test]
+fn runs_recordings(rt: HostRuntime) -> Result<(), Fail> {
+    let beyond = FetchFault::Data(DataRule::X2, Place::Element(0, 0, 0));
+    let no_direction = FetchFault::Data(DataRule::X11, Place::Part(0));
+    // Each row has the triangle recording with the first of one text turned into another.
+    let rows: [(&str, &str, &str, Result<&str, (u32, FetchFault)>); 6] = [
+        (
+            "the triangle recording",
+            "[",
+            "[",
+            Ok("0 tri inst 0 custom 0 sbt 0 geom 0 prim 0 face 1 t 5/1 u 1/4 v 1/4\n"),
+        ),
+        (
+            "a ray beside the triangle",
+            r#""data":"0100000001"#,
+            r#""data":"0500000001"#,
+            Ok("0 none\n"),
+        ),
+        (
+            "an inactive triangle",
+            r#""data":"00000000"#,
+            r#""data":"00000080"#,
+            Ok("0 none\n"),
+        ),
+        (
+            "an inactive triangle with a coordinate beyond the limits",
+            r#""data":"0000000000000000"#,
+            r#""data":"00000080ffffff7f"#,
+            Ok("0 none\n"),
+        ),
+        (
+            "the second vertex beyond the limits",
+            "04000000",
+            "01000800",
+            Err((7, beyond)),
+        ),
+        (
+            "a ray without a direction",
+            "ffffffff",
+            "00000000",
+            Err((TRACE, no_direction)),
+        ),
+    ];
+    for (name, from, to, want) in rows {
+        let json = TRIANGLE.replacen(rt.alloc(), from, to, 1)?;
+        let rec = read_recording(rt.alloc(), json.as_bytes())?;
+        let got = run(&rt, rt.alloc(), &rec);
+        match (got, want) {
+            (Ok(text), Ok(want)) => assert_eq!(rt; text.as_slice(), want.as_bytes(), "{name}"),
+            (Ok(_), Err(want)) => assert_eq!(rt; None, Some(want), "{name}"),
+            (Err(fault), want) => assert_eq!(rt; Some(fault), want.err(), "{name}"),
+        }
+    }
+    Ok(())
+}
+
+#[test]
+fn shows_hits(rt: HostRuntime) -> Result<(), Fail> {
+    let rows = [
+        (
+            "a triangle",
+            NEAR,
+            "0 tri inst 1 custom 2 sbt 3 geom 4 prim 5 face 1 t 5/1 u 1/4 v 1/4\n",
+        ),
+        (
+            "a box",
+            HitRecord {
+                kind: 2,
+                face: 0,
+                t: (7, 2),
+                u: (0, 1),
+                v: (0, 1),
+                ..NEAR
+            },
+            "0 box inst 1 custom 2 sbt 3 geom 4 prim 5 face 0 t 7/2 u 0/1 v 0/1\n",
+        ),
+        (
+            "a kind of 9, with the greatest numbers",
+            HitRecord {
+                kind: 9,
+                custom: 4294967295,
+                t: (18446744073709551615, 0),
+                ..NEAR
+            },
+            concat!(
+                "0 bad inst 1 custom 4294967295 sbt 3 geom 4 prim 5 face 1 ",
+                "t 18446744073709551615/0 u 1/4 v 1/4\n"
+            ),
+        ),
+        ("a kind of 0", HitRecord { kind: 0, ..NEAR }, "0 none\n"),
+        ("a miss", HitRecord::MISS, "0 none\n"),
+    ];
+    let rec = read_recording(rt.alloc(), TRIANGLE.as_bytes())?;
+    assert!(rt; READ < rec.len());
+    let mut state = State::new(rt.alloc());
+    for i in 0..rec.len() {
+        state.host(&rec, i)?;
+    }
+    for (name, hit, want) in rows {
+        let piece = Piece {
+            command: TRACE,
+            part: 0,
+        };
+        let output = Output::Hit(hit);
+        store(&mut state, &rec, PieceOut { piece, output });
+        let mut text = Vec::new(rt.alloc());
+        state.text(&rec, READ, &mut text)?;
+        assert_eq!(rt; text.as_slice(), want.as_bytes(), "{name}");
+    }
+    Ok(())
+}
