@@ -1,5 +1,6 @@
--- What each command does: it reads some locations, computes an output from them, and writes some locations. (Own; after
--- the chapters on acceleration structures, ray queries and copies of the Vulkan specification.)
+-- What each command does, as an action at one moment: here, which locations it writes and what its store leaves; what it
+-- computes from the memory stands in `Meaning`. (Own; after the chapters on acceleration structures, ray queries and copies
+-- of the Vulkan specification.)
 use Rattle.std.specs.Prelude.{◌≡◌, ◌<◌, length, slice_index, slice_index_or, ℕ, ◌+◌, ◌-◌, ◌&&◌, ◌==◌, nat_lt, nat_le, Bool, true, false, List, [], slice_get, Some, None, option_map, unwrap_or, if◌then◌else◌}
 use Rattle.ray_cmd.specs.declared.command.Command.{Command}
 use Rattle.ray_cmd.specs.declared.command.Command.TheVariants as commands

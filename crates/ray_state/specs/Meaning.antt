@@ -86,7 +86,8 @@ bottom_of bytes =
     if is_inactive bytes then Gives (Built (Bottom None))
     else bottom_with (triangle_within bytes)
 
--- the id of the structure that a reference names, if it names one: the reference is 256 times one more than the id (own)
+-- the id of the structure that a reference names, if it names one: the reference is 256 times one more than the id; that
+-- of the path form names structure 0 (own)
 abbrev pub structure_id_of : ℕ → Option ℕ
 structure_id_of reference =
     if (reference % 256 == 0) && (nat_lt 0 reference && nat_lt (reference / 256) (2 ^ 32 + 1))
