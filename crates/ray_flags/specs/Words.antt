@@ -1,7 +1,18 @@
 -- The flags of each set: the word of each flag and its bits. Each table is stated here alone, and
 -- `Flags::flags`, `from_word` and the names of each type are proved to be this table.
-use Rattle.std.specs.Prelude.{[], ◌∷◌, codes, List}
+use Rattle.std.specs.Prelude.{[], ◌&&◌, ◌∷◌, ◌==◌, Bool, List, ℕ, codes, length, not, true}
+use Rattle.std.specs.List.{list_all}
+use Rattle.std.specs.Str.{bytes_eq}
 use Rattle.bitflags.specs.Sets.{Row}
+
+-- whether no row has this word (own)
+abbrev pub is_new : List ℕ → List Row → Bool
+is_new word rows = list_all (λ row. not (bytes_eq word row.0)) rows
+
+-- whether each row has a word of its own: it isn't empty, and no later row has it (own)
+abbrev pub has_own_words : List Row → Bool
+has_own_words [] = true
+has_own_words (row ∷ rest) = not (length row.0 == 0) && (is_new row.0 rest && has_own_words rest)
 
 -- what a buffer may be used for (the words stand for VkBufferUsageFlagBits, `scratch` and the bits
 -- are own)

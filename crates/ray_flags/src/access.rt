@@ -1,8 +1,8 @@
-ghost use Rattle.std.specs.Prelude.{⊤, ◌≡◌, option_map};
+ghost use Rattle.std.specs.Prelude.{ℕ, ⊤, ◌≡◌, ◌↔◌, Some, Contains, option_map, refl};
 ghost use Rattle.bitflags.specs.Sets.{find_name};
 ghost use Rattle.ray_flags.specs.Words.{access_words};
 
-use crate::words::flag_list;
+use crate::words::{Words, flag_list};
 use bitflags::{Flag, Flags};
 
 /// Accesses of a barrier. (Vulkan: VkAccessFlagBits; the bits are own.)
@@ -42,11 +42,13 @@ impl Access {
     /// Every write. It is a bit of its own. (VK_ACCESS_MEMORY_WRITE_BIT.)
     pub const MEMORY_WRITE: Access = Access(512);
 
-    /// The access of a word of `access_words` in `specs/Words`. None exactly where the word isn't there.
+    /// The access of this word. None exactly where the word isn't in `access_words` of `specs/Words`.
     pub fn from_word(word: &str) -> Option<Access>
-        ensures { option_map (λ f. f.0) result ≡ find_name access_words word.now }
+        ensures found { option_map (λ f. f.0) result ≡ find_name access_words word.now }
+        ensures row { (bits : ℕ)
+            → (option_map (λ f. f.0) result ≡ Some bits) ↔ Contains access_words (word.now, bits) }
     {
-        Access::from_name(word)
+        Access::of_word(word)
     }
 }
 
@@ -81,4 +83,8 @@ impl Flags for Access {
     fn from_bits_retain(bits: u32) -> Access {
         Access(bits)
     }
+}
+
+impl Words for Access {
+    ghost own = { (tt, refl) };
 }

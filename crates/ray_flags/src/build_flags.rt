@@ -1,8 +1,8 @@
-ghost use Rattle.std.specs.Prelude.{⊤, ◌≡◌, option_map};
+ghost use Rattle.std.specs.Prelude.{ℕ, ⊤, ◌≡◌, ◌↔◌, Some, Contains, option_map, refl};
 ghost use Rattle.bitflags.specs.Sets.{find_name};
 ghost use Rattle.ray_flags.specs.Words.{build_words};
 
-use crate::words::flag_list;
+use crate::words::{Words, flag_list};
 use bitflags::{Flag, Flags};
 
 /// How an acceleration structure is built. (Vulkan: VkBuildAccelerationStructureFlagBitsKHR, with
@@ -26,11 +26,13 @@ impl BuildFlags {
     /// The structure is to be small. (VK_BUILD_ACCELERATION_STRUCTURE_LOW_MEMORY_BIT_KHR.)
     pub const LOW_MEMORY: BuildFlags = BuildFlags(16);
 
-    /// The flag of a word of `build_words` in `specs/Words`. None exactly where the word isn't there.
+    /// The flag of this word. None exactly where the word isn't in `build_words` of `specs/Words`.
     pub fn from_word(word: &str) -> Option<BuildFlags>
-        ensures { option_map (λ f. f.0) result ≡ find_name build_words word.now }
+        ensures found { option_map (λ f. f.0) result ≡ find_name build_words word.now }
+        ensures row { (bits : ℕ)
+            → (option_map (λ f. f.0) result ≡ Some bits) ↔ Contains build_words (word.now, bits) }
     {
-        BuildFlags::from_name(word)
+        BuildFlags::of_word(word)
     }
 }
 
@@ -60,4 +62,8 @@ impl Flags for BuildFlags {
     fn from_bits_retain(bits: u32) -> BuildFlags {
         BuildFlags(bits)
     }
+}
+
+impl Words for BuildFlags {
+    ghost own = { (tt, refl) };
 }

@@ -1,8 +1,8 @@
-ghost use Rattle.std.specs.Prelude.{⊤, ◌≡◌, option_map};
+ghost use Rattle.std.specs.Prelude.{ℕ, ⊤, ◌≡◌, ◌↔◌, Some, Contains, option_map, refl};
 ghost use Rattle.bitflags.specs.Sets.{find_name};
 ghost use Rattle.ray_flags.specs.Words.{ray_words};
 
-use crate::words::flag_list;
+use crate::words::{Words, flag_list};
 use bitflags::{Flag, Flags};
 
 /// What a ray skips and culls, and when it ends. (SPIR-V: Ray Flags of SPV_KHR_ray_query, with
@@ -41,11 +41,13 @@ impl RayFlags {
     /// Boxes are skipped. (SkipAABBsKHR.)
     pub const SKIP_AABBS: RayFlags = RayFlags(512);
 
-    /// The flag of a word of `ray_words` in `specs/Words`. None exactly where the word isn't there.
+    /// The flag of this word. None exactly where the word isn't in `ray_words` of `specs/Words`.
     pub fn from_word(word: &str) -> Option<RayFlags>
-        ensures { option_map (λ f. f.0) result ≡ find_name ray_words word.now }
+        ensures found { option_map (λ f. f.0) result ≡ find_name ray_words word.now }
+        ensures row { (bits : ℕ)
+            → (option_map (λ f. f.0) result ≡ Some bits) ↔ Contains ray_words (word.now, bits) }
     {
-        RayFlags::from_name(word)
+        RayFlags::of_word(word)
     }
 }
 
@@ -80,4 +82,8 @@ impl Flags for RayFlags {
     fn from_bits_retain(bits: u32) -> RayFlags {
         RayFlags(bits)
     }
+}
+
+impl Words for RayFlags {
+    ghost own = { (tt, refl) };
 }

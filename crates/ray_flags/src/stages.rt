@@ -1,8 +1,8 @@
-ghost use Rattle.std.specs.Prelude.{⊤, ◌≡◌, option_map};
+ghost use Rattle.std.specs.Prelude.{ℕ, ⊤, ◌≡◌, ◌↔◌, Some, Contains, option_map, refl};
 ghost use Rattle.bitflags.specs.Sets.{find_name};
 ghost use Rattle.ray_flags.specs.Words.{stage_words};
 
-use crate::words::flag_list;
+use crate::words::{Words, flag_list};
 use bitflags::{Flag, Flags};
 
 /// Stages of a barrier. (Vulkan: VkPipelineStageFlagBits; the bits are own.)
@@ -27,11 +27,13 @@ impl Stages {
     /// (VK_PIPELINE_STAGE_ALL_COMMANDS_BIT.) `Flags::all` has the host too.
     pub const ALL: Stages = Stages(7);
 
-    /// The stages of a word of `stage_words` in `specs/Words`. None exactly where the word isn't there.
+    /// The stages of this word. None exactly where the word isn't in `stage_words` of `specs/Words`.
     pub fn from_word(word: &str) -> Option<Stages>
-        ensures { option_map (λ f. f.0) result ≡ find_name stage_words word.now }
+        ensures found { option_map (λ f. f.0) result ≡ find_name stage_words word.now }
+        ensures row { (bits : ℕ)
+            → (option_map (λ f. f.0) result ≡ Some bits) ↔ Contains stage_words (word.now, bits) }
     {
-        Stages::from_name(word)
+        Stages::of_word(word)
     }
 }
 
@@ -61,4 +63,8 @@ impl Flags for Stages {
     fn from_bits_retain(bits: u32) -> Stages {
         Stages(bits)
     }
+}
+
+impl Words for Stages {
+    ghost own = { (tt, refl) };
 }

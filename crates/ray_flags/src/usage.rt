@@ -1,8 +1,8 @@
-ghost use Rattle.std.specs.Prelude.{⊤, ◌≡◌, option_map};
+ghost use Rattle.std.specs.Prelude.{ℕ, ⊤, ◌≡◌, ◌↔◌, Some, Contains, option_map, refl};
 ghost use Rattle.bitflags.specs.Sets.{find_name};
 ghost use Rattle.ray_flags.specs.Words.{usage_words};
 
-use crate::words::flag_list;
+use crate::words::{Words, flag_list};
 use bitflags::{Flag, Flags};
 
 /// What a buffer may be used for. (Vulkan: VkBufferUsageFlagBits; the bits are own.)
@@ -30,11 +30,13 @@ impl Usage {
     /// Memory of acceleration structures. (VK_BUFFER_USAGE_ACCELERATION_STRUCTURE_STORAGE_BIT_KHR.)
     pub const STRUCTURE: Usage = Usage(32);
 
-    /// The usage of a word of `usage_words` in `specs/Words`. None exactly where the word isn't there.
+    /// The usage of this word. None exactly where the word isn't in `usage_words` of `specs/Words`.
     pub fn from_word(word: &str) -> Option<Usage>
-        ensures { option_map (λ f. f.0) result ≡ find_name usage_words word.now }
+        ensures found { option_map (λ f. f.0) result ≡ find_name usage_words word.now }
+        ensures row { (bits : ℕ)
+            → (option_map (λ f. f.0) result ≡ Some bits) ↔ Contains usage_words (word.now, bits) }
     {
-        Usage::from_name(word)
+        Usage::of_word(word)
     }
 }
 
@@ -65,4 +67,8 @@ impl Flags for Usage {
     fn from_bits_retain(bits: u32) -> Usage {
         Usage(bits)
     }
+}
+
+impl Words for Usage {
+    ghost own = { (tt, refl) };
 }
