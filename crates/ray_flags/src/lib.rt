@@ -1,0 +1,17 @@
+//! The words of a recording that name flags, and what the flags of rays and instances admit.
+#![tactic(auto)]
+
+mod access;
+mod build_flags;
+mod instance_flags;
+mod ray_flags;
+mod stages;
+mod usage;
+mod words;
+
+pub use access::Access;
+pub use build_flags::BuildFlags;
+pub use instance_flags::InstanceFlags;
+pub use ray_flags::RayFlags;
+pub use stages::Stages;
+pub use usage::Usage;
