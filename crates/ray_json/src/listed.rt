@@ -43,4 +43,11 @@ impl<T> Listed<T> {
     {
         self.items.as_slice()
     }
+
+    /// The items as a `Vec`.
+    pub fn into_vec(self) -> Vec<T>
+        ensures { result.items ≡ self }
+    {
+        self.items
+    }
 }

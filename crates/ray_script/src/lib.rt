@@ -1,0 +1,23 @@
+//! Scripts: lists of rules by which a recording says what its client decides on candidates.
+//!
+//! A script is read in two steps. [`raw_rules`] reads the rules as they stand in JSON, by `rule_of`
+//! of `specs/Rules`: it says only whether they have the shape of rules. [`script_of`] then makes a
+//! [`Script`] of them, or names the first rule that is out of range, by `refused_at` of
+//! `specs/Scripts`. Contracts see a script as its list of rules.
+//!
+//! The layer above uses both clauses: the first as a part of its grammar, the second as the rule on
+//! scripts. It stands on ray_json.
+#![tactic(auto)]
+
+mod choice_word;
+mod raw_choice;
+mod raw_rule;
+mod reading;
+mod script;
+#[cfg(test)]
+mod tests;
+
+pub use crate::raw_choice::RawChoice;
+pub use crate::raw_rule::RawRule;
+pub use crate::reading::{NotRules, RuleReader, raw_rules};
+pub use crate::script::{BadScript, MOST_RULES, Script, script_of};
