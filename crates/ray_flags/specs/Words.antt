@@ -1,9 +1,17 @@
 -- The flags of each set: the word of each flag and its bits. Each table is stated here alone, and
 -- `Flags::flags`, `from_word` and the names of each type are proved to be this table.
-use Rattle.std.specs.Prelude.{[], ◌&&◌, ◌∷◌, ◌==◌, Bool, List, ℕ, codes, length, not, true}
+use Rattle.std.specs.Prelude.{[], ◌&&◌, ◌∷◌, ◌==◌, Bool, List, ℕ, codes, false, length, not, true}
+use Rattle.std.specs.Int.RustNames.{bit_and}
 use Rattle.std.specs.List.{list_all}
+use Rattle.std.specs.Option.{option_map_or}
 use Rattle.std.specs.Str.{bytes_eq}
-use Rattle.bitflags.specs.Sets.{Row}
+use Rattle.bitflags.specs.Sets.{Row, find_name, find_row}
+use Prim.Native.String.{String}
+
+-- whether a set of bits has the flag of this word of its table: all of the flag's bits (own)
+unfoldable pub has : List Row → String → ℕ → Bool
+unfolding find_row
+has table word set = option_map_or (λ bits. bit_and set bits == bits) (find_name table (codes word)) false
 
 -- whether no row has this word (own)
 abbrev pub is_new : List ℕ → List Row → Bool
