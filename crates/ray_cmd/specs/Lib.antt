@@ -1,5 +1,13 @@
-pub mod Compact
-pub mod FormView
+pub mod Words
+pub mod Places
+pub mod Geometries
+pub mod Infos
+pub mod Host
+pub mod Transfer
+pub mod Building
+pub mod Copies
+pub mod Tracing
+pub mod Grammar
 pub mod Json
-pub mod PathForm
-pub mod Texts
+pub mod Counting
+pub mod Recordings

@@ -1,13 +1,14 @@
 use std::alloc::{AllocError, AllocFailed};
 
-/// Why bytes are no recording that can be run. Own.
+/// Why bytes are no recording. Own.
 #[derive(Clone, Copy, Debug, PartialEq, Eq)]
 pub enum RecordingFault {
     /// The bytes are no UTF-8 or no JSON.
     NotJson,
-    /// The JSON isn't in the path form. The number is that of the first command that differs: 0 for
-    /// a value that is no array, and at most 17.
-    Unbuilt(u32),
+    /// This command is the first that has no shape of a command. It is 0 where the JSON is no
+    /// array, and 65,536 where the array has more commands than that and none before is outside the
+    /// shapes.
+    BadShape(u32),
     /// There was no memory to read the recording.
     NoMemory,
 }

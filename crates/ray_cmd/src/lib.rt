@@ -1,23 +1,56 @@
 //! The recording: reads a JSON text as the commands of a recording, or says which command is the
-//! first that isn't built.
+//! first that has no shape of a command.
 //!
-//! Built today is the path form alone: the triangle recording with any vertices and any ray. The
-//! layers above use `read_recording`, whose clauses say exactly which texts it reads and as what
-//! (`IsPathRecording`). JSON is read by `serde_json`, hexadecimal digits by `hex`.
+//! The layers above use [`read_recording`], whose clause `answer` says by `recording_of` of
+//! `specs/Recordings` exactly which texts it reads and as what. The grammar of a command is
+//! `command_of` of `specs/Grammar`, a line a member; it goes from the data of a JSON value to a
+//! [`Command`], and names no program. A command is data: an enum with one variant a command and its
+//! members as fields.
+//!
+//! It stands on ray_json (readers of fields), ray_flags and ray_bytes (words and formats) and
+//! ray_script (the rules of a script).
 #![tactic(auto)]
 
-mod buffers;
-mod bytes;
+mod asked;
+mod build_mode;
 mod command;
+mod copy_mode;
+mod counting;
 mod fault;
-mod form;
+mod fields;
+mod flag_sets;
+mod geometry;
+mod geometry_kind;
+mod index;
+mod info;
+mod op;
+mod read_form;
 mod reading;
 mod recording;
-mod spelling;
-mod texts;
+mod region;
+mod shapes;
+mod spot;
+mod stretch;
+mod structure_kind;
+mod thing;
 
-pub use bytes::Bytes;
-pub use command::Command;
-pub use fault::RecordingFault;
-pub use reading::read_recording;
-pub use recording::Recording;
+pub use crate::asked::Asked;
+pub use crate::build_mode::BuildMode;
+pub use crate::command::Command;
+pub use crate::copy_mode::CopyMode;
+pub use crate::fault::RecordingFault;
+pub use crate::geometry::Geometry;
+pub use crate::index::Index;
+pub use crate::info::Info;
+pub use crate::read_form::ReadForm;
+pub use crate::reading::read_recording;
+pub use crate::recording::Recording;
+pub use crate::region::Region;
+pub use crate::spot::Spot;
+pub use crate::stretch::Stretch;
+pub use crate::structure_kind::StructureKind;
+pub use crate::thing::Thing;
+pub use ray_bytes::Format;
+pub use ray_flags::{Access, BuildFlags, RayFlags, Stages, Usage};
+pub use ray_json::{Bytes, Listed};
+pub use ray_script::{RawChoice, RawRule};

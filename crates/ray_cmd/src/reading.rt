@@ -1,61 +1,47 @@
-ghost use Rattle.std.specs.Prelude.{◌≡◌, ◌≢◌, ◌≤◌, ◌⊎◌, ℕ, List, IfOk, IfErr};
-ghost use Rattle.serde_json.specs.Data.{Data, depth, items_depth};
-ghost use Rattle.serde_json.specs.Read.{max_depth};
+ghost use Rattle.std.specs.Prelude.{◌≡◌, ◌⊎◌, IfOk, IfErr};
 ghost use Rattle.serde_json.specs.View.{view, items_view};
-ghost use Rattle.ray_cmd.specs.Compact.{IsCompactOf, IsReadingBy, IsReadingAt};
 ghost use Rattle.ray_cmd.specs.Json.{json_of};
-ghost use Rattle.ray_cmd.specs.declared.command.Command.{Command};
-ghost use Rattle.ray_cmd.specs.PathForm.{IsPathRecording, IsUnbuilt, IsFirstDifference, ReadsInFull, fixed};
+ghost use Rattle.ray_cmd.specs.Counting.{listed_in, less};
+ghost use Rattle.ray_cmd.specs.Grammar.{command_of};
+ghost use Rattle.ray_cmd.specs.Recordings.{most_members, or_bad, commands_from, recording_of, Answers};
 
-use crate::buffers::{input_buffer, storage_buffer};
 use crate::command::Command;
+use crate::counting::left_after;
 use crate::fault::RecordingFault;
-use crate::form::{Form, form_at};
-use crate::recording::Recording;
-use crate::spelling::spells;
+use crate::recording::{MOST_COMMANDS, Recording};
+use crate::shapes;
+use ray_json::{Listed, ReadFault};
 use serde_json::Value;
-use std::alloc::{AllocError, Global};
+use std::alloc::Global;
 
 #[cfg(test)]
 mod tests;
 
-/// The number of the commands of a path recording.
-const COMMANDS: usize = 17;
+/// The greatest number of members that all lists of a recording have together.
+const MOST_MEMBERS: u64 = 1 << 26;
 
-/// Reads the bytes of a JSON text as a recording in the path form. Own.
+/// Reads the bytes of a JSON text as a recording. Own.
 ///
 /// # Errors
 ///
-/// `NotJson` where the bytes are no UTF-8 or no JSON. `Unbuilt(i)` where they are other JSON: command
-/// `i` is the first that differs from the triangle recording in more than its vertices or its ray.
-/// It is 0 for a value that is no array, the length of an array that is too short and 17 for one that
-/// is too long. `NoMemory` may come on any input: the whole JSON value is read before the first
-/// command is compared, and it can take many times the memory of the bytes.
+/// `NotJson` where the bytes are no UTF-8 or no JSON. `BadShape(i)` where command `i` is the first
+/// that has no shape of a command, or with which the lists have more than 2^26 members together. It
+/// is 0 for a value that is no array, and 65,536 for an array of more commands where none before is
+/// bad. `NoMemory` may come on any input: the whole JSON value is read before the first command is,
+/// and it can take many times the memory of the bytes.
 pub fn read_recording(alloc: Global, bytes: &[u8]) -> Result<Recording, RecordingFault>
-    ensures ok { IfOk result (λ recording. IsPathRecording bytes.now recording) }
-
-    // One text is read as one recording.
-    ensures only { IfOk result (λ recording.
-        (cs : List Command) → IsPathRecording bytes.now cs → cs ≡ recording) }
-    ensures not_json { result ≡ Err RecordingFault.NotJson → json_of bytes.now ≡ None }
-    ensures unbuilt { (i : ℕ) → result ≡ Err (RecordingFault.Unbuilt i)
-        → IsUnbuilt bytes.now i }
-
-    // What is in the path form is refused for memory alone.
-    ensures complete { (cs : List Command) → IsPathRecording bytes.now cs
-        → IfErr result (λ e. e ≡ RecordingFault.NoMemory) }
+    ensures answer { Answers result (recording_of bytes.now) }
 {
     let value = json(alloc, bytes)?;
     match value.as_array() {
         Some(values) => recording(alloc, values.as_slice()),
-        None => Err(RecordingFault::Unbuilt(0)),
+        None => Err(RecordingFault::BadShape(0)),
     }
 }
 
 // The JSON value of the bytes.
 fn json(alloc: Global, bytes: &[u8]) -> Result<Value, RecordingFault>
     ensures ok { IfOk result (λ v. json_of bytes.now ≡ Some (view v)) }
-    ensures nests { IfOk result (λ v. depth (view v) ≤ max_depth) }
     ensures err { IfErr result (λ e. (e ≡ RecordingFault.NoMemory)
         ⊎ ((e ≡ RecordingFault.NotJson) × (json_of bytes.now ≡ None))) }
 {
@@ -72,53 +58,37 @@ fn json(alloc: Global, bytes: &[u8]) -> Result<Value, RecordingFault>
 }
 
 // The commands of the items of an array.
+#[tactic(auto, unfolding(crate::specs::Recordings::commands_from))]
 fn recording(alloc: Global, values: &[Value]) -> Result<Recording, RecordingFault>
-    requires { items_depth (items_view values.now) ≤ max_depth }
-    ensures ok { IfOk result (λ recording. ReadsInFull (items_view values.now) recording) }
-    ensures json { result ≢ Err RecordingFault.NotJson }
-    ensures unbuilt { (i : ℕ) → result ≡ Err (RecordingFault.Unbuilt i)
-        → IsFirstDifference i (items_view values.now) }
+    ensures { Answers result (commands_from 0 most_members (items_view values.now)) }
 {
-    let mut commands = Vec::new(alloc);
+    let mut commands = Listed::new(alloc);
+    let mut left = MOST_MEMBERS;
     for (i, value) in values.iter().enumerate() {
-        match command(alloc, i, value)? {
-            Some(command) => commands.push(command)?,
-            None => return Err(RecordingFault::Unbuilt(i as u32)),
+        if MOST_COMMANDS <= i {
+            return Err(RecordingFault::BadShape(MOST_COMMANDS as u32));
         }
-    }
-    if commands.len() < COMMANDS {
-        return Err(RecordingFault::Unbuilt(commands.len() as u32));
+        let command = command(alloc, i as u32, value)?;
+        left = left_in(i as u32, value, left)?;
+        commands.push(command)?;
     }
     Ok(Recording::new(commands))
 }
 
-// The command that a value reads as at number `i`, if there is one.
-fn command(alloc: Global, i: usize, value: &Value) -> Result<Option<Command>, AllocError>
-    requires { depth (view value.now) ≤ max_depth }
-    ensures { IfOk result (IsReadingAt i (view value.now)) }
+// How many members lists may have after those of command number `i`.
+fn left_in(i: u32, value: &Value, left: u64) -> Result<u64, RecordingFault>
+    ensures { result ≡ or_bad i (less (listed_in (view value.now)) left) }
 {
-    match form_at(i) {
-        Some(Form::Fixed(text, command)) => fixed(alloc, value, text, command),
-        Some(Form::Input(text)) => input_buffer(alloc, value, text),
-        Some(Form::Storage(text)) => storage_buffer(alloc, value, text),
-        None => Ok(None),
-    }
+    left_after(value, left).ok_or(RecordingFault::BadShape(i))
 }
 
-// The command, where the text spells the value.
-fn fixed(
-    alloc: Global,
-    value: &Value,
-    text: &str,
-    command: Command,
-) -> Result<Option<Command>, AllocError>
-    requires shallow { depth (view value.now) ≤ max_depth }
-    requires compact { (d : Data) × IsCompactOf text.now d }
-    ensures { IfOk result (IsReadingBy (fixed text.now command) (view value.now)) }
+// Command number `i`.
+fn command(alloc: Global, i: u32, value: &Value) -> Result<Command, RecordingFault>
+    ensures { Answers result (or_bad i (command_of (view value.now))) }
 {
-    if spells(alloc, text, value)? {
-        Ok(Some(command))
-    } else {
-        Ok(None)
+    match shapes::command(alloc, value) {
+        Ok(command) => Ok(command),
+        Err(ReadFault::Shape) => Err(RecordingFault::BadShape(i)),
+        Err(ReadFault::NoMemory) => Err(RecordingFault::NoMemory),
     }
 }

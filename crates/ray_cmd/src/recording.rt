@@ -1,12 +1,16 @@
 ghost use Rattle.std.specs.Prelude.{◌≡◌, ◌<◌, ◌≤◌, length, slice_get, Some};
 
 use crate::command::Command;
+use ray_json::Listed;
 use std::marker::Model;
+
+// The greatest number of commands.
+pub(crate) const MOST_COMMANDS: usize = 65536;
 
 /// The commands of a recording, numbered from 0. Contracts see them as a list.
 #[derive(Drop)]
 pub struct Recording {
-    commands: Vec<Command>,
+    commands: Listed<Command>,
 }
 
 impl Model for Recording {
@@ -15,15 +19,15 @@ impl Model for Recording {
 
     ghost Value = { List Command };
 
-    ghost view = { λ r. r.commands.items };
+    ghost view = { λ r. r.commands };
 
-    ghost invariant = { λ r. length r.commands.items ≤ 65536 };
+    ghost invariant = { λ r. length r.commands ≤ 65536 };
 }
 
 impl Recording {
-    pub(crate) fn new(commands: Vec<Command>) -> Self
-        requires { length commands.items ≤ 65536 }
-        ensures { result ≡ commands.items }
+    pub(crate) fn new(commands: Listed<Command>) -> Self
+        requires { length commands ≤ 65536 }
+        ensures { result ≡ commands }
     {
         Recording { commands }
     }
@@ -32,7 +36,7 @@ impl Recording {
     pub fn len(&self) -> u32
         ensures { result ≡ length self.now }
     {
-        self.commands.len() as u32
+        self.commands.as_slice().len() as u32
     }
 
     /// Command number `i`, from 0. `i` has to be below [`Recording::len`].
@@ -40,6 +44,6 @@ impl Recording {
         requires { i < length self.now }
         ensures { slice_get self.now i ≡ Some result.now }
     {
-        &self.commands[i as usize]
+        &self.commands.as_slice()[i as usize]
     }
 }

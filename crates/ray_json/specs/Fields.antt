@@ -97,3 +97,11 @@ at_if_there spells (Some d) = maybe (spells d)
 
 abbrev pub optional_at : {A : Type 0} → (Data → Option A) → List ℕ → Data → Option (Option A)
 optional_at spells name d = at_if_there spells (get name d)
+
+-- a list that is empty where it is absent
+abbrev pub listed_if_there : {A : Type 0} → (Data → Option A) → Option Data → Option (List A)
+listed_if_there spells None = Some []
+listed_if_there spells (Some d) = list_of spells d
+
+abbrev pub listed_at : {A : Type 0} → (Data → Option A) → List ℕ → Data → Option (List A)
+listed_at spells name d = listed_if_there spells (get name d)
