@@ -1,0 +1,2 @@
+pub mod LittleBytes
+pub mod HitLaws
