@@ -1,6 +1,7 @@
 -- The values before the first missing one, place by place.
-use Rattle.std.proofs.Common.{◌≡◌, ℕ, zero, suc, ◌+◌, ◌<◌, ◌≤◌, List, [], ◌∷◌, length, map, Option, Some, None, slice_index_or, refl, sym, ap, ◌∙◌, arith}
+use Rattle.std.proofs.Common.{◌≡◌, ℕ, zero, suc, ◌+◌, ◌<◌, ◌≤◌, List, [], ◌∷◌, length, map, Option, Some, None, slice_index_or, All, refl, sym, ap, ◌∙◌, arith}
 use Rattle.std.specs.List.{range_with_len}
+use Rattle.std.proofs.lemmas.List.Elements.{All-cons, All-nil}
 use Rattle.ray_bytes.specs.Slices.{before_missing, AreFirst}
 
 -- where there is none at i, there is nothing
@@ -55,3 +56,18 @@ first_records at count =
       each = λ k d lt. let e : k ≡ 0 + k = omega arith in ap at e ∙ first.each k d lt;
       ends = λ lt. let e : length _ ≡ 0 + length _ = omega arith in ap at e ∙ first.ends lt;
     }
+
+-- one value more in front
+all_step :
+    {X : Type 0} (P : X → Type 0) (r : Option X) (rest : List (Option X)) → ((x : X) → r ≡ Some x → P x)
+    → All P (before_missing rest) → All P (before_missing (r ∷ rest))
+all_step P None rest here others = All-nil P
+all_step P (Some x) rest here others = All-cons P x (before_missing rest) (here x refl) others
+
+-- what holds of each value that may come holds of all that come
+pub All-before_missing :
+    {X : Type 0} (P : X → Type 0) (at : ℕ → Option X) → ((k : ℕ) (x : X) → at k ≡ Some x → P x)
+    → (n i : ℕ) → All P (before_missing (map at (range_with_len i n)))
+All-before_missing P at each zero i = All-nil P
+All-before_missing {X} P at each (suc n) i =
+    all_step P (at i) (map at (range_with_len (i + 1) n)) (each i) (All-before_missing P at each n (i + 1))

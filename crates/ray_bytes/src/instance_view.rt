@@ -1,4 +1,4 @@
-ghost use Rattle.std.specs.Prelude.{◌≡◌, ◌≤◌, length};
+ghost use Rattle.std.specs.Prelude.{◌≡◌, ◌≤◌, length, All};
 ghost use Rattle.std.specs.Option.{option_map};
 ghost use Rattle.ray_bytes.specs.Slices.{record_at, records_from, AreFirst};
 ghost use Rattle.ray_bytes.specs.Records.{instance_of};
@@ -55,6 +55,7 @@ impl<'a> InstanceView<'a> {
             result ≡ records_from v.bytes v.start 64 64 0 count }
         ensures first { let v = self.now in
             AreFirst (record_at v.bytes v.start 64 64) count result }
+        ensures sized { All (λ part. length part ≡ 64) result }
     {
         Parts::new(self.bytes, self.start, SIZE, SIZE, count)
     }

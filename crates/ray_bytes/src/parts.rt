@@ -1,4 +1,4 @@
-ghost use Rattle.std.specs.Prelude.{◌≡◌};
+ghost use Rattle.std.specs.Prelude.{◌≡◌, length, All};
 ghost use Rattle.ray_bytes.specs.Slices.{record_at, records_from, AreFirst};
 
 use crate::slice::slice;
@@ -32,6 +32,7 @@ impl<'a> Parts<'a> {
     pub(crate) fn new(bytes: &'a [u8], start: u64, stride: u32, width: u32, count: u32) -> Parts<'a>
         ensures value { result ≡ records_from bytes.now start stride width 0 count }
         ensures first { AreFirst (record_at bytes.now start stride width) count result }
+        ensures sized { All (λ part. length part ≡ width) result }
     {
         Parts {
             bytes,

@@ -1,4 +1,4 @@
-ghost use Rattle.std.specs.Prelude.{◌≡◌, IfSome, length};
+ghost use Rattle.std.specs.Prelude.{◌≡◌, IfSome, length, All};
 ghost use Rattle.std.specs.Option.{option_map, option_copied};
 ghost use Rattle.ray_bytes.specs.Formats.{vertex_size};
 ghost use Rattle.ray_bytes.specs.Slices.{record_at, records_from, AreFirst};
@@ -79,6 +79,7 @@ impl<'a> VertexView<'a> {
             result ≡ records_from v.bytes v.start v.stride (vertex_size v.format) 0 count }
         ensures first { let v = self.now in
             AreFirst (record_at v.bytes v.start v.stride (vertex_size v.format)) count result }
+        ensures sized { All (λ part. length part ≡ vertex_size self.now.format) result }
     {
         Parts::new(
             self.bytes,
