@@ -4,6 +4,7 @@ use Rattle.std.proofs.lemmas.List.{drop_all}
 use Rattle.std.proofs.lemmas.List.Elements.{All-cons, All-nil}
 use Rattle.byteorder.specs.Numbers.{little_number-reads_back}
 use Rattle.ray_bytes.specs.declared.hit_record.HitRecord.{HitRecord}
+use Rattle.ray_bytes.specs.Fields.{word_at, long_at}
 use Rattle.ray_bytes.specs.Hits.{hit_words, hit_numbers, hit_bytes, hit_of_bytes}
 use Rattle.ray_bytes.proofs.LittleBytes.{little_bytes-at}
 
@@ -28,6 +29,7 @@ words_fit h kind instance custom sbt geometry primitive face spare =
 pub hit_of_bytes-hit_bytes :
     (h : HitRecord) → All (λ word. word < 2 ^ 32) (hit_words h) → All (λ number. number < 2 ^ 64) (hit_numbers h)
     → hit_of_bytes (hit_bytes h) ≡ h
+unfolding word_at long_at
 hit_of_bytes-hit_bytes h words numbers = λ i. record {
   kind = little_number-reads_back 4 h.kind [] (words 0 0 (lit< tt)) i;
   instance = little_number-reads_back 4 h.instance [] (words 1 0 (lit< tt)) i;
@@ -46,6 +48,7 @@ hit_of_bytes-hit_bytes h words numbers = λ i. record {
 pub hit_bytes-hit_of_bytes :
     (bytes : List ℕ) → ((i : ℕ) → slice_index bytes i < 256) → length bytes ≡ 80
     → hit_bytes (hit_of_bytes bytes) ≡ bytes
+unfolding word_at long_at
 hit_bytes-hit_of_bytes bytes fits long =
     let end : drop 80 bytes ≡ [] = drop_all 80 bytes (omega arith) in
     little_bytes-at 4 0 bytes _ fits (omega arith)

@@ -1,4 +1,4 @@
-use Rattle.std.proofs.Common.{◌≡◌, ℕ, ◌+◌, ◌*◌, ◌≤◌, List, length, Some, nat_le, take, drop, rules, arith}
+use Rattle.std.proofs.Common.{◌≡◌, ℕ, List, length, Some, arith}
 use Rattle.std.proofs.lemmas.Grind.{common_steps}
 use Rattle.ray_bytes.specs.Slices.{record_at}
 use Rattle.ray_bytes.proofs.FirstRecords.{first_records, All-before_missing}
