@@ -6,11 +6,17 @@ use Rattle.byteorder.specs.Endian.{little_bytes}
 use Rattle.ray_bytes.specs.declared.hit_record.HitRecord.{HitRecord}
 use Rattle.ray_bytes.specs.Fields.{word_at, long_at}
 
+-- the eight words of a hit, in order
+abbrev pub hit_words : HitRecord → List ℕ
+hit_words h = h.kind ∷ h.instance ∷ h.custom ∷ h.sbt ∷ h.geometry ∷ h.primitive ∷ h.face ∷ h.spare ∷ []
+
+-- its numerators and denominators, in order
+abbrev pub hit_numbers : HitRecord → List ℕ
+hit_numbers h = h.t.0 ∷ h.t.1 ∷ h.u.0 ∷ h.u.1 ∷ h.v.0 ∷ h.v.1 ∷ []
+
 -- the 80 bytes of a hit: eight words, then six 64-bit numbers
 abbrev pub hit_bytes : HitRecord → List ℕ
-hit_bytes h =
-    flat_map (little_bytes 4) (h.kind ∷ h.instance ∷ h.custom ∷ h.sbt ∷ h.geometry ∷ h.primitive ∷ h.face ∷ h.spare ∷ [])
-    ++ flat_map (little_bytes 8) (h.t.0 ∷ h.t.1 ∷ h.u.0 ∷ h.u.1 ∷ h.v.0 ∷ h.v.1 ∷ [])
+hit_bytes h = flat_map (little_bytes 4) (hit_words h) ++ flat_map (little_bytes 8) (hit_numbers h)
 
 -- the hit that stands in 80 bytes
 abbrev pub hit_of_bytes : List ℕ → HitRecord

@@ -29,7 +29,7 @@ box_of bytes =
     ∷ signed_at bytes 12 ∷ signed_at bytes 16 ∷ signed_at bytes 20 ∷ []
 
 -- a transform: three rows of four entries
-unfoldable pub transform_of : List ℕ → List ℤ
+abbrev pub transform_of : List ℕ → List ℤ
 transform_of bytes =
     signed_at bytes 0 ∷ signed_at bytes 4 ∷ signed_at bytes 8 ∷ signed_at bytes 12
     ∷ signed_at bytes 16 ∷ signed_at bytes 20 ∷ signed_at bytes 24 ∷ signed_at bytes 28

@@ -1,6 +1,6 @@
-ghost use Rattle.std.specs.Prelude.{◌≡◌};
+ghost use Rattle.std.specs.Prelude.{◌≡◌, length, All};
 ghost use Rattle.std.specs.Option.{option_map};
-ghost use Rattle.ray_bytes.specs.Slices.{record_at, records_from};
+ghost use Rattle.ray_bytes.specs.Slices.{record_at, records_from, AreFirst};
 ghost use Rattle.ray_bytes.specs.Records.{box_of};
 
 use crate::fields::signed;
@@ -58,7 +58,11 @@ impl<'a> BoxView<'a> {
 
     /// The bytes of the first `count` boxes, up to the first that isn't whole.
     pub fn parts(&self, count: u32) -> Parts<'a>
-        ensures { let v = self.now in result ≡ records_from v.bytes v.start v.stride 24 0 count }
+        ensures value { let v = self.now in
+            result ≡ records_from v.bytes v.start v.stride 24 0 count }
+        ensures first { let v = self.now in
+            AreFirst (record_at v.bytes v.start v.stride 24) count result }
+        ensures sized { All (λ part. length part ≡ 24) result }
     {
         Parts::new(self.bytes, self.start, self.stride, SIZE, count)
     }

@@ -4,6 +4,7 @@ ghost use Rattle.ray_bytes.specs.Fields.{half_at, short_at, word_at, signed_at, 
 use byteorder::{ByteOrder, LittleEndian};
 
 // The 16-bit number at a place.
+#[tactic(auto, unfolding(crate::specs::Fields::half_at))]
 pub(crate) fn half(bytes: &[u8], at: usize) -> u16
     requires { at + 2 ≤ length bytes.now }
     ensures { result ≡ half_at bytes.now at }
@@ -12,6 +13,7 @@ pub(crate) fn half(bytes: &[u8], at: usize) -> u16
 }
 
 // The signed 16-bit number at a place.
+#[tactic(auto, unfolding(crate::specs::Fields::short_at, crate::specs::Fields::half_at))]
 pub(crate) fn short(bytes: &[u8], at: usize) -> i32
     requires { at + 2 ≤ length bytes.now }
     ensures { result ≡ short_at bytes.now at }
@@ -20,6 +22,7 @@ pub(crate) fn short(bytes: &[u8], at: usize) -> i32
 }
 
 // The 32-bit number at a place.
+#[tactic(auto, unfolding(crate::specs::Fields::word_at))]
 pub(crate) fn word(bytes: &[u8], at: usize) -> u32
     requires { at + 4 ≤ length bytes.now }
     ensures { result ≡ word_at bytes.now at }
@@ -28,6 +31,7 @@ pub(crate) fn word(bytes: &[u8], at: usize) -> u32
 }
 
 // The signed 32-bit number at a place.
+#[tactic(auto, unfolding(crate::specs::Fields::signed_at, crate::specs::Fields::word_at))]
 pub(crate) fn signed(bytes: &[u8], at: usize) -> i32
     requires { at + 4 ≤ length bytes.now }
     ensures { result ≡ signed_at bytes.now at }
@@ -36,6 +40,7 @@ pub(crate) fn signed(bytes: &[u8], at: usize) -> i32
 }
 
 // The 64-bit number at a place.
+#[tactic(auto, unfolding(crate::specs::Fields::long_at))]
 pub(crate) fn long(bytes: &[u8], at: usize) -> u64
     requires { at + 8 ≤ length bytes.now }
     ensures { result ≡ long_at bytes.now at }

@@ -1,4 +1,4 @@
-ghost use Rattle.std.specs.Prelude.{◌≡◌, length};
+ghost use Rattle.std.specs.Prelude.{◌≡◌, ◌<◌, ◌^◌, length, All};
 
 use crate::fields::{long, word};
 use byteorder::{ByteOrder, LittleEndian};
@@ -32,7 +32,7 @@ pub struct HitRecord {
 }
 
 impl HitRecord {
-    ghost use Rattle.ray_bytes.specs.Hits.{hit_bytes, hit_of_bytes};
+    ghost use Rattle.ray_bytes.specs.Hits.{hit_words, hit_numbers, hit_bytes, hit_of_bytes};
 
     /// How many bytes a record has.
     pub const SIZE: usize = 80;
@@ -55,19 +55,11 @@ impl HitRecord {
     /// Writes the record over `out`, which has 80 bytes.
     pub fn write(&self, out: &mut [u8])
         requires { length out.old ≡ 80 }
-        ensures { out.new ≡ hit_bytes self.now }
+        ensures written { out.new ≡ hit_bytes self.now }
+        ensures reads_back { hit_of_bytes out.new ≡ self.now }
     {
-        let words = [
-            self.kind,
-            self.instance,
-            self.custom,
-            self.sbt,
-            self.geometry,
-            self.primitive,
-            self.face,
-            self.spare,
-        ];
-        let numbers = [self.t.0, self.t.1, self.u.0, self.u.1, self.v.0, self.v.1];
+        let words = self.words();
+        let numbers = self.numbers();
         let (head, tail) = out.split_at_mut(32);
         LittleEndian::write_u32_into(&words, head);
         LittleEndian::write_u64_into(&numbers, tail);
@@ -76,7 +68,8 @@ impl HitRecord {
     /// Reads a record from 80 bytes.
     pub fn read(bytes: &[u8]) -> HitRecord
         requires { length bytes.now ≡ 80 }
-        ensures { result ≡ hit_of_bytes bytes.now }
+        ensures value { result ≡ hit_of_bytes bytes.now }
+        ensures writes_back { hit_bytes result ≡ bytes.now }
     {
         HitRecord {
             kind: word(bytes, 0),
@@ -91,5 +84,30 @@ impl HitRecord {
             u: (long(bytes, 48), long(bytes, 56)),
             v: (long(bytes, 64), long(bytes, 72)),
         }
+    }
+
+    // The eight words, in order.
+    fn words(self) -> [u32; 8]
+        ensures value { result ≡ hit_words self }
+        ensures fit { All (λ word. word < 2 ^ 32) (hit_words self) }
+    {
+        [
+            self.kind,
+            self.instance,
+            self.custom,
+            self.sbt,
+            self.geometry,
+            self.primitive,
+            self.face,
+            self.spare,
+        ]
+    }
+
+    // The numerators and denominators, in order.
+    fn numbers(self) -> [u64; 6]
+        ensures value { result ≡ hit_numbers self }
+        ensures fit { All (λ number. number < 2 ^ 64) (hit_numbers self) }
+    {
+        [self.t.0, self.t.1, self.u.0, self.u.1, self.v.0, self.v.1]
     }
 }

@@ -1,6 +1,6 @@
-ghost use Rattle.std.specs.Prelude.{◌≡◌};
+ghost use Rattle.std.specs.Prelude.{◌≡◌, length, All};
 ghost use Rattle.std.specs.Option.{option_map};
-ghost use Rattle.ray_bytes.specs.Slices.{record_at, records_from};
+ghost use Rattle.ray_bytes.specs.Slices.{record_at, records_from, AreFirst};
 ghost use Rattle.ray_bytes.specs.Records.{index_size, index_of};
 
 use crate::fields::{half, word};
@@ -47,8 +47,11 @@ impl<'a> IndexView<'a> {
 
     /// The bytes of the first `count` indices, up to the first that isn't whole.
     pub fn parts(&self, count: u32) -> Parts<'a>
-        ensures { let v = self.now in let size = index_size v.wide in
+        ensures value { let v = self.now in let size = index_size v.wide in
             result ≡ records_from v.bytes v.start size size 0 count }
+        ensures first { let v = self.now in let size = index_size v.wide in
+            AreFirst (record_at v.bytes v.start size size) count result }
+        ensures sized { All (λ part. length part ≡ index_size self.now.wide) result }
     {
         Parts::new(self.bytes, self.start, self.size(), self.size(), count)
     }

@@ -1,6 +1,16 @@
-//! The bytes of a recording's records: formats, sizes, and views that read records in place.
+//! The bytes of a recording: vertex formats, the sizes of structures, and views that read records
+//! where they stand.
 //!
-//! It stands on nothing but the standard library. No call takes memory.
+//! A view borrows a buffer's bytes and copies nothing. Its `get` is a record as plain fields, and its
+//! `parts` goes over the bytes of the first records.
+//!
+//! The layer above uses the clauses of these. They say by `record_at` of `specs/Slices` which bytes
+//! are record i, for every start, stride and number, and by `specs/Records` what the bytes say: `get`
+//! is None exactly where the record isn't whole. [`HitRecord`] is written and read by `specs/Hits`,
+//! and each undoes the other. [`sizes_of`] and [`compacted_of`] are the formulas of
+//! `specs/StructureSizes`.
+//!
+//! It stands on `byteorder` (numbers as bytes). No call takes memory.
 #![tactic(auto)]
 
 mod box_view;

@@ -1,5 +1,5 @@
-ghost use Rattle.std.specs.Prelude.{◌≡◌};
-ghost use Rattle.ray_bytes.specs.Slices.{records_from};
+ghost use Rattle.std.specs.Prelude.{◌≡◌, length, All};
+ghost use Rattle.ray_bytes.specs.Slices.{record_at, records_from, AreFirst};
 
 use crate::slice::slice;
 use std::marker::Model;
@@ -30,7 +30,9 @@ impl<'a> Model for Parts<'a> {
 impl<'a> Parts<'a> {
     // The parts of `count` records of `width` bytes.
     pub(crate) fn new(bytes: &'a [u8], start: u64, stride: u32, width: u32, count: u32) -> Parts<'a>
-        ensures { result ≡ records_from bytes.now start stride width 0 count }
+        ensures value { result ≡ records_from bytes.now start stride width 0 count }
+        ensures first { AreFirst (record_at bytes.now start stride width) count result }
+        ensures sized { All (λ part. length part ≡ width) result }
     {
         Parts {
             bytes,

@@ -1,6 +1,6 @@
-ghost use Rattle.std.specs.Prelude.{◌≡◌};
+ghost use Rattle.std.specs.Prelude.{◌≡◌, length, All};
 ghost use Rattle.std.specs.Option.{option_map};
-ghost use Rattle.ray_bytes.specs.Slices.{record_at, records_from};
+ghost use Rattle.ray_bytes.specs.Slices.{record_at, records_from, AreFirst};
 ghost use Rattle.ray_bytes.specs.Records.{ray_of};
 
 use crate::fields::{long, signed};
@@ -51,7 +51,11 @@ impl<'a> RayView<'a> {
 
     /// The bytes of the first `count` rays, up to the first that isn't whole.
     pub fn parts(&self, count: u32) -> Parts<'a>
-        ensures { let v = self.now in result ≡ records_from v.bytes v.start 40 40 0 count }
+        ensures value { let v = self.now in
+            result ≡ records_from v.bytes v.start 40 40 0 count }
+        ensures first { let v = self.now in
+            AreFirst (record_at v.bytes v.start 40 40) count result }
+        ensures sized { All (λ part. length part ≡ 40) result }
     {
         Parts::new(self.bytes, self.start, SIZE, SIZE, count)
     }

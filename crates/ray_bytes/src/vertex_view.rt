@@ -1,7 +1,7 @@
-ghost use Rattle.std.specs.Prelude.{◌≡◌, IfSome, length};
+ghost use Rattle.std.specs.Prelude.{◌≡◌, IfSome, length, All};
 ghost use Rattle.std.specs.Option.{option_map, option_copied};
 ghost use Rattle.ray_bytes.specs.Formats.{vertex_size};
-ghost use Rattle.ray_bytes.specs.Slices.{record_at, records_from};
+ghost use Rattle.ray_bytes.specs.Slices.{record_at, records_from, AreFirst};
 ghost use Rattle.ray_bytes.specs.Records.{vertex_of};
 
 use crate::fields::{short, signed};
@@ -75,8 +75,11 @@ impl<'a> VertexView<'a> {
 
     /// The bytes of the first `count` vertices, up to the first that isn't whole.
     pub fn parts(&self, count: u32) -> Parts<'a>
-        ensures { let v = self.now in result
-            ≡ records_from v.bytes v.start v.stride (vertex_size v.format) 0 count }
+        ensures value { let v = self.now in
+            result ≡ records_from v.bytes v.start v.stride (vertex_size v.format) 0 count }
+        ensures first { let v = self.now in
+            AreFirst (record_at v.bytes v.start v.stride (vertex_size v.format)) count result }
+        ensures sized { All (λ part. length part ≡ vertex_size self.now.format) result }
     {
         Parts::new(
             self.bytes,

@@ -1,0 +1,3 @@
+pub mod LittleBytes
+pub mod HitLaws
+pub mod FirstRecords
