@@ -5,9 +5,9 @@
 //! `InstanceFlags` have `from_word`, whose clause `row` says that a flag is found exactly where the
 //! table has a row of that word with its bits. What they share is proved once, in `Words`.
 //!
-//! The layer above uses [`effective`], the opacity of a primitive, and [`culled`], whose clauses say
-//! by `opacity_of` and `IsCulled` of `specs/Admission` which primitives a ray passes over for their
-//! kind, their opacity or their face.
+//! The layer above uses [`effective`], the opacity of a primitive, and [`culled`], whose clauses
+//! say by `opacity_of` and `IsCulled` of `specs/Admission` which primitives a ray passes over for
+//! their kind, their opacity or their face.
 //!
 //! It stands on `bitflags` alone. No call takes memory.
 #![tactic(auto)]
