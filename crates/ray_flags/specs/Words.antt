@@ -11,7 +11,8 @@ use Prim.Native.String.{String}
 -- whether a set of bits has the flag of this word of its table: all of the flag's bits (own)
 unfoldable pub has : List Row → String → ℕ → Bool
 unfolding find_row
-has table word set = option_map_or (λ bits. bit_and set bits == bits) (find_name table (codes word)) false
+has table word set =
+    option_map_or (λ bits. bit_and set bits == bits) (find_name table (codes word)) false
 
 -- whether no row has this word (own)
 abbrev pub is_new : List ℕ → List Row → Bool

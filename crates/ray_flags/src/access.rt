@@ -42,7 +42,7 @@ impl Access {
     /// Every write. It is a bit of its own. (VK_ACCESS_MEMORY_WRITE_BIT.)
     pub const MEMORY_WRITE: Access = Access(512);
 
-    /// The access of this word. None exactly where the word isn't in `access_words` of `specs/Words`.
+    /// The access of this word. None exactly where `access_words` of `specs/Words` has no such word.
     pub fn from_word(word: &str) -> Option<Access>
         ensures found { option_map (λ f. f.0) result ≡ find_name access_words word.now }
         ensures row { (bits : ℕ)

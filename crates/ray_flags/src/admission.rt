@@ -7,8 +7,8 @@ use crate::ray_flags::RayFlags;
 use bitflags::Flags;
 
 /// Whether a primitive counts as opaque: as its geometry does, overridden by the force bits of its
-/// instance, overridden by the ray's `opaque` or `no_opaque`. (Vulkan, "Ray Traversal": ray opacity;
-/// VK_KHR_ray_query.)
+/// instance, overridden by the ray's `opaque` or `no_opaque`. (Vulkan, "Ray Traversal": ray
+/// opacity; VK_KHR_ray_query.)
 #[tactic(auto, unfolding(crate::specs::Words::has))]
 pub fn effective(opaque: bool, instance: InstanceFlags, ray: RayFlags) -> bool
     requires instance_agrees { ¬ ForcesBoth instance }
@@ -32,10 +32,10 @@ pub fn effective(opaque: bool, instance: InstanceFlags, ray: RayFlags) -> bool
 /// flips it; a box has no face, so `front` doesn't matter there. (Vulkan, "Ray Traversal": ray
 /// culling; VK_KHR_ray_query.)
 pub fn culled(kind: Kind, opaque: bool, front: bool, instance: InstanceFlags, ray: RayFlags) -> bool
-    ensures refused { IsTrue result ↔ IsCulled kind opaque front instance ray }
+    ensures cause { IsTrue result ↔ IsCulled kind opaque front instance ray }
 
     // The same as one test.
-    ensures decided { result ≡ is_culled kind opaque front instance ray }
+    ensures test { result ≡ is_culled kind opaque front instance ray }
 {
     skipped(kind, ray)
         || culled_by_opacity(opaque, ray)
@@ -80,11 +80,9 @@ fn culled_by_face(kind: Kind, front: bool, instance: InstanceFlags, ray: RayFlag
 {
     match kind {
         Kind::Triangle => {
-            !instance.contains(InstanceFlags::TRIANGLE_FACING_CULL_DISABLE)
-                && face_culled(
-                    front ^ instance.contains(InstanceFlags::TRIANGLE_FLIP_FACING),
-                    ray,
-                )
+            let shown = front ^ instance.contains(InstanceFlags::TRIANGLE_FLIP_FACING);
+            let disabled = instance.contains(InstanceFlags::TRIANGLE_FACING_CULL_DISABLE);
+            !disabled && face_culled(shown, ray)
         }
         Kind::Aabb => false,
     }

@@ -1,4 +1,15 @@
-//! The words of a recording that name flags, and what the flags of rays and instances admit.
+//! The flags of a recording: their words, and what the flags of rays and instances admit.
+//!
+//! Six sets of flags, each a `bitflags::Flags` whose words and bits are one table of `specs/Words`:
+//! [`Usage`], [`BuildFlags`], [`RayFlags`], [`InstanceFlags`], [`Stages`], [`Access`]. All but
+//! `InstanceFlags` have `from_word`, whose clause `row` says that a flag is found exactly where the
+//! table has a row of that word with its bits. What they share is proved once, in `Words`.
+//!
+//! The layer above uses [`effective`], the opacity of a primitive, and [`culled`], whose clauses
+//! say by `opacity_of` and `IsCulled` of `specs/Admission` which primitives a ray passes over for
+//! their kind, their opacity or their face.
+//!
+//! It stands on `bitflags` alone. No call takes memory.
 #![tactic(auto)]
 
 mod access;
@@ -8,6 +19,8 @@ mod instance_flags;
 mod kind;
 mod ray_flags;
 mod stages;
+#[cfg(test)]
+mod tests;
 mod usage;
 mod words;
 

@@ -27,7 +27,7 @@ impl Stages {
     /// (VK_PIPELINE_STAGE_ALL_COMMANDS_BIT.) `Flags::all` has the host too.
     pub const ALL: Stages = Stages(7);
 
-    /// The stages of this word. None exactly where the word isn't in `stage_words` of `specs/Words`.
+    /// The stages of this word. None exactly where `stage_words` of `specs/Words` has no such word.
     pub fn from_word(word: &str) -> Option<Stages>
         ensures found { option_map (λ f. f.0) result ≡ find_name stage_words word.now }
         ensures row { (bits : ℕ)

@@ -30,7 +30,7 @@ impl Usage {
     /// Memory of acceleration structures. (VK_BUFFER_USAGE_ACCELERATION_STRUCTURE_STORAGE_BIT_KHR.)
     pub const STRUCTURE: Usage = Usage(32);
 
-    /// The usage of this word. None exactly where the word isn't in `usage_words` of `specs/Words`.
+    /// The usage of this word. None exactly where `usage_words` of `specs/Words` has no such word.
     pub fn from_word(word: &str) -> Option<Usage>
         ensures found { option_map (λ f. f.0) result ≡ find_name usage_words word.now }
         ensures row { (bits : ℕ)
