@@ -1,7 +1,7 @@
 -- The bytes at a spot, one by one.
 use Rattle.std.proofs.Common.{◌≡◌, ℕ, ◌+◌, ◌<◌, length, get_or, unwrap_or, arith}
 use Rattle.std.proofs.lemmas.List.FromFn.{length-map-range_with_len, get_or-map-range_with_len}
-use Rattle.ray_state.specs.declared.spot.Spot.{Spot}
+use Rattle.ray_cmd.specs.declared.spot.Spot.{Spot}
 use Rattle.ray_state.specs.Memory.{Memory, ByteAt, bytes_at}
 
 -- the byte number k from a spot on, or 0

@@ -7,3 +7,4 @@ pub mod Building
 pub mod Overwriting
 pub mod Decisions
 pub mod Commands
+pub mod Whole

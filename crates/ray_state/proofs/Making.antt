@@ -7,7 +7,7 @@ use Rattle.std.proofs.lemmas.Bool.Decides.{nat_tests}
 use Rattle.std.proofs.lemmas.Bool.{cases_lt, cond-true, cond-false}
 use Rattle.std.proofs.lemmas.Option.{slice_get_past}
 use Rattle.ray_state.specs.declared.state.State.{State}
-use Rattle.ray_state.specs.declared.structure_kind.StructureKind.{StructureKind}
+use Rattle.ray_cmd.specs.declared.structure_kind.StructureKind.{StructureKind}
 use Rattle.ray_state.specs.declared.output.Output.TheVariants.{Nothing}
 use Rattle.ray_state.specs.Memory.{Location, ByteAt, BufferAt, StructureAt, memory_of, nothing_live}
 use Rattle.ray_state.specs.Action.{IsFresh, MakeBuffer, MakeStructure, put, fresh}

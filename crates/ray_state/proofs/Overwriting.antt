@@ -7,7 +7,7 @@ use Rattle.std.proofs.lemmas.Bool.Decides.{nat_tests}
 use Rattle.std.proofs.lemmas.Bool.{cases_Bool, cases_lt, cond-true, cond-false}
 use Rattle.std.proofs.lemmas.Option.{slice_get_past, slice_get-get_or}
 use Rattle.ray_state.specs.declared.state.State.{State}
-use Rattle.ray_state.specs.declared.spot.Spot.{Spot}
+use Rattle.ray_cmd.specs.declared.spot.Spot.{Spot}
 use Rattle.ray_state.specs.Memory.{Location, ByteAt, BufferAt, StructureAt, memory_of}
 use Rattle.ray_state.specs.Action.{is_among, stored, overwritten}
 use Rattle.ray_state.proofs.Buffers.{byte_in, size_in}

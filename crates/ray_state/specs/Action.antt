@@ -1,17 +1,19 @@
 -- What each command does, as an action at one moment: here, which locations it writes and what its store leaves; what it
 -- computes from the memory stands in `Meaning`. (Own; after the chapters on acceleration structures, ray queries and copies
 -- of the Vulkan specification.)
-use Rattle.std.specs.Prelude.{◌≡◌, ◌<◌, length, slice_index, slice_index_or, ℕ, ◌+◌, ◌-◌, ◌&&◌, ◌==◌, nat_lt, nat_le, Bool, true, false, List, [], slice_get, Some, None, option_map, unwrap_or, if◌then◌else◌}
+use Rattle.std.specs.Prelude.{◌≡◌, ◌<◌, length, slice_index, slice_index_or, ℕ, ◌+◌, ◌-◌, ◌&&◌, ◌==◌, nat_lt, nat_le, Bool, true, false, List, [], ◌∷◌, slice_get, Some, None, option_map, unwrap_or, if◌then◌else◌}
 use Rattle.ray_cmd.specs.declared.command.Command.{Command}
 use Rattle.ray_cmd.specs.declared.command.Command.TheVariants as commands
-use Rattle.ray_state.specs.declared.spot.Spot.{Spot}
-use Rattle.ray_state.specs.declared.structure_kind.StructureKind.{StructureKind}
-use Rattle.ray_state.specs.declared.structure_kind.StructureKind.TheVariants.{Bottom, Top}
+use Rattle.ray_cmd.specs.declared.geometry.Geometry.{Geometry}
+use Rattle.ray_cmd.specs.declared.geometry.Geometry.TheVariants as geometries
+use Rattle.ray_cmd.specs.declared.info.Info.{Info}
+use Rattle.ray_cmd.specs.declared.spot.Spot.{Spot}
+use Rattle.ray_cmd.specs.declared.structure_kind.StructureKind.{StructureKind}
 use Rattle.ray_state.specs.declared.structure.Structure.{Structure}
 use Rattle.ray_state.specs.declared.contents.Contents.{Contents}
 use Rattle.ray_state.specs.declared.output.Output.{Output}
 use Rattle.ray_state.specs.declared.output.Output.TheVariants.{Nothing, Hit, Built}
-use Rattle.ray_state.specs.Records.{hit_bytes}
+use Rattle.ray_bytes.specs.Hits.{hit_bytes}
 use Rattle.ray_state.specs.Memory.{Location, ByteAt, BufferAt, StructureAt, Held, Memory}
 
 -- what is done at one moment: by a host command, or by a piece of a device command
@@ -28,24 +30,48 @@ pub data Action : Type 0 where
 abbrev pub spot : ℕ → ℕ → Spot
 spot buffer offset = record { buffer = buffer; offset = offset }
 
--- the one action of a command of the path form
+-- what is built by a geometry: a bottom structure from the triangle at its vertices, or a top structure from the instance
+-- at its content
+abbrev pub built_by : ℕ → Geometry → Action
+built_by structure (geometries.Triangles opaque format vertex stride max_vertex index transform count primitive_offset first_vertex transform_offset) =
+    BuildBottom structure vertex
+built_by structure (geometries.Boxes opaque content stride count primitive_offset) = Rest
+built_by structure (geometries.Instances content count primitive_offset) = BuildTop structure content
+
+-- what is built from geometries: of one, today
+abbrev pub built_from : ℕ → List Geometry → Action
+built_from structure [] = Rest
+built_from structure (geometry ∷ []) = built_by structure geometry
+built_from structure (geometry ∷ other ∷ rest) = Rest
+
+-- what a build of infos does: of one, today
+abbrev pub build_of : List Info → Action
+build_of [] = Rest
+build_of (info ∷ []) = built_from info.dst info.geometries
+build_of (info ∷ other ∷ rest) = Rest
+
+-- the one action of a command whose form is built. The other forms have no meaning yet: no run comes to them, and what
+-- stands here for them says nothing
 abbrev pub action_of : Command → Action
-action_of (commands.InputBuffer content) = MakeBuffer 0 128 content
-action_of commands.StructureBuffer = MakeBuffer 1 1024 []
-action_of commands.ScratchBuffer = MakeBuffer 2 512 []
-action_of (commands.StorageBuffer content) = MakeBuffer 3 144 content
-action_of commands.BottomStructure = MakeStructure 0 Bottom
-action_of commands.TopStructure = MakeStructure 1 Top
+action_of (commands.Buffer id size usage content) = MakeBuffer id size (unwrap_or content [])
+action_of (commands.Structure id kind buffer offset size) = MakeStructure id kind
+action_of (commands.Destroy what id) = Rest
+action_of (commands.Sizes kind counts) = Rest
 action_of commands.Begin = Rest
-action_of commands.BuildBottom = BuildBottom 0 (spot 0 0)
-action_of commands.FullBarrier = Rest
-action_of commands.BuildTop = BuildTop 1 (spot 0 64)
-action_of commands.Trace = TraceRay 1 (spot 3 0) (spot 3 64)
-action_of commands.HostBarrier = Rest
 action_of commands.End = Rest
 action_of commands.Submit = Rest
 action_of commands.Wait = Rest
-action_of commands.ReadHits = ShowHit (spot 3 64)
+action_of (commands.Read buffer offset size form) = ShowHit (spot buffer offset)
+action_of (commands.Update buffer offset content) = Rest
+action_of (commands.Fill buffer offset size value) = Rest
+action_of (commands.Copy src dst regions) = Rest
+action_of (commands.Build infos) = build_of infos
+action_of (commands.CopyStructure mode src dst) = Rest
+action_of (commands.Serialize src dst) = Rest
+action_of (commands.Deserialize src dst uses) = Rest
+action_of (commands.Property what structures dst) = Rest
+action_of (commands.Barrier src_stages src_access dst_stages dst_access) = Rest
+action_of (commands.Trace top rays count hits flags mask script) = TraceRay top rays hits
 
 -- command number i, where there is one
 abbrev pub command_at : List Command → ℕ → Command
@@ -81,28 +107,27 @@ host_action_at rec i = host_action_of (command_at rec i)
 abbrev pub device_action_at : List Command → ℕ → Action
 device_action_at rec i = device_action_of (command_at rec i)
 
--- the trace of the path form
-abbrev pub trace_action : Action
-trace_action = TraceRay 1 (spot 3 0) (spot 3 64)
-
--- how many pieces a command has: none where the host does it, else one
+-- how many pieces a command whose form is built has: none where the host does it, else one
 abbrev pub piece_count : Command → ℕ
-piece_count (commands.InputBuffer content) = 0
-piece_count commands.StructureBuffer = 0
-piece_count commands.ScratchBuffer = 0
-piece_count (commands.StorageBuffer content) = 0
-piece_count commands.BottomStructure = 0
-piece_count commands.TopStructure = 0
+piece_count (commands.Buffer id size usage content) = 0
+piece_count (commands.Structure id kind buffer offset size) = 0
+piece_count (commands.Destroy what id) = 0
+piece_count (commands.Sizes kind counts) = 0
 piece_count commands.Begin = 0
-piece_count commands.BuildBottom = 1
-piece_count commands.FullBarrier = 1
-piece_count commands.BuildTop = 1
-piece_count commands.Trace = 1
-piece_count commands.HostBarrier = 1
 piece_count commands.End = 0
 piece_count commands.Submit = 0
 piece_count commands.Wait = 0
-piece_count commands.ReadHits = 0
+piece_count (commands.Read buffer offset size form) = 0
+piece_count (commands.Update buffer offset content) = 1
+piece_count (commands.Fill buffer offset size value) = 1
+piece_count (commands.Copy src dst regions) = 1
+piece_count (commands.Build infos) = 1
+piece_count (commands.CopyStructure mode src dst) = 1
+piece_count (commands.Serialize src dst) = 1
+piece_count (commands.Deserialize src dst uses) = 1
+piece_count (commands.Property what structures dst) = 1
+piece_count (commands.Barrier src_stages src_access dst_stages dst_access) = 1
+piece_count (commands.Trace top rays count hits flags mask script) = 1
 
 -- how many pieces command number i has
 abbrev pub pieces_of : List Command → ℕ → ℕ

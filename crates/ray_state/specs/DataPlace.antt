@@ -1,8 +1,8 @@
 -- Where in a build command a data rule is broken: the path form has one info. (Own.)
 use Rattle.std.specs.Prelude.{ℕ, Option, Some, None}
-use Rattle.ray_state.specs.declared.data_fault.DataFault.{DataFault}
-use Rattle.ray_state.specs.declared.place.Place.{Place}
-use Rattle.ray_state.specs.declared.place.Place.TheVariants.{Geometry, Element}
+use Rattle.ray_bytes.specs.declared.data_fault.DataFault.{DataFault}
+use Rattle.ray_cmd.specs.declared.place.Place.{Place}
+use Rattle.ray_cmd.specs.declared.place.Place.TheVariants.{Geometry, Element}
 
 -- the place of a geometry, or of one of its elements, in the info number 0
 abbrev pub place_in : Option ℕ → ℕ → Place

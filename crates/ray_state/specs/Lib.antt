@@ -1,4 +1,3 @@
-pub mod Records
 pub mod Memory
 pub mod Fetched
 pub mod Action
@@ -6,3 +5,4 @@ pub mod Text
 pub mod DataPlace
 pub mod Meaning
 pub mod Run
+pub mod Tasks

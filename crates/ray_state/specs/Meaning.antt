@@ -1,26 +1,32 @@
 -- What the output of an action is: computed from the memory at one moment. (Vulkan: acceleration structure builds, ray
 -- traversal, ray queries; own: the records, the limits, exact numbers.)
-use Rattle.std.specs.Prelude.{◌≡◌, Result, Ok, Err, ℕ, negsuc, ◌+◌, ◌/◌, ◌%◌, ◌-◌, ◌^◌, ◌==◌, ◌&&◌, nat_lt, Bool, not, List, Option, Some, None, option_and_then, option_map, unwrap_or, bit_and, if◌then◌else◌}
+use Rattle.std.specs.Prelude.{◌≡◌, Result, Ok, Err, ℕ, ℤ, pos, negsuc, slice_index_or, take, drop, ◌+◌, ◌*◌, ◌/◌, ◌%◌, ◌-◌, ◌^◌, ◌==◌, ◌&&◌, nat_lt, Bool, not, List, Option, Some, None, option_and_then, option_map, unwrap_or, bit_and, if◌then◌else◌}
 use Rattle.std.specs.Ordering.{int_eq}
 use Rattle.std.specs.Bool.{beq}
-use Rattle.ray_geom.specs.Scene.{RayValue, TriValue}
+use Rattle.ray_geom.specs.Scene.{RayValue, TriValue, ray_value, tri_value}
 use Rattle.ray_geom.specs.Decided.{where_so, ray_decided, tri_decided}
 use Rattle.ray_geom.specs.HitValue.{HitValue, hit_of}
-use Rattle.ray_state.specs.declared.data_rule.DataRule.{DataRule}
-use Rattle.ray_state.specs.declared.data_rule.DataRule.TheVariants.{X2, X11}
-use Rattle.ray_state.specs.declared.place.Place.{Place}
-use Rattle.ray_state.specs.declared.place.Place.TheVariants.{Part, Element}
-use Rattle.ray_state.specs.declared.data_fault.DataFault.{DataFault}
+use Rattle.ray_bytes.specs.declared.data_rule.DataRule.{DataRule}
+use Rattle.ray_bytes.specs.declared.data_rule.DataRule.TheVariants.{X2, X11}
+use Rattle.ray_cmd.specs.declared.place.Place.{Place}
+use Rattle.ray_cmd.specs.declared.place.Place.TheVariants.{Part, Element}
+use Rattle.ray_bytes.specs.declared.data_fault.DataFault.{DataFault}
 use Rattle.ray_state.specs.declared.fetch_fault.FetchFault.{FetchFault}
 use Rattle.ray_state.specs.declared.fetch_fault.FetchFault.TheVariants.{Data, NoMemory}
 use Rattle.ray_state.specs.declared.instance.Instance.{Instance}
 use Rattle.ray_state.specs.declared.contents.Contents.{Contents}
 use Rattle.ray_state.specs.declared.contents.Contents.TheVariants.{Bottom, Top}
-use Rattle.ray_state.specs.declared.hit_record.HitRecord.{HitRecord}
+use Rattle.ray_bytes.specs.declared.hit_record.HitRecord.{HitRecord}
 use Rattle.ray_state.specs.declared.output.Output.{Output}
 use Rattle.ray_state.specs.declared.output.Output.TheVariants.{Nothing, Hit, Built}
 use Rattle.ray_state.specs.DataPlace.{place_of}
-use Rattle.ray_state.specs.Records.{word_at, signed_at, long_at, point_at, hit_of_bytes}
+use Rattle.ray_bytes.specs.declared.format.Format.TheVariants.{S32x3}
+use Rattle.ray_bytes.specs.declared.instance_record.InstanceRecord.{InstanceRecord}
+use Rattle.ray_bytes.specs.declared.ray_record.RayRecord.{RayRecord}
+use Rattle.ray_bytes.specs.Hits.{hit_of_bytes}
+use Rattle.ray_bytes.specs.Records.{vertex_of, instance_of, ray_of}
+use Rattle.ray_geom.specs.declared.vec3.Vec3.{Vec3}
+use Rattle.ray_geom.specs.Vector.{vec3}
 use Rattle.ray_state.specs.Memory.{Memory, StructureAt, bytes_at}
 use Rattle.ray_state.specs.Action.{Action, MakeBuffer, MakeStructure, BuildBottom, BuildTop, TraceRay, ShowHit, Rest}
 
@@ -54,18 +60,25 @@ abbrev pub IsTraced : Outcome → Result HitRecord FetchFault → Type 0
 IsTraced outcome (Ok hit) = outcome ≡ Gives (Hit hit)
 IsTraced outcome (Err fault) = Causes fault outcome
 
+-- the point of three numbers
+abbrev pub point_of : List ℤ → Vec3
+point_of numbers = vec3 (slice_index_or numbers 0 (pos 0)) (slice_index_or numbers 1 (pos 0)) (slice_index_or numbers 2 (pos 0))
+
+-- vertex number k of those in the bytes: three signed 32-bit numbers
+abbrev pub vertex_in : List ℕ → ℕ → Vec3
+vertex_in bytes k = point_of (vertex_of S32x3 (take 12 (drop (k * 12) bytes)))
+
 -- the triangle whose three vertices stand in 36 bytes
 abbrev pub triangle_of : List ℕ → TriValue
-triangle_of bytes = record { v0 = point_at bytes 0; v1 = point_at bytes 12; v2 = point_at bytes 24 }
+triangle_of bytes = tri_value (vertex_in bytes 0) (vertex_in bytes 1) (vertex_in bytes 2)
 
--- the ray of 40 bytes: origin, direction, and the ends of the interval in 1/65536
-abbrev pub ray_of : List ℕ → RayValue
-ray_of bytes =
-    record { origin = point_at bytes 0; dir = point_at bytes 12; tmin = long_at bytes 24; tmax = long_at bytes 32 }
+-- the ray of a record: origin, direction, and the ends of the interval in 1/65536
+abbrev pub recorded_ray : RayRecord → RayValue
+recorded_ray r = ray_value (point_of r.origin) (point_of r.dir) r.tmin r.tmax
 
--- that ray, where it keeps the limits
+-- the ray of 40 bytes, where it keeps the limits
 abbrev pub ray_within : List ℕ → Option RayValue
-ray_within bytes = where_so (ray_decided (ray_of bytes)) (ray_of bytes)
+ray_within bytes = where_so (ray_decided (recorded_ray (ray_of bytes))) (recorded_ray (ray_of bytes))
 
 -- the triangle of 36 bytes, where it keeps the limits
 abbrev pub triangle_within : List ℕ → Option TriValue
@@ -73,7 +86,7 @@ triangle_within bytes = where_so (tri_decided (triangle_of bytes)) (triangle_of 
 
 -- whether the first vertex's x marks a triangle as inactive: it is -2^31 (own)
 abbrev pub is_inactive : List ℕ → Bool
-is_inactive bytes = int_eq (signed_at bytes 0) (negsuc (2 ^ 31 - 1))
+is_inactive bytes = int_eq (vertex_in bytes 0).x (negsuc (2 ^ 31 - 1))
 
 -- what a build of a triangle within the limits gives, or of one beyond them
 abbrev pub bottom_with : Option TriValue → Outcome
@@ -94,15 +107,15 @@ structure_id_of reference =
     then Some (reference / 256 - 1)
     else None
 
--- the instance of 64 bytes, active where its reference names a structure (Vulkan: VkAccelerationStructureInstanceKHR)
-abbrev pub instance_of : List ℕ → Option Instance
-instance_of bytes = option_map (λ id. record {
-  custom = word_at bytes 48 % 2 ^ 24;
-  mask = word_at bytes 48 / 2 ^ 24;
-  sbt = word_at bytes 52 % 2 ^ 24;
-  flags = word_at bytes 52 / 2 ^ 24;
+-- the instance of a record, active where its reference names a structure (Vulkan: VkAccelerationStructureInstanceKHR)
+abbrev pub active_instance : InstanceRecord → Option Instance
+active_instance r = option_map (λ id. record {
+  custom = r.custom;
+  mask = r.mask;
+  sbt = r.sbt;
+  flags = r.flags;
   id = id;
-}) (structure_id_of (long_at bytes 56))
+}) (structure_id_of r.reference)
 
 -- what the structure of an id holds, where it is live and built
 abbrev pub contents_at : Memory → ℕ → Option Contents
@@ -189,7 +202,7 @@ abbrev pub outcome_of : Action → Memory → Outcome
 outcome_of (MakeBuffer id size content) memory = Gives Nothing
 outcome_of (MakeStructure id kind) memory = Gives Nothing
 outcome_of (BuildBottom structure vertices) memory = bottom_of (bytes_at memory vertices 36)
-outcome_of (BuildTop structure instance) memory = Gives (Built (Top (instance_of (bytes_at memory instance 64))))
+outcome_of (BuildTop structure instance) memory = Gives (Built (Top (active_instance (instance_of (bytes_at memory instance 64)))))
 outcome_of (TraceRay top ray hit) memory = trace_of memory top (bytes_at memory ray 40)
 outcome_of (ShowHit hit) memory = Gives (Hit (hit_of_bytes (bytes_at memory hit 80)))
 outcome_of Rest memory = Gives Nothing

@@ -3,7 +3,7 @@ use Rattle.std.specs.Prelude.{ℕ, ◌+◌, List, map, length, slice_get, Option
 use Rattle.std.specs.List.{range_with_len}
 use Rattle.std.specs.Ordering.{nat_cmp}
 use Rattle.std.specs.BTreeMap.{get}
-use Rattle.ray_state.specs.declared.spot.Spot.{Spot}
+use Rattle.ray_cmd.specs.declared.spot.Spot.{Spot}
 use Rattle.ray_state.specs.declared.structure.Structure.{Structure}
 use Rattle.ray_state.specs.declared.state.State.{State}
 

@@ -2,9 +2,9 @@
 use Rattle.std.specs.Prelude.{◌≡◌, ◌<◌, ℕ, zero, suc, List, [], ◌++◌, Option, Some, None}
 use Rattle.ray_cmd.specs.declared.command.Command.{Command}
 use Rattle.ray_state.specs.declared.output.Output.TheVariants.{Hit}
-use Rattle.ray_state.specs.declared.data_rule.DataRule.{DataRule}
-use Rattle.ray_state.specs.declared.refusal.Refusal.{Refusal}
-use Rattle.ray_state.specs.declared.rule.Rule.TheVariants.{X}
+use Rattle.ray_bytes.specs.declared.data_rule.DataRule.{DataRule}
+use Rattle.ray_cmd.specs.declared.refusal.Refusal.{Refusal}
+use Rattle.ray_cmd.specs.declared.rule.Rule.TheVariants.{X}
 use Rattle.ray_state.specs.Memory.{Memory, nothing_live}
 use Rattle.ray_state.specs.Action.{Action, MakeBuffer, MakeStructure, BuildBottom, BuildTop, TraceRay, ShowHit, Rest, action_at, put}
 use Rattle.ray_state.specs.Text.{hit_line}

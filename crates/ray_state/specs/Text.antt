@@ -1,6 +1,6 @@
 -- The text of a hit that is shown. (Own.)
 use Rattle.std.specs.Prelude.{ℕ, List, ◌++◌, codes, decimal, ◌==◌, if◌then◌else◌}
-use Rattle.ray_state.specs.declared.hit_record.HitRecord.{HitRecord}
+use Rattle.ray_bytes.specs.declared.hit_record.HitRecord.{HitRecord}
 
 -- what a kind is called
 abbrev pub kind_word : ℕ → List ℕ

@@ -1,14 +1,13 @@
-ghost use Rattle.std.specs.Prelude.{◌≡◌, ◌+◌, ◌≤◌, length};
+ghost use Rattle.std.specs.Prelude.{◌≡◌, ◌+◌, ◌<◌, ◌≤◌, length};
 ghost use Rattle.ray_state.specs.Memory.{memory_of, bytes_at};
-ghost use Rattle.ray_state.specs.Meaning.{IsBuilt, bottom_of, bottom_with, is_inactive, triangle_within};
+ghost use Rattle.ray_state.specs.Meaning.{IsBuilt, bottom_of, bottom_with, is_inactive, triangle_within, vertex_in};
 
 use crate::contents::Contents;
-use crate::data_fault::DataFault;
-use crate::data_rule::DataRule;
-use crate::records::{point, signed};
-use crate::spot::Spot;
+use crate::point::point;
 use crate::state::State;
-use ray_geom::{Steps, Tri};
+use ray_bytes::{DataFault, DataRule, Format, VertexView};
+use ray_cmd::Spot;
+use ray_geom::{Steps, Tri, Vec3};
 use std::sync::ledger::Ledger;
 
 // The contents of a bottom structure of the one triangle whose vertices stand at the spot, three
@@ -45,7 +44,7 @@ fn has_mark(bytes: &[u8]) -> bool
     requires { length bytes.now ≡ 36 }
     ensures { result ≡ is_inactive bytes.now }
 {
-    signed(bytes, 0) == i32::MIN
+    vertex(bytes, 0).x == i64::from(i32::MIN)
 }
 
 // The contents of a bottom structure of an active triangle, where it keeps the limits.
@@ -67,5 +66,15 @@ fn triangle(bytes: &[u8]) -> Option<Tri>
     requires { length bytes.now ≡ 36 }
     ensures { result ≡ triangle_within bytes.now }
 {
-    Tri::new(point(bytes, 0), point(bytes, 12), point(bytes, 24))
+    Tri::new(vertex(bytes, 0), vertex(bytes, 1), vertex(bytes, 2))
+}
+
+// Vertex number `k` of 36 bytes.
+fn vertex(bytes: &[u8], k: u64) -> Vec3
+    requires whole { length bytes.now ≡ 36 }
+    requires there { k < 3 }
+    ensures { result ≡ vertex_in bytes.now k }
+{
+    let vertices = VertexView::new(bytes, 0, 12, Format::S32x3);
+    point(vertices.get(k).unwrap())
 }

@@ -1,6 +1,5 @@
-use crate::data_fault::DataFault;
-use crate::data_rule::DataRule;
-use crate::place::Place;
+use ray_bytes::{DataFault, DataRule};
+use ray_cmd::Place;
 use std::alloc::AllocError;
 
 /// Why a piece has no output.

@@ -1,20 +1,20 @@
 ghost use Rattle.std.specs.Prelude.{◌≡◌, ◌+◌, ◌<◌, ◌≤◌, length, IfOk, IfErr};
 ghost use Rattle.ray_state.specs.Memory.{memory_of, bytes_at};
-ghost use Rattle.ray_state.specs.Action.{device_action_of, device_action_at, pieces_of, trace_action};
+ghost use Rattle.ray_state.specs.Action.{TraceRay, device_action_of, device_action_at, pieces_of};
+ghost use Rattle.ray_state.specs.Tasks.{task_action};
 ghost use Rattle.ray_state.specs.Meaning.{outcome_of, Gives, Causes, IsFetched, IsTraced};
 
 use crate::bottom::bottom;
-use crate::data_rule::DataRule;
 use crate::fetch_fault::FetchFault;
-use crate::hit_record::HitRecord;
 use crate::output::Output;
 use crate::piece::Piece;
 use crate::piece_out::PieceOut;
-use crate::place::Place;
 use crate::state::State;
+use crate::task::Task;
 use crate::top::top;
-use crate::{path, trace};
-use ray_cmd::{Command, Recording};
+use crate::trace;
+use ray_bytes::{DataRule, HitRecord};
+use ray_cmd::{Command, Place, Recording, Spot};
 use ray_geom::Steps;
 use std::alloc::Global;
 use std::sync::ledger::Ledger;
@@ -26,11 +26,16 @@ pub fn pieces(rec: &Recording, i: u32) -> u32
     ensures { result ≡ pieces_of rec.now i }
 {
     match rec.command(i) {
-        Command::BuildBottom
-        | Command::FullBarrier
-        | Command::BuildTop
-        | Command::Trace
-        | Command::HostBarrier => 1,
+        Command::Update { .. }
+        | Command::Fill { .. }
+        | Command::Copy { .. }
+        | Command::Build { .. }
+        | Command::CopyStructure { .. }
+        | Command::Serialize { .. }
+        | Command::Deserialize { .. }
+        | Command::Property { .. }
+        | Command::Barrier { .. }
+        | Command::Trace { .. } => 1,
         _ => 0,
     }
 }
@@ -62,36 +67,43 @@ pub fn fetch<R: Threads + Sync, L: Ledger>(
     ensures rising { steps.old ≤ steps.new }
     ensures cost { steps.new ≤ steps.old + 1 }
 {
-    let output = output(state, rec.command(piece.command), steps)?;
+    let task = Task::of(rec.command(piece.command));
+    let output = output(state, task, steps)?;
     Ok(PieceOut { piece, output })
 }
 
-// The output of a command's piece.
+// The output of a piece.
 fn output<L: Ledger>(
     state: &State,
-    command: &Command,
+    task: Task,
     steps: &mut Steps<L>,
 ) -> Result<Output, FetchFault>
-    ensures value { IsFetched (outcome_of (device_action_of command.now) (memory_of state.now)) result }
+    ensures value { IsFetched (outcome_of (task_action task) (memory_of state.now)) result }
     ensures rising { steps.old ≤ steps.new }
     ensures cost { steps.new ≤ steps.old + 1 }
 {
-    match command {
-        Command::BuildBottom => Ok(Output::Built(bottom(state, path::VERTICES, steps)?)),
-        Command::BuildTop => Ok(Output::Built(top(state, path::INSTANCE))),
-        Command::Trace => Ok(Output::Hit(traced(state, steps)?)),
-        _ => Ok(Output::Nothing),
+    match task {
+        Task::BuildBottom { vertices, .. } => Ok(Output::Built(bottom(state, vertices, steps)?)),
+        Task::BuildTop { instance, .. } => Ok(Output::Built(top(state, instance))),
+        Task::TraceRay { top, ray, hit } => Ok(Output::Hit(traced(state, top, ray, hit, steps)?)),
+        Task::Rest => Ok(Output::Nothing),
     }
 }
 
-// The hit of the one ray.
-fn traced<L: Ledger>(state: &State, steps: &mut Steps<L>) -> Result<HitRecord, FetchFault>
-    ensures value { IsTraced (outcome_of trace_action (memory_of state.now)) result }
+// The hit of the ray that stands at a spot.
+fn traced<L: Ledger>(
+    state: &State,
+    top: u32,
+    ray: Spot,
+    hit: Spot,
+    steps: &mut Steps<L>,
+) -> Result<HitRecord, FetchFault>
+    ensures value { IsTraced (outcome_of (TraceRay top ray hit) (memory_of state.now)) result }
     ensures rising { steps.old ≤ steps.new }
     ensures cost { steps.new ≤ steps.old + 1 }
 {
-    match trace::ray(state, path::RAY) {
-        Some(ray) => Ok(trace::hit(state, path::TOP, &ray, steps)),
+    match trace::ray(state, ray) {
+        Some(ray) => Ok(trace::hit(state, top, &ray, steps)),
         None => Err(FetchFault::Data(DataRule::X11, Place::Part(0))),
     }
 }

@@ -10,30 +10,24 @@
 //! `put` of `specs/Action` what the memory is afterwards. `specs/Run` makes of both the run of a
 //! recording in order.
 //!
-//! It stands on ray_cmd (the commands), ray_geom (the intersection) and `byteorder` (the records).
+//! A form of a command that isn't built has no meaning here yet, and no run comes to one.
+//!
+//! It stands on ray_cmd (the commands), ray_geom (the intersection) and ray_bytes (the records).
 #![tactic(auto)]
 
 mod bottom;
 mod contents;
-mod data_fault;
-mod data_rule;
 mod fetch_fault;
 mod fetching;
-mod hit_record;
 mod instance;
 mod output;
-mod path;
 mod piece;
 mod piece_out;
-mod place;
-mod records;
-mod refusal;
-mod rule;
-mod spot;
+mod point;
 mod state;
 mod storing;
 mod structure;
-mod structure_kind;
+mod task;
 #[cfg(test)]
 mod tests;
 mod text;
@@ -41,19 +35,12 @@ mod top;
 mod trace;
 
 pub use contents::Contents;
-pub use data_fault::DataFault;
-pub use data_rule::DataRule;
 pub use fetch_fault::FetchFault;
 pub use fetching::{fetch, pieces};
-pub use hit_record::HitRecord;
 pub use instance::Instance;
 pub use output::Output;
 pub use piece::Piece;
 pub use piece_out::PieceOut;
-pub use place::Place;
-pub use refusal::Refusal;
-pub use rule::Rule;
 pub use state::State;
 pub use storing::store;
 pub use structure::Structure;
-pub use structure_kind::StructureKind;

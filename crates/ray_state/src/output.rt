@@ -1,5 +1,5 @@
 use crate::contents::Contents;
-use crate::hit_record::HitRecord;
+use ray_bytes::HitRecord;
 
 /// What a piece gives: computed from its inputs at its fetch, written at its store.
 #[derive(Clone, Copy, Debug)]

@@ -1,12 +1,10 @@
-ghost use Rattle.std.specs.Prelude.{◌≡◌, ◌+◌, ◌<◌, ◌^◌, if◌then◌else◌, length, slice_get, unwrap_or, OnOk, OnErr, Some, Option, IfOk, EachIndex, slice_index};
+ghost use Rattle.std.specs.Prelude.{[], ◌≡◌, ◌+◌, ◌<◌, ◌^◌, if◌then◌else◌, length, slice_get, unwrap_or, OnOk, OnErr, Some, Option, IfOk, EachIndex, slice_index};
 ghost use Rattle.ray_state.specs.Action.{IsFresh, overwritten};
 ghost use Rattle.ray_state.specs.declared.output.Output.TheVariants.{Nothing};
 
 use crate::contents::Contents;
-use crate::spot::Spot;
 use crate::structure::Structure;
-use crate::structure_kind::StructureKind;
-use ray_cmd::{Command, Recording};
+use ray_cmd::{Bytes, Command, Recording, Spot, StructureKind};
 use std::alloc::{AllocError, Global};
 use std::collections::BTreeMap;
 
@@ -44,12 +42,10 @@ impl State {
         ensures err { OnErr result ((l : Location) → memory_of self.new l ≡ memory_of self.old l) }
     {
         match rec.command(i) {
-            Command::InputBuffer { content } => self.make_buffer(0, 128, content.as_slice()),
-            Command::StructureBuffer => self.make_buffer(1, 1024, &[]),
-            Command::ScratchBuffer => self.make_buffer(2, 512, &[]),
-            Command::StorageBuffer { content } => self.make_buffer(3, 144, content.as_slice()),
-            Command::BottomStructure => self.make_structure(0, StructureKind::Bottom),
-            Command::TopStructure => self.make_structure(1, StructureKind::Top),
+            Command::Buffer {
+                id, size, content, ..
+            } => self.make_buffer(*id, *size as usize, told(content)),
+            Command::Structure { id, kind, .. } => self.make_structure(*id, *kind),
             _ => Ok(()),
         }
     }
@@ -131,6 +127,16 @@ impl State {
         if let Some(structure) = self.structures.get_mut(&id) {
             structure.contents = Some(contents);
         }
+    }
+}
+
+// The content of a new buffer, which is empty where none is told.
+fn told(content: &Option<Bytes>) -> &[u8]
+    ensures { result.now ≡ unwrap_or content.now [] }
+{
+    match content {
+        Some(bytes) => bytes.as_slice(),
+        None => &[],
     }
 }
 

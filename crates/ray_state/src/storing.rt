@@ -2,13 +2,12 @@ ghost use Rattle.std.specs.Prelude.{◌≡◌, ◌<◌, if◌then◌else◌, len
 ghost use Rattle.ray_state.specs.Memory.{Location, memory_of};
 ghost use Rattle.ray_state.specs.Action.{device_action_at, is_structure, is_among, rebuilt, recorded, put};
 
-use crate::hit_record::HitRecord;
 use crate::output::Output;
-use crate::path;
 use crate::piece_out::PieceOut;
-use crate::spot::Spot;
 use crate::state::State;
-use ray_cmd::{Command, Recording};
+use crate::task::Task;
+use ray_bytes::HitRecord;
+use ray_cmd::{Recording, Spot};
 
 /// Writes the output of a fetched piece, and nothing else.
 pub fn store(state: &mut State, rec: &Recording, out: PieceOut)
@@ -16,11 +15,12 @@ pub fn store(state: &mut State, rec: &Recording, out: PieceOut)
     ensures { (l : Location) → memory_of state.new l
         ≡ put (device_action_at rec.now out.piece.command) out.output (memory_of state.old) l }
 {
-    match rec.command(out.piece.command) {
-        Command::BuildBottom => store_contents(state, path::BOTTOM, &out.output),
-        Command::BuildTop => store_contents(state, path::TOP, &out.output),
-        Command::Trace => store_hit(state, path::HIT, &out.output),
-        _ => {}
+    match Task::of(rec.command(out.piece.command)) {
+        Task::BuildBottom { structure, .. } | Task::BuildTop { structure, .. } => {
+            store_contents(state, structure, &out.output)
+        }
+        Task::TraceRay { hit, .. } => store_hit(state, hit, &out.output),
+        Task::Rest => {}
     }
 }
 

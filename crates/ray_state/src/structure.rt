@@ -1,5 +1,5 @@
 use crate::contents::Contents;
-use crate::structure_kind::StructureKind;
+use ray_cmd::StructureKind;
 
 /// A live acceleration structure.
 #[derive(Clone, Copy, Debug)]

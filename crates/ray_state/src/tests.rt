@@ -1,7 +1,6 @@
-use crate::{
-    DataRule, FetchFault, HitRecord, Output, Piece, PieceOut, Place, State, fetch, pieces, store,
-};
-use ray_cmd::{Recording, read_recording};
+use crate::{FetchFault, Output, Piece, PieceOut, State, fetch, pieces, store};
+use ray_bytes::{DataRule, HitRecord};
+use ray_cmd::{Place, Recording, read_recording};
 use ray_geom::Steps;
 use std::alloc::Global;
 use std::marker::Brand;
@@ -69,40 +68,6 @@ const NEAR: HitRecord = HitRecord {
     u: (1, 4),
     v: (1, 4),
 };
-
-#[test]
-fn lays_out_records(rt: HostRuntime) {
-    let apart = HitRecord {
-        kind: 1,
-        instance: 0xffff_fffe,
-        custom: 0x00ab_cdef,
-        sbt: 4,
-        geometry: 5,
-        primitive: 6,
-        face: 2,
-        spare: 7,
-        t: (0x0102_0304_0506_0708, 9),
-        u: (10, 11),
-        v: (12, 1 << 63),
-    };
-    let apart_bytes = [
-        1, 0, 0, 0, 0xfe, 0xff, 0xff, 0xff, 0xef, 0xcd, 0xab, 0, 4, 0, 0, 0, //
-        5, 0, 0, 0, 6, 0, 0, 0, 2, 0, 0, 0, 7, 0, 0, 0, //
-        8, 7, 6, 5, 4, 3, 2, 1, 9, 0, 0, 0, 0, 0, 0, 0, //
-        10, 0, 0, 0, 0, 0, 0, 0, 11, 0, 0, 0, 0, 0, 0, 0, //
-        12, 0, 0, 0, 0, 0, 0, 0, 0, 0, 0, 0, 0, 0, 0, 0x80,
-    ];
-    let rows = [
-        ("each field apart", apart, apart_bytes),
-        ("a miss", HitRecord::MISS, [0; HitRecord::SIZE]),
-    ];
-    for (name, record, want) in rows {
-        let mut bytes = [255; HitRecord::SIZE];
-        record.write(&mut bytes);
-        assert_eq!(rt; bytes, want, "{name}");
-        assert_eq!(rt; HitRecord::read(&bytes), record, "{name}");
-    }
-}
 
 #[test]
 fn counts_pieces(rt: HostRuntime) -> Result<(), Fail> {

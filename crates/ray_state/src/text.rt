@@ -1,16 +1,14 @@
 ghost use Rattle.std.specs.Prelude.{◌≡◌, ◌++◌, ◌<◌, length, string_bytes, IfOk, OnErr, OnOk};
 ghost use Rattle.ray_state.specs.Text.{hit_line, kind_word, place_text, numbers_text};
 
-use crate::hit_record::HitRecord;
-use crate::path;
-use crate::spot::Spot;
 use crate::state::State;
-use ray_cmd::{Command, Recording};
+use ray_bytes::HitRecord;
+use ray_cmd::{Command, Recording, Spot};
 use std::alloc::{AllocError, Global};
 
 impl State {
     ghost use Rattle.ray_state.specs.Memory.{memory_of, bytes_at};
-    ghost use Rattle.ray_state.specs.Records.{hit_of_bytes};
+    ghost use Rattle.ray_bytes.specs.Hits.{hit_of_bytes};
     ghost use Rattle.ray_state.specs.Action.{action_at};
     ghost use Rattle.ray_state.specs.Meaning.{outcome_of};
     ghost use Rattle.ray_state.specs.Run.{shown};
@@ -24,8 +22,12 @@ impl State {
         ensures err { OnErr result (out.new.items ≡ out.old.items) }
     {
         match rec.command(i) {
-            Command::ReadHits => {
-                let line = self.hit_text(path::HIT)?;
+            Command::Read { buffer, offset, .. } => {
+                let hit = Spot {
+                    buffer: *buffer,
+                    offset: *offset,
+                };
+                let line = self.hit_text(hit)?;
                 out.extend_from_slice(line.as_bytes())
             }
             _ => Ok(()),

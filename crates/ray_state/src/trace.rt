@@ -1,14 +1,15 @@
 ghost use Rattle.std.specs.Prelude.{◌≡◌, ◌+◌, ◌≤◌, length, option_and_then};
 ghost use Rattle.ray_geom.specs.HitValue.{hit_value};
 ghost use Rattle.ray_state.specs.Memory.{memory_of, bytes_at};
+ghost use Rattle.ray_bytes.specs.Records.{ray_of};
 ghost use Rattle.ray_state.specs.Meaning.{ray_within, contents_at, instance_in, triangle_in, hit_of_instance, hit_through, admits, record_of};
 
 use crate::contents::Contents;
-use crate::hit_record::HitRecord;
 use crate::instance::Instance;
-use crate::records::{long, point};
-use crate::spot::Spot;
+use crate::point::point;
 use crate::state::State;
+use ray_bytes::{HitRecord, RayRecord, RayView};
+use ray_cmd::Spot;
 use ray_geom::{Ray, Steps, Tri, TriHit, hit_tri};
 use std::sync::ledger::Ledger;
 
@@ -21,18 +22,21 @@ pub(crate) fn ray(state: &State, spot: Spot) -> Option<Ray>
     ray_from(&bytes)
 }
 
-// The ray of 40 bytes: origin and direction of three signed 32-bit numbers each, then the ends of
-// the interval in 1/65536. None where it breaks the limits.
+// The ray of 40 bytes. None where it breaks the limits.
 fn ray_from(bytes: &[u8]) -> Option<Ray>
     requires { length bytes.now ≡ 40 }
     ensures { result ≡ ray_within bytes.now }
 {
-    Ray::new(
-        point(bytes, 0),
-        point(bytes, 12),
-        long(bytes, 24),
-        long(bytes, 32),
-    )
+    let ray = record_in(bytes);
+    Ray::new(point(ray.origin), point(ray.dir), ray.tmin, ray.tmax)
+}
+
+// The record of 40 bytes.
+fn record_in(bytes: &[u8]) -> RayRecord
+    requires { length bytes.now ≡ 40 }
+    ensures { result ≡ ray_of bytes.now }
+{
+    RayView::new(bytes, 0).get(0).unwrap()
 }
 
 // What the ray hits of the top structure of this id, by a test of each primitive, a step each.

@@ -7,6 +7,6 @@ use Rattle.ray_state.proofs.bottom.triangle.Goals as goal
 
 pub returns : goal.returns
 returns c =
-    let read : TriValue = tri_value c.point.result c.point-2.result c.point-3.result in
-    let same : read ≡ triangle_of c.args.bytes.now = λ i. tri_value (c.point.ensures i) (c.point-2.ensures i) (c.point-3.ensures i) in
+    let read : TriValue = tri_value c.vertex.result c.vertex-2.result c.vertex-3.result in
+    let same : read ≡ triangle_of c.args.bytes.now = λ i. tri_value (c.vertex.ensures i) (c.vertex-2.ensures i) (c.vertex-3.ensures i) in
     where_so-SomeIff (tri_decided read) c.new.result read c.new.ensures ∙ ap (λ (t : TriValue). where_so (tri_decided t) t) same

@@ -1,4 +1,4 @@
-use crate::data_rule::DataRule;
+use ray_bytes::DataRule;
 
 /// A rule that a command may break.
 #[derive(Clone, Copy, Debug, PartialEq, Eq)]

@@ -1,0 +1,10 @@
+use Rattle.std.proofs.Common.{ap, sym, ◌∙◌, option_map}
+use Rattle.ray_bytes.specs.Records.{ray_of}
+use Rattle.ray_state.proofs.Whole.{whole_record}
+use Rattle.ray_state.proofs.trace.record_in.Goals as goal
+
+pub returns : goal.returns
+returns c =
+    let got = (rw c.new.ensures at c.get.ensures) ∙ ap (option_map ray_of) (whole_record 40 c.args.bytes.now c.requires) in
+    let unwrapped = c.unwrap.ensures in
+    cc (got, unwrapped)
