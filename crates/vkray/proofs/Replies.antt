@@ -6,7 +6,7 @@ use Rattle.vkray.specs.declared.reply.Reply.{Reply}
 use Rattle.vkray.specs.declared.status.Status.{Status}
 use Rattle.vkray.specs.declared.status.Status.TheVariants as statuses
 use Rattle.vkray.specs.declared.stop.Stop.{Stop}
-use Rattle.vkray.specs.declared.stop.Stop.TheVariants.{BadWords, ReadFault, TooLong, NotJson, Unbuilt, Refused, NoMemory}
+use Rattle.vkray.specs.declared.stop.Stop.TheVariants.{BadWords, ReadFault, TooLong, NotJson, BadShape, Unbuilt, Refused, NoMemory}
 use Rattle.vkray.specs.Reply.{Reading, Writing, IsReply, IsSent, IsWritten, Answers}
 use Rattle.vkray.specs.Stops.{StopsCall, IsStopReply}
 
@@ -20,10 +20,26 @@ reply_of_stop words reading TooLong status text h line =
     subst (λ (s : Status). IsReply words reading s text) (sym line.status_is) (h.0, h.1, line.text_is)
 reply_of_stop words reading NotJson status text h line =
     subst (λ (s : Status). IsReply words reading s text) (sym line.status_is)
-    (h.0, record { input = h.1.input; read = h.1.read; is = record { no_json = h.1.stops; line = line.text_is } })
-reply_of_stop words reading (Unbuilt command) status text h line =
+    (h.0, record { input = h.1.input; read = h.1.read; is = inl (record { no_json = h.1.stops; line = line.text_is }) })
+reply_of_stop words reading (BadShape command) status text h line =
     subst (λ (s : Status). IsReply words reading s text) (sym line.status_is)
-    (h.0, record { input = h.1.input; read = h.1.read; is = record { command = command; differs = h.1.stops; line = line.text_is } })
+    (h.0, record { input = h.1.input; read = h.1.read; is = inr (record { command = command; bad = h.1.stops; line = line.text_is }) })
+reply_of_stop words reading (Unbuilt command) status text h line =
+    subst (λ (s : Status). IsReply words reading s text) (sym line.status_is) (
+      h.0,
+      record {
+        input = h.1.input;
+        read = h.1.read;
+        is = record {
+          commands = h.1.stops.commands;
+          reads = h.1.stops.reads;
+          command = command;
+          first = h.1.stops.is.first;
+          clean = h.1.stops.is.clean;
+          line = line.text_is;
+        };
+      },
+    )
 reply_of_stop words reading (Refused refusal) status text h line =
     subst (λ (s : Status). IsReply words reading s text) (sym line.status_is) (
       h.0,
@@ -33,8 +49,10 @@ reply_of_stop words reading (Refused refusal) status text h line =
         is = record {
           commands = h.1.stops.commands;
           reads = h.1.stops.reads;
+          until = h.1.stops.is.until;
+          is_until = h.1.stops.is.is_until;
           refusal = refusal;
-          broken = h.1.stops.broken;
+          broken = h.1.stops.is.broken;
           line = line.text_is;
         };
       },

@@ -2,7 +2,7 @@
 use Rattle.std.proofs.Common.{◌≡◌, ℕ, ◌+◌, ◌<◌, List, [], ◌++◌, None, sym, ap, subst, ◌∙◌, inl, inr, arith, add-one}
 use Rattle.std.proofs.lemmas.Bool.{cases_lt}
 use Rattle.ray_cmd.specs.declared.command.Command.{Command}
-use Rattle.ray_state.specs.declared.refusal.Refusal.{Refusal}
+use Rattle.ray_cmd.specs.declared.refusal.Refusal.{Refusal}
 use Rattle.ray_state.specs.Memory.{Location, Memory, nothing_live}
 use Rattle.ray_state.specs.Action.{action_at}
 use Rattle.ray_state.specs.Meaning.{Breaks, outcome_of}

@@ -1,3 +1,4 @@
+pub mod PathForm
 pub mod Stepping
 pub mod Words
 pub mod Codes

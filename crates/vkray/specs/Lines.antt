@@ -1,12 +1,12 @@
 -- The lines that say why there is no text of a run. (Own.)
 use Rattle.std.specs.Prelude.{ℕ, List, [], ◌++◌, codes, decimal}
-use Rattle.ray_state.specs.declared.data_rule.DataRule.{DataRule}
-use Rattle.ray_state.specs.declared.data_rule.DataRule.TheVariants.{X1, X2, X3, X4, X5, X6, X7, X8, X9, X10, X11, X12, X13}
-use Rattle.ray_state.specs.declared.rule.Rule.{Rule}
-use Rattle.ray_state.specs.declared.rule.Rule.TheVariants.{V, X}
-use Rattle.ray_state.specs.declared.place.Place.{Place}
-use Rattle.ray_state.specs.declared.place.Place.TheVariants.{Whole, Part, Geometry, Element, Earlier}
-use Rattle.ray_state.specs.declared.refusal.Refusal.{Refusal}
+use Rattle.ray_bytes.specs.declared.data_rule.DataRule.{DataRule}
+use Rattle.ray_bytes.specs.declared.data_rule.DataRule.TheVariants.{X1, X2, X3, X4, X5, X6, X7, X8, X9, X10, X11, X12, X13}
+use Rattle.ray_cmd.specs.declared.rule.Rule.{Rule}
+use Rattle.ray_cmd.specs.declared.rule.Rule.TheVariants.{V, X}
+use Rattle.ray_cmd.specs.declared.place.Place.{Place}
+use Rattle.ray_cmd.specs.declared.place.Place.TheVariants.{Whole, Part, Geometry, Element, Earlier}
+use Rattle.ray_cmd.specs.declared.refusal.Refusal.{Refusal}
 
 -- the number of a data rule
 abbrev pub number_of : DataRule → ℕ
@@ -45,3 +45,7 @@ refusal_line refusal =
 -- the line of the least command whose form isn't built: `unbuilt I`
 abbrev pub unbuilt_line : ℕ → List ℕ
 unbuilt_line command = codes "unbuilt " ++ (decimal command ++ codes "\n")
+
+-- the line of the first command that has no shape of a command: `bad-shape I`
+abbrev pub bad_shape_line : ℕ → List ℕ
+bad_shape_line command = codes "bad-shape " ++ (decimal command ++ codes "\n")

@@ -1,45 +1,64 @@
 -- What the program answers to an input. (Own.)
-use Rattle.std.specs.Prelude.{◌≡◌, ◌≤◌, ◌<◌, ◌+◌, ◌^◌, ℕ, List, [], ◌++◌, length, take, drop, Option, Some, None, IfSome, codes, ◌⊎◌, String}
+use Rattle.std.specs.Prelude.{◌≡◌, ◌≤◌, ◌<◌, ◌+◌, ◌^◌, ℕ, List, [], ◌++◌, length, take, drop, Option, Some, Result, Ok, Err, IfSome, codes, ◌⊎◌, String}
 use Rattle.std.specs.declared.alloc.Global.{Global}
 use Rattle.ray_io.specs.Faults.{HasRisen}
 use Rattle.ray_cmd.specs.declared.command.Command.{Command}
-use Rattle.ray_cmd.specs.Json.{json_of}
-use Rattle.ray_cmd.specs.PathForm.{IsPathRecording, IsUnbuilt}
-use Rattle.ray_state.specs.declared.refusal.Refusal.{Refusal}
+use Rattle.ray_cmd.specs.declared.fault.RecordingFault.TheVariants.{NotJson, BadShape}
+use Rattle.ray_cmd.specs.Recordings.{recording_of}
+use Rattle.ray_cmd.specs.declared.refusal.Refusal.{Refusal}
 use Rattle.ray_state.specs.Run.{text_before, IsClean, IsRefusal}
 use Rattle.vkray.specs.declared.status.Status.{Status}
 use Rattle.vkray.specs.declared.status.Status.TheVariants as statuses
 use Rattle.vkray.specs.Words.{IsRun}
-use Rattle.vkray.specs.Lines.{refusal_line, unbuilt_line}
+use Rattle.vkray.specs.Lines.{refusal_line, unbuilt_line, bad_shape_line}
+use Rattle.vkray.specs.PathForm.{IsBuilt, IsFirstUnbuilt, IsUntil}
 
 -- the greatest number of bytes of an input: 2^26
 abbrev pub most_bytes : ℕ
 most_bytes = 2 ^ 26
 
--- the input is a path recording that breaks no rule, and the text is that of its run in recording order
+-- the input is a recording whose commands have built forms and break no rule, and the text is that of its run in recording
+-- order
 pub record IsDone (input text : List ℕ) : Type 0 where
   pub commands : List Command
-  pub reads : IsPathRecording input commands
+  pub reads : recording_of input ≡ Ok commands
+  pub built : IsBuilt commands
   pub clean : IsClean commands (length commands)
   pub run : text ≡ text_before commands (length commands)
 
--- the input is a path recording that breaks a rule, and the text is the line of its refusal
+-- the input is a recording of which a command breaks a rule, below the first whose form isn't built, and the text is the
+-- line of its refusal
 pub record IsRefused (input text : List ℕ) : Type 0 where
   pub commands : List Command
-  pub reads : IsPathRecording input commands
+  pub reads : recording_of input ≡ Ok commands
+  pub until : ℕ
+  pub is_until : IsUntil commands until
   pub refusal : Refusal
-  pub broken : IsRefusal commands (length commands) refusal
+  pub broken : IsRefusal commands until refusal
   pub line : text ≡ refusal_line refusal
 
 -- the input is no JSON, and the text says so
 pub record IsNotJson (input text : List ℕ) : Type 0 where
-  pub no_json : json_of input ≡ None
+  pub no_json : recording_of input ≡ Err NotJson
   pub line : text ≡ codes "not-json\n"
 
--- the input is JSON outside the path form, and the text names the least command that differs
-pub record IsUnbuiltAt (input text : List ℕ) : Type 0 where
+-- the input is JSON and no recording, and the text names the first command outside the shapes
+pub record IsBadShape (input text : List ℕ) : Type 0 where
   pub command : ℕ
-  pub differs : IsUnbuilt input command
+  pub bad : recording_of input ≡ Err (BadShape command)
+  pub line : text ≡ bad_shape_line command
+
+-- the input is no recording
+abbrev pub IsBadRecording : List ℕ → List ℕ → Type 0
+IsBadRecording input text = IsNotJson input text ⊎ IsBadShape input text
+
+-- the input is a recording with a command whose form isn't built, none below it breaks a rule, and the text names the first
+pub record IsUnbuiltAt (input text : List ℕ) : Type 0 where
+  pub commands : List Command
+  pub reads : recording_of input ≡ Ok commands
+  pub command : ℕ
+  pub first : IsFirstUnbuilt commands command
+  pub clean : IsClean commands command
   pub line : text ≡ unbuilt_line command
 
 -- what a call did to its source: the bytes that were left and are left, where they are told, and the counts of faults
@@ -114,7 +133,7 @@ abbrev pub IsReply : List (String Global) → Reading → Status → List ℕ �
 IsReply words reading statuses.BadWords text = (¬ IsRun words) × (reading.after ≡ reading.before) × (text ≡ codes "bad-words\n")
 IsReply words reading statuses.ReadFault text = IsRun words × HasRisen reading.faults_before reading.faults_after × (¬ TakesTooMany reading) × (text ≡ codes "read-fault\n")
 IsReply words reading statuses.TooLong text = IsRun words × IsTooLong reading × (text ≡ codes "too-long\n")
-IsReply words reading statuses.BadRecording text = IsRun words × IsOfInput IsNotJson reading text
+IsReply words reading statuses.BadRecording text = IsRun words × IsOfInput IsBadRecording reading text
 IsReply words reading statuses.Unbuilt text = IsRun words × IsOfInput IsUnbuiltAt reading text
 IsReply words reading statuses.Refused text = IsRun words × IsOfInput IsRefused reading text
 IsReply words reading statuses.Done text = IsRun words × IsOfInput IsDone reading text
@@ -154,14 +173,15 @@ IsSent status text writing result =
     ((result ≡ status) × IsWritten writing text) ⊎ ((result ≡ statuses.WriteFault) × IsCut writing text × HasFailed writing)
 
 -- a call that is to be answered: the word is `run`, the source gives all of an input within the limit without a fault, the
--- sink takes what is written, and the input is a path recording that breaks no rule
+-- sink takes what is written, and the input is a recording whose commands have built forms and break no rule
 pub record IsGoodCall (words : List (String Global)) (reading : Reading) (writing : Writing) (input : List ℕ) (commands : List Command) : Type 0 where
   pub run : IsRun words
   pub told : reading.before ≡ Some input
   pub limited : length input ≤ most_bytes
   pub source_holds : ¬ HasRisen reading.faults_before reading.faults_after
   pub sink_holds : ¬ HasFailed writing
-  pub reads : IsPathRecording input commands
+  pub reads : recording_of input ≡ Ok commands
+  pub built : IsBuilt commands
   pub clean : IsClean commands (length commands)
 
 -- the run's whole text is written, or memory ran out

@@ -1,8 +1,8 @@
 -- One command of a run. (Own.)
 use Rattle.std.specs.Prelude.{◌≡◌, ℕ, List, ◌++◌, None}
-use Rattle.ray_state.specs.declared.data_rule.DataRule.{DataRule}
-use Rattle.ray_state.specs.declared.rule.Rule.TheVariants.{X}
-use Rattle.ray_state.specs.declared.refusal.Refusal.{Refusal}
+use Rattle.ray_bytes.specs.declared.data_rule.DataRule.{DataRule}
+use Rattle.ray_cmd.specs.declared.rule.Rule.TheVariants.{X}
+use Rattle.ray_cmd.specs.declared.refusal.Refusal.{Refusal}
 use Rattle.ray_state.specs.declared.fetch_fault.FetchFault.{FetchFault}
 use Rattle.ray_state.specs.declared.fetch_fault.FetchFault.TheVariants as fetches
 use Rattle.ray_state.specs.Memory.{Location, Memory}

@@ -1,8 +1,11 @@
-ghost use Rattle.std.specs.Prelude.{MatchResult};
+ghost use Rattle.std.specs.Prelude.{◌≤◌, IfOk, IfErr, MatchResult, length};
+ghost use Rattle.vkray.specs.PathForm.{IsBuilt, IsFirstUnbuilt};
 ghost use Rattle.vkray.specs.Reply.{IsDone};
-ghost use Rattle.vkray.specs.Stops.{IsRunText, StopsInput, StopsRun};
+ghost use Rattle.vkray.specs.Stops.{IsRunText, IsBuiltText, StopsInput, StopsRun, StopsBelow};
 
 use crate::gate::Gate;
+use crate::path_form::first_unbuilt;
+use crate::run_fault::RunFault;
 use crate::running::run_waves;
 use crate::stop::Stop;
 use ray_cmd::{Recording, read_recording};
@@ -25,7 +28,7 @@ pub(crate) fn execute<R: Threads + Sync, G: Gate + Sync>(
     }
 }
 
-// Runs a recording from a state with nothing live.
+// Runs a recording, as far as the forms of its commands are built.
 fn run<R: Threads + Sync, G: Gate + Sync>(
     rt: &R,
     alloc: Global,
@@ -33,13 +36,63 @@ fn run<R: Threads + Sync, G: Gate + Sync>(
     gate: &G,
 ) -> Result<Vec<u8>, Stop>
     ensures { MatchResult result
-        (λ text. IsRunText recording.now text.items)
+        (λ text. IsBuiltText recording.now text.items)
         (StopsRun recording.now) }
 {
-    let mut state = State::new(alloc);
-    let until = recording.len();
-    match run_waves(rt, alloc, &mut state, recording, until, 1, gate) {
+    match first_unbuilt(recording) {
+        Some(command) => Err(run_below(rt, alloc, recording, command, gate)),
+        None => run_all(rt, alloc, recording, gate),
+    }
+}
+
+// Runs a recording whose commands have built forms.
+fn run_all<R: Threads + Sync, G: Gate + Sync>(
+    rt: &R,
+    alloc: Global,
+    recording: &Recording,
+    gate: &G,
+) -> Result<Vec<u8>, Stop>
+    requires { IsBuilt recording.now }
+    ensures { MatchResult result
+        (λ text. IsBuiltText recording.now text.items)
+        (StopsRun recording.now) }
+{
+    match run_until(rt, alloc, recording, recording.len(), gate) {
         Ok(text) => Ok(text),
         Err(fault) => Err(Stop::from(fault)),
     }
+}
+
+// Runs the commands below the first whose form isn't built, and says why there is no text.
+fn run_below<R: Threads + Sync, G: Gate + Sync>(
+    rt: &R,
+    alloc: Global,
+    recording: &Recording,
+    command: u32,
+    gate: &G,
+) -> Stop
+    requires first { IsFirstUnbuilt recording.now command }
+    requires within { command ≤ length recording.now }
+    ensures { StopsRun recording.now result }
+{
+    if let Err(fault) = run_until(rt, alloc, recording, command, gate) {
+        return Stop::from(fault);
+    }
+    Stop::Unbuilt(command)
+}
+
+// Runs the commands below a number.
+fn run_until<R: Threads + Sync, G: Gate + Sync>(
+    rt: &R,
+    alloc: Global,
+    recording: &Recording,
+    until: u32,
+    gate: &G,
+) -> Result<Vec<u8>, RunFault>
+    requires { until ≤ length recording.now }
+    ensures ok { IfOk result (λ text. IsRunText recording.now until text.items) }
+    ensures err { IfErr result (StopsBelow recording.now until) }
+{
+    let mut state = State::new(alloc);
+    run_waves(rt, alloc, &mut state, recording, until, 1, gate)
 }

@@ -10,6 +10,10 @@ mod device;
 mod executing;
 mod gate;
 mod line;
+mod path_buffers;
+mod path_builds;
+mod path_commands;
+mod path_form;
 mod reply;
 mod run_fault;
 mod running;
@@ -18,6 +22,7 @@ mod stop;
 
 pub use device::{MOST_BYTES, vkray};
 pub use gate::{Gate, NoGate};
+pub use path_form::first_unbuilt;
 pub use run_fault::RunFault;
 pub use running::run_waves;
 pub use status::Status;

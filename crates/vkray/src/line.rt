@@ -1,8 +1,16 @@
 ghost use Rattle.std.specs.Prelude.{◌≡◌, string_bytes, IfOk};
 ghost use Rattle.vkray.specs.Lines as lines;
 
-use ray_state::{DataRule, Place, Refusal, Rule};
+use ray_bytes::DataRule;
+use ray_cmd::{Place, Refusal, Rule};
 use std::alloc::{AllocError, Global};
+
+// The line of a command that has no shape of a command.
+pub(crate) fn bad_shape_line(alloc: Global, command: u32) -> Result<String, AllocError>
+    ensures { IfOk result (λ line. string_bytes line ≡ lines.bad_shape_line command) }
+{
+    format!(in alloc; "bad-shape {command}\n")
+}
 
 // The line of a command whose form isn't built.
 pub(crate) fn unbuilt_line(alloc: Global, command: u32) -> Result<String, AllocError>

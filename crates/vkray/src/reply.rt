@@ -1,7 +1,7 @@
 ghost use Rattle.std.specs.Prelude.{IfOk};
 ghost use Rattle.vkray.specs.Stops.{HasLine, IsStopReply};
 
-use crate::line::{refusal_line, unbuilt_line};
+use crate::line::{bad_shape_line, refusal_line, unbuilt_line};
 use crate::status::Status;
 use crate::stop::Stop;
 use std::alloc::{AllocError, Global};
@@ -23,6 +23,10 @@ impl Reply {
             Stop::ReadFault => Reply::of_line(alloc, Status::ReadFault, b"read-fault\n"),
             Stop::TooLong => Reply::of_line(alloc, Status::TooLong, b"too-long\n"),
             Stop::NotJson => Reply::of_line(alloc, Status::BadRecording, b"not-json\n"),
+            Stop::BadShape(command) => {
+                let line = bad_shape_line(alloc, command)?;
+                Reply::of_line(alloc, Status::BadRecording, line.as_bytes())
+            }
             Stop::Unbuilt(command) => {
                 let line = unbuilt_line(alloc, command)?;
                 Reply::of_line(alloc, Status::Unbuilt, line.as_bytes())

@@ -1,4 +1,4 @@
-use ray_state::Refusal;
+use ray_cmd::Refusal;
 use std::alloc::AllocError;
 
 /// Why a run has no text.

@@ -7,9 +7,9 @@ ghost use Rattle.vkray.specs.Stepping.{IsStep, Stops, stop_of};
 
 use crate::gate::Gate;
 use crate::run_fault::RunFault;
-use ray_cmd::Recording;
+use ray_cmd::{Recording, Refusal, Rule};
 use ray_geom::Steps;
-use ray_state::{FetchFault, Piece, PieceOut, Refusal, Rule, State, fetch, pieces, store};
+use ray_state::{FetchFault, Piece, PieceOut, State, fetch, pieces, store};
 use std::alloc::Global;
 use std::marker::Brand;
 use std::thread::Threads;

@@ -8,7 +8,7 @@ pub enum Status {
     Done,
     /// A command of the recording breaks a rule.
     Refused,
-    /// The input is no JSON.
+    /// The input is no JSON, or no recording.
     BadRecording,
     /// The words are none of the program's.
     BadWords,

@@ -1,7 +1,6 @@
 use crate::run_fault::RunFault;
-use ray_cmd::RecordingFault;
+use ray_cmd::{RecordingFault, Refusal};
 use ray_io::ReadError;
-use ray_state::Refusal;
 
 /// Why there is no text of a run.
 #[derive(Clone, Copy, Debug, PartialEq, Eq)]
@@ -14,6 +13,8 @@ pub(crate) enum Stop {
     TooLong,
     /// The input is no JSON.
     NotJson,
+    /// The command of this number is the first that has no shape of a command.
+    BadShape(u32),
     /// The command of this number has a form that isn't built yet.
     Unbuilt(u32),
     /// A command breaks a rule.
@@ -46,7 +47,7 @@ impl From<RecordingFault> for Stop {
     fn from(fault: RecordingFault) -> Stop {
         match fault {
             RecordingFault::NotJson => Stop::NotJson,
-            RecordingFault::Unbuilt(command) => Stop::Unbuilt(command),
+            RecordingFault::BadShape(command) => Stop::BadShape(command),
             RecordingFault::NoMemory => Stop::NoMemory,
         }
     }
