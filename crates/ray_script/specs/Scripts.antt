@@ -12,6 +12,7 @@ abbrev pub is_choice_in_range : RawChoice → Bool
 is_choice_in_range (At num den) = nat_le num (2 ^ 40) && nat_lt 0 den && nat_le den 65536
 is_choice_in_range _ = true
 
+-- a rule is in range where what it decides is
 abbrev pub is_in_range : RawRule → Bool
 is_in_range rule = is_choice_in_range rule.choice
 

@@ -101,8 +101,20 @@ fn only_named(word: ChoiceWord, rule: &Value) -> Result<(), ReadFault>
     match word {
         ChoiceWord::At => only_members(
             rule,
-            &["ray", "instance", "geometry", "primitive", "nth", "do", "num", "den"],
+            &[
+                "ray",
+                "instance",
+                "geometry",
+                "primitive",
+                "nth",
+                "do",
+                "num",
+                "den",
+            ],
         ),
-        _ => only_members(rule, &["ray", "instance", "geometry", "primitive", "nth", "do"]),
+        _ => only_members(
+            rule,
+            &["ray", "instance", "geometry", "primitive", "nth", "do"],
+        ),
     }
 }

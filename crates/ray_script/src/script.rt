@@ -75,9 +75,7 @@ fn is_in_range(rule: &RawRule) -> bool
     ensures { result ≡ is_in_range rule.now }
 {
     match rule.choice {
-        RawChoice::At(num, den) => {
-            num <= MOST_NUMERATOR && 0 < den && den <= MOST_DENOMINATOR
-        }
+        RawChoice::At(num, den) => { num <= MOST_NUMERATOR && 0 < den && den <= MOST_DENOMINATOR }
         _ => true,
     }
 }
