@@ -10,7 +10,6 @@ use Rattle.serde_json.specs.Data.{Data, null, boolean, number, string, array, ob
 use Rattle.serde_json.specs.Find.{get, as_number, as_u64, as_bool, as_str, as_array}
 
 infixl 10 ◌>>=◌
-
 -- what is spelled after the first has been read, or nothing where the first isn't spelled
 abbrev pub ◌>>=◌ : {A B : Type 0} → Option A → (A → Option B) → Option B
 first >>= step = option_and_then step first
@@ -90,18 +89,20 @@ abbrev pub maybe : {A : Type 0} → Option A → Option (Option A)
 maybe None = None
 maybe (Some x) = Some (Some x)
 
--- a member that may be absent
+-- what a member spells that was found, or wasn't
 abbrev pub at_if_there : {A : Type 0} → (Data → Option A) → Option Data → Option (Option A)
 at_if_there spells None = Some None
 at_if_there spells (Some d) = maybe (spells d)
 
+-- a member that may be absent
 abbrev pub optional_at : {A : Type 0} → (Data → Option A) → List ℕ → Data → Option (Option A)
 optional_at spells name d = at_if_there spells (get name d)
 
--- a list that is empty where it is absent
+-- what a list spells that was found, or wasn't: then it is empty
 abbrev pub listed_if_there : {A : Type 0} → (Data → Option A) → Option Data → Option (List A)
 listed_if_there spells None = Some []
 listed_if_there spells (Some d) = list_of spells d
 
+-- a list that is empty where it is absent
 abbrev pub listed_at : {A : Type 0} → (Data → Option A) → List ℕ → Data → Option (List A)
 listed_at spells name d = listed_if_there spells (get name d)

@@ -13,6 +13,7 @@
 
 mod bytes;
 mod fault;
+mod hex_digits;
 mod list;
 mod listed;
 mod members;
@@ -22,11 +23,12 @@ mod reader;
 mod tests;
 mod words;
 
-pub use crate::bytes::{Bytes, read_hex};
+pub use crate::bytes::Bytes;
 pub use crate::fault::ReadFault;
+pub use crate::hex_digits::read_hex;
 pub use crate::list::read_list;
 pub use crate::listed::Listed;
 pub use crate::members::{member, only_members, optional_member};
-pub use crate::reader::Reader;
 pub use crate::numbers::{read_bool, read_u32, read_u64};
+pub use crate::reader::Reader;
 pub use crate::words::{read_text, read_word, read_words};

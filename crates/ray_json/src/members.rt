@@ -1,5 +1,5 @@
 ghost use Rattle.std.specs.Prelude.{◌≡◌, ◌≢◌, map, option_map, string_bytes};
-ghost use Rattle.serde_json.specs.View.{view, members_view};
+ghost use Rattle.serde_json.specs.View.{view};
 ghost use Rattle.serde_json.specs.Find.{get};
 ghost use Rattle.ray_json.specs.Outcome.{Gives, GivesBy};
 ghost use Rattle.std.specs.List.{list_any, list_all};

@@ -8,8 +8,8 @@ use Rattle.ray_script.specs.declared.choice_word.ChoiceWord.TheVariants as words
 use Rattle.ray_script.specs.declared.raw_choice.RawChoice.{RawChoice}
 use Rattle.ray_script.specs.declared.raw_choice.RawChoice.TheVariants as choices
 use Rattle.ray_script.specs.declared.raw_rule.RawRule.{RawRule}
-use Rattle.ray_script.specs.declared.reading.NotRules.{NotRules}
-use Rattle.ray_script.specs.declared.reading.NotRules.TheVariants.{Shape, NoMemory}
+use Rattle.ray_script.specs.declared.not_rules.NotRules.{NotRules}
+use Rattle.ray_script.specs.declared.not_rules.NotRules.TheVariants.{Shape, NoMemory}
 
 -- the word of a rule's member `do`
 abbrev pub choice_word_of : Data → Option ChoiceWord

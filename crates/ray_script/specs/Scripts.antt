@@ -3,8 +3,8 @@ use Rattle.std.specs.Prelude.{ℕ, ◌^◌, ◌<◌, ◌≤◌, ◌&&◌, ◌≡
 use Rattle.ray_script.specs.declared.raw_choice.RawChoice.{RawChoice}
 use Rattle.ray_script.specs.declared.raw_choice.RawChoice.TheVariants.{At}
 use Rattle.ray_script.specs.declared.raw_rule.RawRule.{RawRule}
-use Rattle.ray_script.specs.declared.script.BadScript.{BadScript}
-use Rattle.ray_script.specs.declared.script.BadScript.TheVariants as faults
+use Rattle.ray_script.specs.declared.bad_script.BadScript.{BadScript}
+use Rattle.ray_script.specs.declared.bad_script.BadScript.TheVariants as faults
 use Rattle.ray_script.specs.declared.script.Script.{Script}
 
 -- a rule's distance is in range: its numerator is at most 2^40, its denominator from 1 to 65,536
@@ -12,6 +12,7 @@ abbrev pub is_choice_in_range : RawChoice → Bool
 is_choice_in_range (At num den) = nat_le num (2 ^ 40) && nat_lt 0 den && nat_le den 65536
 is_choice_in_range _ = true
 
+-- a rule is in range where what it decides is
 abbrev pub is_in_range : RawRule → Bool
 is_in_range rule = is_choice_in_range rule.choice
 

@@ -9,15 +9,21 @@
 //! scripts. It stands on ray_json.
 #![tactic(auto)]
 
+mod bad_script;
 mod choice_word;
+mod not_rules;
 mod raw_choice;
 mod raw_rule;
 mod reading;
+mod rule_reader;
 mod script;
 #[cfg(test)]
 mod tests;
 
+pub use crate::bad_script::BadScript;
+pub use crate::not_rules::NotRules;
 pub use crate::raw_choice::RawChoice;
 pub use crate::raw_rule::RawRule;
-pub use crate::reading::{NotRules, RuleReader, raw_rules};
-pub use crate::script::{BadScript, MOST_RULES, Script, script_of};
+pub use crate::reading::raw_rules;
+pub use crate::rule_reader::RuleReader;
+pub use crate::script::{MOST_RULES, Script, script_of};

@@ -1,9 +1,10 @@
 ghost use Rattle.std.specs.Prelude.{◌≡◌, ◌<◌, IfSome};
 ghost use Rattle.ray_script.specs.Scripts.{is_in_range, first_bad, refused_at, IsScriptOf};
 
+use crate::bad_script::BadScript;
 use crate::raw_choice::RawChoice;
 use crate::raw_rule::RawRule;
-use std::alloc::{AllocError, Global};
+use std::alloc::Global;
 use std::marker::Model;
 
 /// The greatest number of rules of a script.
@@ -29,28 +30,6 @@ impl Model for Script {
     ghost Value = { List RawRule };
 
     ghost view = { λ s. s.rules.items };
-}
-
-/// Why rules are no script. Own.
-#[derive(Clone, Copy, Debug, PartialEq, Eq)]
-pub enum BadScript {
-    /// This is the first rule whose distance is out of range: its denominator is 0 or above 65,536,
-    /// or its numerator is above 2^40. It is 4,096 where the first 4,096 rules are in range and
-    /// there are more.
-    At(u32),
-    /// There was no memory for the script.
-    NoMemory,
-}
-
-impl From<AllocError> for BadScript {
-    ghost use Rattle.std.specs.Prelude.{◌≡◌};
-    ghost use Rattle.ray_script.specs.declared.script.BadScript.TheVariants.{NoMemory};
-
-    ghost from_gives = { λ _ e. e ≡ NoMemory };
-
-    fn from(_refused: AllocError) -> BadScript {
-        BadScript::NoMemory
-    }
 }
 
 /// The script of these rules.
@@ -96,9 +75,7 @@ fn is_in_range(rule: &RawRule) -> bool
     ensures { result ≡ is_in_range rule.now }
 {
     match rule.choice {
-        RawChoice::At(num, den) => {
-            num <= MOST_NUMERATOR && 0 < den && den <= MOST_DENOMINATOR
-        }
+        RawChoice::At(num, den) => { num <= MOST_NUMERATOR && 0 < den && den <= MOST_DENOMINATOR }
         _ => true,
     }
 }
