@@ -6,3 +6,4 @@ pub mod Signs
 pub mod Sides
 pub mod Hits
 pub mod HitValues
+pub mod Sizes

@@ -11,3 +11,5 @@ pub mod Measures
 pub mod Counted
 pub mod Decided
 pub mod HitValue
+pub mod Transform
+pub mod Boxes

@@ -12,10 +12,12 @@
 //! It stands on the standard library and on no other crate. No call takes memory.
 #![tactic(auto)]
 
+mod box3;
 mod count;
 mod edge;
 mod frac;
 mod hit;
+mod matrix;
 mod measured;
 mod ray;
 mod steps;
@@ -25,8 +27,10 @@ mod tri;
 mod tri_hit;
 mod vec3;
 
+pub use crate::box3::Box3;
 pub use crate::frac::Frac;
 pub use crate::hit::hit_tri;
+pub use crate::matrix::Matrix;
 pub use crate::ray::Ray;
 pub use crate::steps::Steps;
 pub use crate::tri::Tri;
