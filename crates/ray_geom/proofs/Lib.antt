@@ -3,7 +3,11 @@ pub mod Fractions
 pub mod Ring
 pub mod Determinant
 pub mod Signs
+pub mod Triple
 pub mod Sides
+pub mod Weights
+pub mod EdgeLaw
+pub mod OneHit
 pub mod Hits
 pub mod HitValues
 pub mod Sizes

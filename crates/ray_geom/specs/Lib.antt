@@ -13,3 +13,4 @@ pub mod Decided
 pub mod HitValue
 pub mod Transform
 pub mod Boxes
+pub mod Crossing
