@@ -11,3 +11,4 @@ pub mod OneHit
 pub mod Hits
 pub mod HitValues
 pub mod Sizes
+pub mod ObjectRays

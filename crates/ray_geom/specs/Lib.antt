@@ -14,3 +14,4 @@ pub mod HitValue
 pub mod Transform
 pub mod Boxes
 pub mod Crossing
+pub mod ObjectRay

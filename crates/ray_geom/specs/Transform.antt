@@ -58,3 +58,32 @@ image_of m v = vec3 (dot_of m.a v +ℤ m.t.x) (dot_of m.b v +ℤ m.t.y) (dot_of 
 -- transform (Vulkan, "Ray Traversal": instance transforms)
 abbrev pub world_tri : MatrixValue → TriValue → TriValue
 world_tri m tri = tri_value (image_of m tri.v0) (image_of m tri.v1) (image_of m tri.v2)
+
+-- a matrix alone, by its rows
+pub record Rows : Type 0 where
+  pub a : Vec3
+  pub b : Vec3
+  pub c : Vec3
+
+-- a matrix times a vector
+abbrev pub times_of : Rows → Vec3 → Vec3
+times_of rows v = vec3 (dot_of rows.a v) (dot_of rows.b v) (dot_of rows.c v)
+
+-- the adjugate of M, adj(M): the transpose of its cofactors, so that its columns are b x c, c x a and
+-- a x b
+abbrev pub adjugate_of : MatrixValue → Rows
+adjugate_of m =
+    let p = cross_of m.b m.c in
+    let q = cross_of m.c m.a in
+    let r = cross_of m.a m.b in
+    record { a = vec3 p.x q.x r.x; b = vec3 p.y q.y r.y; c = vec3 p.z q.z r.z }
+
+-- adj(M) v
+abbrev pub adjugate_times : MatrixValue → Vec3 → Vec3
+adjugate_times m v = times_of (adjugate_of m) v
+
+-- the limit of an adjugate of a transform within the limits (own)
+pub record IsAdjugate (rows : Rows) : Type 0 where
+  pub a_short : IsShort (2 ^ 25) rows.a
+  pub b_short : IsShort (2 ^ 25) rows.b
+  pub c_short : IsShort (2 ^ 25) rows.c

@@ -12,6 +12,7 @@
 //! It stands on the standard library and on no other crate. No call takes memory.
 #![tactic(auto)]
 
+mod adjugate;
 mod box3;
 mod count;
 mod edge;
@@ -19,6 +20,7 @@ mod frac;
 mod hit;
 mod matrix;
 mod measured;
+mod object;
 mod owner;
 mod ray;
 mod shared_edge;
@@ -33,6 +35,7 @@ pub use crate::box3::Box3;
 pub use crate::frac::Frac;
 pub use crate::hit::hit_tri;
 pub use crate::matrix::Matrix;
+pub use crate::object::{ObjectRay, object_ray};
 pub use crate::owner::Owner;
 pub use crate::ray::Ray;
 pub use crate::shared_edge::edge_owner;
