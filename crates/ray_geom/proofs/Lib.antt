@@ -12,3 +12,5 @@ pub mod Hits
 pub mod HitValues
 pub mod Sizes
 pub mod ObjectRays
+pub mod Slabs
+pub mod Spans

@@ -22,8 +22,8 @@ pub *ℤ--ℤ : (a b c : ℤ) → a *ℤ (b -ℤ c) ≡ (a *ℤ b) -ℤ (a *ℤ 
 pub +ℤ-*ℤ : (a b c : ℤ) → (a +ℤ b) *ℤ c ≡ (a *ℤ c) +ℤ (b *ℤ c)
 +ℤ-*ℤ a b c = omega (arith, ints, *ℤ_comm (a +ℤ b) c, *ℤ-+ℤ c a b, *ℤ_comm a c, *ℤ_comm b c)
 
-pub -ℤ-*ℤ : (a b c : ℤ) → (a -ℤ b) *ℤ c ≡ (a *ℤ c) -ℤ (b *ℤ c)
--ℤ-*ℤ a b c = omega (arith, ints, *ℤ_comm (a -ℤ b) c, *ℤ--ℤ c a b, *ℤ_comm a c, *ℤ_comm b c)
+pub sub_ℤ-*ℤ : (a b c : ℤ) → (a -ℤ b) *ℤ c ≡ (a *ℤ c) -ℤ (b *ℤ c)
+sub_ℤ-*ℤ a b c = omega (arith, ints, *ℤ_comm (a -ℤ b) c, *ℤ--ℤ c a b, *ℤ_comm a c, *ℤ_comm b c)
 
 pub neg_ℤ-*ℤ : (a b : ℤ) → neg_ℤ a *ℤ b ≡ neg_ℤ (a *ℤ b)
 neg_ℤ-*ℤ a b = *ℤ_comm (neg_ℤ a) b ∙ (*ℤ-neg_ℤ b a ∙ ap neg_ℤ (*ℤ_comm b a))
@@ -46,4 +46,4 @@ pub *ℤ_assoc : (a b c : ℤ) → a *ℤ (b *ℤ c) ≡ (a *ℤ b) *ℤ c
     )
 
 -- the laws that write a product of sums as a sum of products
-pub ruleset spread = (*ℤ-+ℤ, *ℤ--ℤ, +ℤ-*ℤ, -ℤ-*ℤ, *ℤ-neg_ℤ, neg_ℤ-*ℤ)
+pub ruleset spread = (*ℤ-+ℤ, *ℤ--ℤ, +ℤ-*ℤ, sub_ℤ-*ℤ, *ℤ-neg_ℤ, neg_ℤ-*ℤ)

@@ -15,3 +15,5 @@ pub mod Transform
 pub mod Boxes
 pub mod Crossing
 pub mod ObjectRay
+pub mod BoxSpan
+pub mod Slabs
