@@ -34,6 +34,8 @@ mod ray;
 mod shared_edge;
 mod slab;
 mod span;
+#[cfg(test)]
+mod span_tests;
 mod steps;
 #[cfg(test)]
 mod tests;
