@@ -5,25 +5,22 @@
 -- triple products say: the volume of (a, b) is 0; m V(c, a) = j V(b, c), so both have the sign of the
 -- determinant; k den = (m + j) num, so the distance is k / (m + j). What is left of the hit of (a, b, c)
 -- is that the side of (a, b) is the sign of the determinant, and the side of (b, a) is its opposite.
-use Rattle.std.proofs.Common.{ℕ, zero, suc, ◌≡◌, ◌≢◌, ◌+◌, ◌*◌, ◌≤◌, ◌<◌, sym, ap, subst, ◌∙◌, refl, inl, inr, arith}
-use Rattle.std.specs.Prelude.{ℤ, pos, neg_ℤ, ◌+ℤ◌, ◌*ℤ◌, ◌<ℤ◌, ◌⊎◌, ◌↔◌}
-use Rattle.std.specs.Ordering.{int_cmp, ordering_then, ordering_reverse}
-use Rattle.std.specs.declared.cmp.Ordering.{Ordering}
-use Rattle.std.specs.declared.cmp.Ordering.TheVariants.{Less, Equal, Greater}
+use Rattle.std.proofs.Common.{ℕ, suc, ◌≡◌, ◌≢◌, ◌+◌, ◌*◌, ◌≤◌, sym, ap, subst, ◌∙◌, arith}
+use Rattle.std.specs.Prelude.{ℤ, pos, neg_ℤ, ◌+ℤ◌, ◌*ℤ◌}
+use Rattle.std.specs.declared.cmp.Ordering.TheVariants.{Equal}
 use Rattle.std.proofs.lemmas.Int.{ints}
 use Rattle.std.proofs.Math.IntN.{*ℤ-zero}
 use Rattle.ray_geom.specs.declared.vec3.Vec3.{Vec3}
-use Rattle.ray_geom.specs.Vector.{minus_of, cross_of, dot_of, sign_of, point_cmp}
-use Rattle.ray_geom.specs.Scene.{RayValue, TriValue, tri_value}
-use Rattle.ray_geom.specs.EdgeVolume.{normal_of, volume_of}
+use Rattle.ray_geom.specs.Vector.{minus_of, cross_of, dot_of, sign_of}
+use Rattle.ray_geom.specs.Scene.{RayValue, tri_value}
+use Rattle.ray_geom.specs.EdgeVolume.{volume_of}
 use Rattle.ray_geom.specs.EdgeSide.{side_of}
-use Rattle.ray_geom.specs.TriangleHit.{num_of, den_of, IsFrom, IsTo, IsHit}
-use Rattle.ray_geom.specs.Crossing.{vertex_of, Mixes, Crossing, IsFacedAlike}
+use Rattle.ray_geom.specs.TriangleHit.{num_of, den_of, IsHit}
+use Rattle.ray_geom.specs.Crossing.{Crossing}
 use Rattle.ray_geom.proofs.Ring.{*ℤ-+ℤ, +ℤ-*ℤ, *ℤ-neg_ℤ}
 use Rattle.ray_geom.proofs.Determinant.{dot_of-cross_of}
 use Rattle.ray_geom.proofs.Signs.{sign_of-then}
 use Rattle.ray_geom.proofs.Triple.{turn, twice, same_ends, flip, dot_of-Mixes}
-use Rattle.ray_geom.proofs.Sides.{side_of-swap}
 use Rattle.ray_geom.proofs.Weights.{sign_of-weight, AreShares, AreShares-weighed, not_zero_by_sign, IsFrom-weighed, IsTo-weighed}
 
 -- a point as seen from the ray's origin

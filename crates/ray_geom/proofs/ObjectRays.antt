@@ -1,10 +1,10 @@
 -- What the adjugate is for: M adj(M) v = det v.
-use Rattle.std.proofs.Common.{ℕ, ◌≡◌, ◌+◌, ◌*◌, ◌^◌, ◌≤◌, sym, ap, ◌∙◌, refl, arith}
+use Rattle.std.proofs.Common.{ℕ, ◌≡◌, ◌+◌, ◌*◌, ◌^◌, sym, ap, ◌∙◌, refl, arith}
 use Rattle.std.specs.Prelude.{ℤ, pos, ◌+ℤ◌, ◌*ℤ◌}
 use Rattle.std.proofs.lemmas.Int.{ints}
 use Rattle.std.proofs.Math.IntN.{*ℤ_comm, *ℤ-zero}
 use Rattle.ray_geom.specs.declared.vec3.Vec3.{Vec3}
-use Rattle.ray_geom.specs.Vector.{IsWithin, IsShort, vec3, cross_of, dot_of, minus_of}
+use Rattle.ray_geom.specs.Vector.{IsShort, vec3, cross_of, dot_of, minus_of}
 use Rattle.ray_geom.specs.Scene.{RayValue, IsRay}
 use Rattle.ray_geom.specs.Transform.{MatrixValue, IsMatrix, Rows, IsAdjugate, times_of, det_of, adjugate_of, adjugate_times}
 use Rattle.ray_geom.specs.ObjectRay.{MapsTo, LeadsBack, IsObjectRay, object_of}

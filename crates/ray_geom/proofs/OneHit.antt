@@ -6,13 +6,13 @@ use Rattle.std.specs.declared.cmp.Ordering.{Ordering}
 use Rattle.std.specs.declared.cmp.Ordering.TheVariants.{Less, Equal, Greater}
 use Rattle.std.proofs.lemmas.Int.{ints}
 use Rattle.ray_geom.specs.declared.vec3.Vec3.{Vec3}
-use Rattle.ray_geom.specs.Vector.{cross_of, dot_of, sign_of, point_cmp, vec3}
+use Rattle.ray_geom.specs.Vector.{sign_of, point_cmp, vec3}
 use Rattle.ray_geom.specs.Scene.{RayValue, TriValue, tri_value}
 use Rattle.ray_geom.specs.EdgeVolume.{normal_of, volume_of}
 use Rattle.ray_geom.specs.EdgeSide.{side_of}
 use Rattle.ray_geom.specs.TriangleHit.{num_of, den_of, IsFrom, IsTo, IsHit}
 use Rattle.ray_geom.specs.Crossing.{vertex_of, Crossing, IsFacedAlike}
-use Rattle.ray_geom.proofs.Triple.{turn, twice, same_ends, flip}
+use Rattle.ray_geom.proofs.Triple.{turn, twice, flip}
 use Rattle.ray_geom.proofs.Sides.{side_of-swap}
 use Rattle.ray_geom.proofs.EdgeLaw.{seen, num_of-triple, IsHit-side, Crossing-back}
 

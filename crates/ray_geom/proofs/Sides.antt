@@ -6,9 +6,8 @@ use Rattle.std.specs.declared.cmp.Ordering.{Ordering}
 use Rattle.std.specs.declared.cmp.Ordering.TheVariants.{Less, Equal, Greater}
 use Rattle.std.proofs.lemmas.Cmp.{int_cmp_total}
 use Rattle.std.proofs.lemmas.Int.{ints}
-use Rattle.std.proofs.Math.IntN.{*ℤ_comm}
 use Rattle.ray_geom.specs.declared.vec3.Vec3.{Vec3}
-use Rattle.ray_geom.specs.Vector.{minor_of, dot_of, sign_of, point_cmp}
+use Rattle.ray_geom.specs.Vector.{sign_of, point_cmp}
 use Rattle.ray_geom.specs.Scene.{RayValue}
 use Rattle.ray_geom.specs.EdgeVolume.{normal_of, volume_of}
 use Rattle.ray_geom.specs.EdgeSide.{side_of}

@@ -1,6 +1,6 @@
 -- Which distances a slab holds, and what is left of a span that is narrowed to it.
 use Rattle.std.proofs.Common.{ℕ, ◌≡◌, ◌*◌, ◌^◌, ◌<◌, ◌≤◌, ap, ◌∙◌, refl, arith}
-use Rattle.std.specs.Prelude.{ℤ, pos, negsuc, neg_ℤ, ◌+ℤ◌, ◌-ℤ◌, ◌*ℤ◌, ◌≤ℤ◌, ◌<ℤ◌, ◌↔◌, unsigned_abs}
+use Rattle.std.specs.Prelude.{ℤ, pos, negsuc, neg_ℤ, ◌-ℤ◌, ◌*ℤ◌, ◌≤ℤ◌, ◌<ℤ◌, ◌↔◌, unsigned_abs}
 use Rattle.std.specs.Int.{w64}
 use Rattle.std.specs.Int.RustNames.{FitsSigned}
 use Rattle.std.proofs.lemmas.Int.{ints}
@@ -12,7 +12,7 @@ use Rattle.ray_geom.specs.Vector.{IsWithin}
 use Rattle.ray_geom.specs.Fraction.{IsAtMost, IsSameValue}
 use Rattle.ray_geom.specs.Frac.{numerator, denominator}
 use Rattle.ray_geom.specs.BoxSpan.{near_end, far_end, IsBetween}
-use Rattle.ray_geom.specs.Slabs.{IsPast, IsBefore, IsInSlab, Covers, Narrows}
+use Rattle.ray_geom.specs.Slabs.{IsPast, IsBefore, IsInSlab, Narrows}
 use Rattle.ray_geom.proofs.Ring.{sub_ℤ-*ℤ}
 use Rattle.ray_geom.proofs.Bounds.{IsWithin-mul}
 

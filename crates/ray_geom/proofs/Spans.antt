@@ -4,7 +4,6 @@ use Rattle.std.specs.Prelude.{ℤ, ◌↔◌, IfSome, IfNone}
 use Rattle.std.specs.Int.{w64}
 use Rattle.std.specs.Int.RustNames.{FitsSigned}
 use Rattle.std.proofs.lemmas.Int.{ints, to_z-of_z}
-use Rattle.ray_geom.specs.declared.frac.Frac.{Frac}
 use Rattle.ray_geom.specs.declared.span.Span.{Span}
 use Rattle.ray_geom.specs.Fraction.{IsAtMost, IsSameValue}
 use Rattle.ray_geom.specs.Frac.{numerator, denominator}

@@ -1,5 +1,5 @@
 -- Transforms: a matrix M with a translation T maps a point v to M v + T.
-use Rattle.std.specs.Prelude.{ℕ, ℤ, pos, ◌≢◌, ◌*◌, ◌^◌, ◌+ℤ◌, List, [], ◌∷◌, slice_index_or}
+use Rattle.std.specs.Prelude.{ℕ, ℤ, pos, ◌≢◌, ◌^◌, ◌+ℤ◌, List, [], ◌∷◌, slice_index_or}
 use Rattle.ray_geom.specs.declared.vec3.Vec3.{Vec3}
 use Rattle.ray_geom.specs.Vector.{IsShort, vec3, cross_of, dot_of}
 use Rattle.ray_geom.specs.Scene.{TriValue, tri_value}

@@ -1,5 +1,5 @@
 use Rattle.std.proofs.Common.{arith, rules}
-use Rattle.std.proofs.lemmas.Int.{ints, to_z-of_z}
+use Rattle.std.proofs.lemmas.Int.{ints}
 use Rattle.ray_geom.proofs.box3.is_ordered.Goals as goal
 use Rattle.ray_geom.proofs.box3.is_ordered.Goals.{then-lo-hi, else-lo-hi}
 

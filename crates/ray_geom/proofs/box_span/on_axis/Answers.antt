@@ -1,6 +1,4 @@
 use Rattle.std.proofs.Common.{rules}
-use Rattle.std.specs.Int.{w64}
-use Rattle.std.specs.Int.RustNames.{FitsSigned}
 use Rattle.std.proofs.lemmas.Int.{to_z-of_z}
 use Rattle.ray_geom.specs.BoxSpan.{IsOnAxis}
 use Rattle.ray_geom.specs.Slabs.{IsInSlab}

@@ -1,5 +1,5 @@
-use Rattle.std.proofs.Common.{rules, arith}
-use Rattle.std.proofs.lemmas.Int.{ints, to_z-of_z}
+use Rattle.std.proofs.Common.{rules}
+use Rattle.std.proofs.lemmas.Int.{to_z-of_z}
 use Rattle.ray_geom.proofs.Slabs.{IsBetween-falling, IsBetween-rising}
 use Rattle.ray_geom.proofs.box_span.slab_of.Goals as goal
 

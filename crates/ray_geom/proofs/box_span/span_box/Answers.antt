@@ -1,8 +1,8 @@
 use Rattle.std.proofs.Common.{sym, subst, arith}
 use Rattle.std.specs.Prelude.{IfNone}
 use Rattle.std.proofs.lemmas.Bool.Decides.{nat_tests}
-use Rattle.ray_geom.specs.Boxes.{BoxValue, box_value}
-use Rattle.ray_geom.specs.ObjectRay.{ObjectRayValue, object_value}
+use Rattle.ray_geom.specs.Boxes.{box_value}
+use Rattle.ray_geom.specs.ObjectRay.{object_value}
 use Rattle.ray_geom.specs.BoxSpan.{IsInside, IsSpan}
 use Rattle.ray_geom.specs.Slabs.{Never}
 use Rattle.ray_geom.proofs.Spans.{at_values, IsNarrowed-held, IsSpan-narrowed, Never-narrowed, Never-x, Never-y, Never-z}
