@@ -1,7 +1,6 @@
 -- What a spot adds to those that are met.
-use Rattle.std.proofs.Common.{◌≡◌, ℕ, ◌+◌, ◌%◌, ◌<◌, length, map, get_or, Option, Some, None, is_some, refl, inl, inr, subst, sym, ap, ◌∙◌, true, false, add-one, arith}
+use Rattle.std.proofs.Common.{◌≡◌, ℕ, ◌+◌, ◌%◌, length, get_or, Option, Some, None, is_some, refl, inl, inr, subst, ap, ◌∙◌, true, false, add-one, arith}
 use Rattle.std.specs.Prelude.{List, MatchOption}
-use Rattle.std.specs.List.{range_with_len}
 use Rattle.std.proofs.Math.Nat.{mod-lt}
 use Rattle.std.proofs.lemmas.List.FromFn.{length-map-range_with_len, get_or-map-range_with_len}
 use Rattle.ray_geom.specs.declared.span.Span.{Span}
