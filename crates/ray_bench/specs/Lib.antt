@@ -1,5 +1,6 @@
 pub mod Work
 pub mod Field
 pub mod Rays
+pub mod Spots
 pub mod Tested
 pub mod Status

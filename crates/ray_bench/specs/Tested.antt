@@ -1,14 +1,15 @@
 -- Which pairs the works test, and how many of them are hits.
-use Rattle.std.specs.Prelude.{ℕ, zero, suc, Bool, List, ◌+◌, ◌*◌, ◌/◌, ◌%◌, length, is_some, count_by, map, take, slice_get}
+use Rattle.std.specs.Prelude.{ℕ, zero, suc, ◌≡◌, Bool, List, ◌+◌, ◌*◌, ◌/◌, ◌%◌, length, is_some, count_by, map, take, slice_get}
 use Rattle.std.specs.List.{range_with_len}
 use Rattle.std.specs.Option.{option_map_or}
 use Rattle.ray_geom.specs.Scene.{RayValue, TriValue}
 use Rattle.ray_geom.specs.HitValue.{hit_of}
 use Rattle.ray_bench.specs.declared.pair.Pair.{Pair}
 use Rattle.ray_bench.specs.declared.work.Work.{Work}
-use Rattle.ray_bench.specs.declared.work.Work.TheVariants.{Pairs, Hits}
+use Rattle.ray_bench.specs.declared.work.Work.TheVariants.{Pairs, Hits, BoxSpans}
 use Rattle.ray_bench.specs.Field.{triangle_of, triangles}
 use Rattle.ray_bench.specs.Rays.{aimed_of, rays}
+use Rattle.ray_bench.specs.Spots.{AreMet}
 
 -- whether the ray hits the triangle
 abbrev pub is_hit : RayValue → TriValue → Bool
@@ -47,7 +48,8 @@ abbrev pub hits_of_pairs : List Pair → ℕ → ℕ
 hits_of_pairs ps n =
     n / length ps * count_by is_hit_pair ps + count_by is_hit_pair (take (n % length ps) ps)
 
--- the hits of a work that is done so often (own)
-abbrev pub hits_of : Work → ℕ → ℕ
-hits_of Pairs n = hits_of_rays rays triangles n
-hits_of Hits n = hits_of_pairs pairs n
+-- a work that is done so often has so many hits: for boxes, so many are met (own)
+abbrev pub AreHits : Work → ℕ → ℕ → Type 0
+AreHits Pairs n hits = hits ≡ hits_of_rays rays triangles n
+AreHits Hits n hits = hits ≡ hits_of_pairs pairs n
+AreHits BoxSpans n hits = AreMet n hits

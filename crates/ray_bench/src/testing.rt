@@ -1,21 +1,23 @@
-ghost use Rattle.std.specs.Prelude.{◌≡◌, ◌+◌, ◌*◌, ◌<◌, length, count_by, option_map, IfOk};
+ghost use Rattle.std.specs.Prelude.{◌≡◌, ◌+◌, ◌*◌, ◌<◌, length, count_by, option_map, IfOk, MatchOption};
 ghost use Rattle.ray_geom.specs.HitValue.{hit_of, hit_value};
 ghost use Rattle.ray_bench.specs.Field.{triangles};
 ghost use Rattle.ray_bench.specs.Rays.{rays};
-ghost use Rattle.ray_bench.specs.Tested.{is_hit, is_hit_pair, hits_of_rays, hits_of_pairs, hits_of, pairs};
+ghost use Rattle.ray_bench.specs.Spots.{all_spots, IsMet, AreMet};
+ghost use Rattle.ray_bench.specs.Tested.{is_hit, is_hit_pair, hits_of_rays, hits_of_pairs, AreHits, pairs};
 
 use crate::field::{TRIANGLES, triangle};
 use crate::job::Job;
 use crate::pair::{Pair, aimed_pair};
 use crate::rays::{RAYS, ray};
+use crate::spot::{Spot, aimed_spot};
 use crate::work::Work;
-use ray_geom::{Ray, Tri, TriHit, hit_tri};
+use ray_geom::{Ray, Span, Tri, TriHit, hit_tri, span_box};
 use std::alloc::{AllocError, Global};
 
-/// How many of the job's pairs are hits. Rays and triangles are made once, and then tested. The
+/// How many of the job's pairs are hits. Rays, triangles and boxes are made once, and then tested. The
 /// only error is memory.
 pub fn count_hits(alloc: Global, job: Job) -> Result<usize, AllocError>
-    ensures { IfOk result (λ hits. hits ≡ hits_of job.work job.number) }
+    ensures { IfOk result (AreHits job.work job.number) }
 {
     match job.work {
         Work::Pairs => {
@@ -26,6 +28,10 @@ pub fn count_hits(alloc: Global, job: Job) -> Result<usize, AllocError>
         Work::Hits => {
             let pairs = made_pairs(alloc)?;
             Ok(count_of_pairs(&pairs, job.number))
+        }
+        Work::BoxSpans => {
+            let spots = made_spots(alloc)?;
+            Ok(count_of_spots(&spots, job.number))
         }
     }
 }
@@ -46,6 +52,12 @@ fn made_pairs(alloc: Global) -> Result<Vec<Pair>, AllocError>
     ensures { IfOk result (λ v. v.items ≡ pairs) }
 {
     (0..TRIANGLES).map(|k| aimed_pair(k)).collect(alloc)
+}
+
+fn made_spots(alloc: Global) -> Result<Vec<Spot>, AllocError>
+    ensures { IfOk result (λ v. v.items ≡ all_spots) }
+{
+    (0..TRIANGLES).map(|k| aimed_spot(k)).collect(alloc)
 }
 
 // How many are hits of the first so many pairs: ray after ray, each with every triangle, and the
@@ -102,4 +114,26 @@ fn hit(ray: &Ray, tri: &Tri) -> Option<TriHit>
     ensures { option_map hit_value result ≡ hit_of ray.now tri.now }
 {
     hit_tri(ray, tri)
+}
+
+// How many are met of the first so many spots, which begin anew at their end.
+fn count_of_spots(spots: &[Spot], number: usize) -> usize
+    requires { spots.now ≡ all_spots }
+    ensures { AreMet number result }
+{
+    let mut met = 0;
+    for k in 0..number {
+        if span(&spots[k % spots.len()]).is_some() {
+            met += 1;
+        }
+    }
+    met
+}
+
+// The span of a ray and a box, kept apart from its caller for the same reason.
+#[inline(never)]
+fn span(spot: &Spot) -> Option<Span>
+    ensures { MatchOption result (¬ IsMet spot.now) (λ _. IsMet spot.now) }
+{
+    span_box(&spot.ray, &spot.box3)
 }

@@ -17,11 +17,19 @@ const fn hits(number: usize) -> Job {
     }
 }
 
+const fn box_spans(number: usize) -> Job {
+    Job {
+        work: Work::BoxSpans,
+        number,
+    }
+}
+
 #[test]
 fn parses_words(rt: HostRuntime) {
     let cases = [
         ("pairs", ("pairs", "12"), Some(pairs(12))),
         ("hits", ("hits", "0"), Some(hits(0))),
+        ("box spans", ("box-spans", "5"), Some(box_spans(5))),
         ("a plus", ("hits", "+7"), Some(hits(7))),
         ("no name of a work", ("pair", "12"), None),
         ("a capital", ("Hits", "12"), None),
@@ -51,6 +59,11 @@ fn counts_hits(rt: HostRuntime) -> Result<(), BenchError> {
         ("no pair that hits", hits(0), 0),
         ("each pair that hits", hits(128), 128),
         ("these anew", Job::LITTLE_HITS, 300),
+        ("no box", box_spans(0), 0),
+        ("a box that is met", box_spans(1), 1),
+        ("and one that is not", box_spans(2), 1),
+        ("each box", box_spans(128), 64),
+        ("these anew", Job::LITTLE_BOX_SPANS, 150),
     ];
     for (name, job, count) in cases {
         assert_eq!(rt; count_hits(rt.alloc(), job)?, count, "{name}");

@@ -11,6 +11,8 @@ pub enum Work {
     Pairs,
     /// Each triangle against a ray that hits it.
     Hits,
+    /// Boxes of an instance against rays, of which half meet theirs.
+    BoxSpans,
 }
 
 impl Work {
@@ -22,6 +24,7 @@ impl Work {
         match name {
             "pairs" => Some(Work::Pairs),
             "hits" => Some(Work::Hits),
+            "box-spans" => Some(Work::BoxSpans),
             _ => None,
         }
     }
@@ -32,6 +35,7 @@ impl fmt::Display for Work {
         match self {
             Work::Pairs => write!(f, "pairs"),
             Work::Hits => write!(f, "hits"),
+            Work::BoxSpans => write!(f, "box-spans"),
         }
     }
 }

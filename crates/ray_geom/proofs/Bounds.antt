@@ -1,6 +1,6 @@
 -- How large the numbers of the triangle test are: a coordinate difference is at most 2^20, a minor
 -- of two at most 2^41, and a volume, the determinant and the numerator at most 3 * 2^61.
-use Rattle.std.proofs.Common.{ℕ, ◌*◌, ◌^◌, ◌≤◌, arith}
+use Rattle.std.proofs.Common.{ℕ, ◌+◌, ◌*◌, ◌^◌, ◌≤◌, arith}
 use Rattle.std.specs.Prelude.{ℤ, ◌+ℤ◌, ◌-ℤ◌, ◌*ℤ◌}
 use Rattle.std.specs.Int.{w64}
 use Rattle.std.specs.Int.RustNames.{FitsSigned, unsigned_abs}
@@ -55,6 +55,17 @@ dot_fits a b p q =
     IsWithin-mul (2 ^ 20) (2 ^ 41) a.z b.z p.z_within q.z_within in
     omega (arith, ints)
 
+-- the same for a row of an adjugate
+pub weigh_fits : (a b : Vec3) → IsShort (2 ^ 25) a → IsShort (2 ^ 19 + 2 ^ 20) b → DotFits a b
+weigh_fits a b p q =
+    let x : IsWithin (2 ^ 25 * (2 ^ 19 + 2 ^ 20)) (a.x *ℤ b.x) =
+    IsWithin-mul (2 ^ 25) (2 ^ 19 + 2 ^ 20) a.x b.x p.x_within q.x_within in
+    let y : IsWithin (2 ^ 25 * (2 ^ 19 + 2 ^ 20)) (a.y *ℤ b.y) =
+    IsWithin-mul (2 ^ 25) (2 ^ 19 + 2 ^ 20) a.y b.y p.y_within q.y_within in
+    let z : IsWithin (2 ^ 25 * (2 ^ 19 + 2 ^ 20)) (a.z *ℤ b.z) =
+    IsWithin-mul (2 ^ 25) (2 ^ 19 + 2 ^ 20) a.z b.z p.z_within q.z_within in
+    omega (arith, ints)
+
 -- the difference of two points fits
 pub record MinusFits (a b : Vec3) : Type 0 where
   pub x : FitsSigned w64 (a.x -ℤ b.x)
@@ -63,6 +74,10 @@ pub record MinusFits (a b : Vec3) : Type 0 where
 
 pub minus_fits : (a b : Vec3) → IsShort (2 ^ 19) a → IsShort (2 ^ 19) b → MinusFits a b
 minus_fits a b p q = omega (arith, ints)
+
+-- and that of a point and a translation
+pub seen_fits : (a b : Vec3) → IsShort (2 ^ 19) a → IsShort (2 ^ 20) b → MinusFits a b
+seen_fits a b p q = omega (arith, ints)
 
 -- two hits are compared by products of at most 9 * 2^122, which fit 128 bits
 pub products_fit : (n d : ℕ) → n ≤ 3 * 2 ^ 61 → d ≤ 3 * 2 ^ 61 → n * d ≤ 9 * 2 ^ 122

@@ -33,7 +33,7 @@ three : (d a b c : ℤ) → d *ℤ ((a +ℤ b) +ℤ c) ≡ ((d *ℤ a) +ℤ (d *
 three d a b c = simp *ℤ-+ℤ
 
 -- sums of three, axis by axis, are sums of three as wholes
-regroup : (xa xb xc ya yb yc za zb zc : ℤ) →
+pub regroup : (xa xb xc ya yb yc za zb zc : ℤ) →
     ((((xa +ℤ xb) +ℤ xc) +ℤ ((ya +ℤ yb) +ℤ yc)) +ℤ ((za +ℤ zb) +ℤ zc)) ≡
     (((xa +ℤ ya) +ℤ za) +ℤ ((xb +ℤ yb) +ℤ zb)) +ℤ ((xc +ℤ yc) +ℤ zc)
 regroup xa xb xc ya yb yc za zb zc = omega (arith, ints)

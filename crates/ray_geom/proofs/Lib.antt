@@ -3,6 +3,14 @@ pub mod Fractions
 pub mod Ring
 pub mod Determinant
 pub mod Signs
+pub mod Triple
 pub mod Sides
+pub mod Weights
+pub mod EdgeLaw
+pub mod OneHit
 pub mod Hits
 pub mod HitValues
+pub mod Sizes
+pub mod ObjectRays
+pub mod Slabs
+pub mod Spans

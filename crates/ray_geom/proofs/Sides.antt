@@ -6,13 +6,12 @@ use Rattle.std.specs.declared.cmp.Ordering.{Ordering}
 use Rattle.std.specs.declared.cmp.Ordering.TheVariants.{Less, Equal, Greater}
 use Rattle.std.proofs.lemmas.Cmp.{int_cmp_total}
 use Rattle.std.proofs.lemmas.Int.{ints}
-use Rattle.std.proofs.Math.IntN.{*ℤ_comm}
 use Rattle.ray_geom.specs.declared.vec3.Vec3.{Vec3}
-use Rattle.ray_geom.specs.Vector.{minor_of, dot_of, sign_of, point_cmp}
+use Rattle.ray_geom.specs.Vector.{sign_of, point_cmp}
 use Rattle.ray_geom.specs.Scene.{RayValue}
 use Rattle.ray_geom.specs.EdgeVolume.{normal_of, volume_of}
 use Rattle.ray_geom.specs.EdgeSide.{side_of}
-use Rattle.ray_geom.proofs.Ring.{*ℤ-neg_ℤ}
+use Rattle.ray_geom.proofs.Triple.{minor_of-swap, dot_of-neg}
 
 -- the first of several signs that isn't zero, turned, is the first of the turned signs
 reverse-then : (q r : Ordering) →
@@ -46,17 +45,6 @@ pub point_cmp-swap : (a b : Vec3) → point_cmp b a ≡ ordering_reverse (point_
 point_cmp-swap a b =
     rw (int_cmp_total.antisymm b.x a.x, int_cmp_total.antisymm b.y a.y, int_cmp_total.antisymm b.z a.z)
     (sym (reverse-then_three (int_cmp a.x b.x) (int_cmp a.y b.y) (int_cmp a.z b.z)))
-
--- a minor is negated where its rows are exchanged
-minor_of-swap : (a b c d : ℤ) → minor_of c d a b ≡ neg_ℤ (minor_of a b c d)
-minor_of-swap a b c d = omega (arith, ints, *ℤ_comm c b, *ℤ_comm d a)
-
--- a scalar product with a negated vector
-dot_of-neg : (d m n : Vec3) →
-    m.x ≡ neg_ℤ n.x → m.y ≡ neg_ℤ n.y → m.z ≡ neg_ℤ n.z →
-    dot_of d m ≡ neg_ℤ (dot_of d n)
-dot_of-neg d m n p q r =
-    rw (p, q, r, *ℤ-neg_ℤ d.x n.x, *ℤ-neg_ℤ d.y n.y, *ℤ-neg_ℤ d.z n.z) (omega (arith, ints))
 
 -- the first of five signs that isn't zero, where each is negated
 signs-swap : (v x y z v' x' y' z' : ℤ) (a b : Vec3) →

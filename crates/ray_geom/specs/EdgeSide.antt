@@ -6,7 +6,7 @@
 -- makes the test watertight: a ray finds no gap between triangles that share an edge.
 --
 -- What it does not promise: which triangle a ray through a vertex hits, of those that meet there. The
--- law on a shared edge isn't stated here: it comes with a call of its own.
+-- law on a shared edge is that of `edge_owner`, in the words of specs/Crossing.
 use Rattle.std.specs.Ordering.{ordering_then}
 use Rattle.std.specs.declared.cmp.Ordering.{Ordering}
 use Rattle.ray_geom.specs.declared.vec3.Vec3.{Vec3}

@@ -11,3 +11,9 @@ pub mod Measures
 pub mod Counted
 pub mod Decided
 pub mod HitValue
+pub mod Transform
+pub mod Boxes
+pub mod Crossing
+pub mod ObjectRay
+pub mod BoxSpan
+pub mod Slabs

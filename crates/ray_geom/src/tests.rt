@@ -1,4 +1,7 @@
-use crate::{Frac, Ray, Steps, Tri, Vec3, hit_tri};
+ghost use Rattle.std.specs.Prelude.{◌≡◌};
+ghost use Rattle.ray_geom.specs.Vector.{vec3};
+
+use crate::{Box3, Frac, Matrix, Owner, Ray, Steps, Tri, Vec3, edge_owner, hit_tri};
 use std::cmp::Ordering;
 use std::marker::Brand;
 use std::mem;
@@ -9,7 +12,9 @@ const FAR: u64 = 1 << 40;
 // The numbers of t, u and v, and whether den is negative.
 type Told = ((u64, u64), (u64, u64), (u64, u64), bool);
 
-const fn at(x: i64, y: i64, z: i64) -> Vec3 {
+const fn at(x: i64, y: i64, z: i64) -> Vec3
+    ensures { result ≡ vec3 x y z }
+{
     Vec3 { x, y, z }
 }
 
@@ -165,4 +170,103 @@ fn counts_without_bytes(rt: HostRuntime) {
     let mut steps: Steps<Brand> = Steps::zero();
     steps.tick();
     assert_eq!(rt; mem::size_of::<Steps<Brand>>(), 0);
+}
+
+#[test]
+fn limits_transforms(rt: HostRuntime) {
+    let turned = [[2, 1, 0, 1], [0, 4, 8, 2], [1, 0, -9, 3]];
+    let cases = [
+        (
+            "identity",
+            [[1, 0, 0, 0], [0, 1, 0, 0], [0, 0, 1, 0]],
+            Some(1),
+        ),
+        (
+            "mirrored",
+            [[-1, 0, 0, 0], [0, 1, 0, 0], [0, 0, 1, 0]],
+            Some(-1),
+        ),
+        ("turned", turned, Some(-64)),
+        (
+            "numbers at their limits",
+            [
+                [-4096, 4096, 4096, 1048576],
+                [4096, -4096, 4096, -1048576],
+                [4096, 4096, -4096, 0],
+            ],
+            Some(274877906944),
+        ),
+        (
+            "number beyond",
+            [[4097, 0, 0, 0], [0, 1, 0, 0], [0, 0, 1, 0]],
+            None,
+        ),
+        (
+            "last number beyond",
+            [[1, 0, 0, 0], [0, 1, 0, 0], [0, 0, -4097, 0]],
+            None,
+        ),
+        (
+            "translation beyond",
+            [[1, 0, 0, 0], [0, 1, 0, 1048577], [0, 0, 1, 0]],
+            None,
+        ),
+        (
+            "no determinant",
+            [[1, 2, 3, 0], [2, 4, 6, 0], [0, 0, 1, 0]],
+            None,
+        ),
+        ("all zero", [[0, 0, 0, 0], [0, 0, 0, 0], [0, 0, 0, 0]], None),
+        (
+            "the least number",
+            [[1, i64::MIN, 0, 0], [0, 1, 0, 0], [0, 0, 1, 0]],
+            None,
+        ),
+    ];
+    for (name, rows, want) in cases {
+        assert_eq!(rt; Matrix::new(rows).map(|m| m.det()), want, "{name}");
+    }
+    let matrix = Matrix::new(turned).expect(&rt, "turned");
+    assert_eq!(rt; matrix.rows(), turned);
+    assert_eq!(rt; matrix.apply(at(1, 2, 3)), Some(at(5, 34, -23)));
+    assert_eq!(rt; matrix.apply(at(262143, 0, 0)), Some(at(524287, 2, 262146)));
+    assert_eq!(rt; matrix.apply(at(262144, 0, 0)), None);
+}
+
+#[test]
+fn limits_boxes(rt: HostRuntime) {
+    let zero = at(0, 0, 0);
+    let far = at(524288, 524288, 524288);
+    let away = at(-524288, -524288, -524288);
+    let cases = [
+        ("at the limits", away, far, true),
+        ("a single point", far, far, true),
+        ("lo beyond", at(0, -524289, 0), zero, false),
+        ("hi beyond", zero, at(0, 0, 524289), false),
+        ("x out of order", at(1, 0, 0), zero, false),
+        ("y out of order", at(0, 1, 0), at(9, 0, 9), false),
+        ("z out of order", zero, at(9, 9, -1), false),
+    ];
+    for (name, lo, hi, want) in cases {
+        let made = Box3::new(lo, hi);
+        assert_eq!(rt;
+            made.map(|b| (b.lo(), b.hi())),
+            if want { Some((lo, hi)) } else { None },
+            "{name}"
+        );
+    }
+}
+
+// A square in two triangles, whose shared edge goes from (4, 4, 0) to (0, 0, 0).
+#[test]
+fn owns_edges(rt: HostRuntime) {
+    let lower = Tri::new(at(0, 0, 0), at(4, 0, 0), at(4, 4, 0)).expect(&rt, "lower");
+    let upper = Tri::new(at(0, 0, 0), at(4, 4, 0), at(0, 4, 0)).expect(&rt, "upper");
+    let above = Ray::new(at(2, 2, 5), at(0, 0, -1), 0, FAR).expect(&rt, "above");
+    let below = Ray::new(at(2, 2, -5), at(0, 0, 1), 0, FAR).expect(&rt, "below");
+    let slanting = Ray::new(at(5, 3, 4), at(-1, 0, -2), 0, 131072).expect(&rt, "slanting");
+    assert_eq!(rt; edge_owner(&above, &lower, &upper, 2, 0), Owner::First);
+    assert_eq!(rt; edge_owner(&above, &upper, &lower, 0, 2), Owner::Second);
+    assert_eq!(rt; edge_owner(&below, &lower, &upper, 2, 0), Owner::First);
+    assert_eq!(rt; edge_owner(&slanting, &lower, &upper, 2, 0), Owner::First);
 }

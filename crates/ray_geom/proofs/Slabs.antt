@@ -1,0 +1,200 @@
+-- Which distances a slab holds, and what is left of a span that is narrowed to it.
+use Rattle.std.proofs.Common.{ℕ, ◌≡◌, ◌*◌, ◌^◌, ◌<◌, ◌≤◌, ap, ◌∙◌, refl, arith}
+use Rattle.std.specs.Prelude.{ℤ, pos, negsuc, neg_ℤ, ◌-ℤ◌, ◌*ℤ◌, ◌≤ℤ◌, ◌<ℤ◌, ◌↔◌, unsigned_abs}
+use Rattle.std.specs.Int.{w64}
+use Rattle.std.specs.Int.RustNames.{FitsSigned}
+use Rattle.std.proofs.lemmas.Int.{ints}
+use Rattle.std.proofs.Math.Nat.{mul-le-mul_right, le_of_mul-le-mul_right}
+use Rattle.ray_geom.specs.declared.frac.Frac.{Frac}
+use Rattle.ray_geom.specs.declared.slab.Slab.{Slab}
+use Rattle.ray_geom.specs.declared.span.Span.{Span}
+use Rattle.ray_geom.specs.Vector.{IsWithin}
+use Rattle.ray_geom.specs.Fraction.{IsAtMost, IsSameValue}
+use Rattle.ray_geom.specs.Frac.{numerator, denominator}
+use Rattle.ray_geom.specs.BoxSpan.{near_end, far_end, IsBetween}
+use Rattle.ray_geom.specs.Slabs.{IsPast, IsBefore, IsInSlab, Narrows}
+use Rattle.ray_geom.proofs.Ring.{sub_ℤ-*ℤ}
+use Rattle.ray_geom.proofs.Bounds.{IsWithin-mul}
+
+-- the ends of a box fit, and are at most 6 * 2^55
+pub record EndsFit (det lo hi : ℤ) : Type 0 where
+  pub lo_fits : FitsSigned w64 (det *ℤ lo)
+  pub hi_fits : FitsSigned w64 (det *ℤ hi)
+  pub lo_within : IsWithin (6 * 2 ^ 55) (det *ℤ lo)
+  pub hi_within : IsWithin (6 * 2 ^ 55) (det *ℤ hi)
+
+pub ends_fit : (det lo hi : ℤ) → IsWithin (6 * 2 ^ 36) det → IsWithin (2 ^ 19) lo → IsWithin (2 ^ 19) hi → EndsFit det lo hi
+ends_fit det lo hi p q r =
+    let x : IsWithin (6 * 2 ^ 36 * 2 ^ 19) (det *ℤ lo) = IsWithin-mul (6 * 2 ^ 36) (2 ^ 19) det lo p q in
+    let y : IsWithin (6 * 2 ^ 36 * 2 ^ 19) (det *ℤ hi) = IsWithin-mul (6 * 2 ^ 36) (2 ^ 19) det hi p r in
+    omega (arith, ints)
+
+-- the ends by the sign of det
+pub near_end-negative : (det lo hi : ℤ) → det <ℤ pos 0 → near_end det lo hi ≡ det *ℤ hi
+near_end-negative (pos det) lo hi h = absurd (omega (arith, ints))
+near_end-negative (negsuc det) lo hi h = refl
+
+pub far_end-negative : (det lo hi : ℤ) → det <ℤ pos 0 → far_end det lo hi ≡ det *ℤ lo
+far_end-negative (pos det) lo hi h = absurd (omega (arith, ints))
+far_end-negative (negsuc det) lo hi h = refl
+
+pub near_end-positive : (det lo hi : ℤ) → pos 0 ≤ℤ det → near_end det lo hi ≡ det *ℤ lo
+near_end-positive (pos det) lo hi h = refl
+near_end-positive (negsuc det) lo hi h = absurd (omega (arith, ints))
+
+pub far_end-positive : (det lo hi : ℤ) → pos 0 ≤ℤ det → far_end det lo hi ≡ det *ℤ hi
+far_end-positive (pos det) lo hi h = refl
+far_end-positive (negsuc det) lo hi h = absurd (omega (arith, ints))
+
+times_negative : (n : ℕ) (m : ℤ) → m <ℤ pos 0 → pos n *ℤ m ≡ neg_ℤ (pos (n * unsigned_abs m))
+times_negative n (pos m) h = absurd (omega (arith, ints))
+times_negative n (negsuc m) h = omega (arith, ints)
+
+times_positive : (n : ℕ) (m : ℤ) → pos 0 ≤ℤ m → pos n *ℤ m ≡ pos (n * unsigned_abs m)
+times_positive n (pos m) h = omega (arith, ints)
+times_positive n (negsuc m) h = absurd (omega (arith, ints))
+
+-- where m is negative, o + t m is between the ends where t is from (o - far) / |m| to (o - near) / |m|
+pub IsBetween-falling : (near far o m first last : ℤ) (size : ℕ) →
+    m <ℤ pos 0 → first ≡ o -ℤ far → last ≡ o -ℤ near → size ≡ unsigned_abs m → (n d : ℕ) →
+    IsBetween near far o m n d ↔ IsInSlab record { near = first; far = last; size = size } n d
+IsBetween-falling near far o m first last size negative first_is last_is size_is n d =
+    let move : pos n *ℤ m ≡ neg_ℤ (pos (n * unsigned_abs m)) = times_negative n m negative in
+    let steps : n * size ≡ n * unsigned_abs m = ap (λ x. n * x) size_is in
+    let from : first *ℤ pos d ≡ (o *ℤ pos d) -ℤ (far *ℤ pos d) = ap (λ x. x *ℤ pos d) first_is ∙ sub_ℤ-*ℤ o far (pos d) in
+    let to : last *ℤ pos d ≡ (o *ℤ pos d) -ℤ (near *ℤ pos d) = ap (λ x. x *ℤ pos d) last_is ∙ sub_ℤ-*ℤ o near (pos d) in (
+      λ h.
+          let above = h.above in
+          let below = h.below in
+          record { past = record { at_least = omega (arith, ints) }; before = record { at_most = omega (arith, ints) } },
+      λ h.
+          let past = h.past.at_least in
+          let before = h.before.at_most in
+          record { above = omega (arith, ints); below = omega (arith, ints) },
+    )
+
+-- where it isn't, t is from (near - o) / |m| to (far - o) / |m|
+pub IsBetween-rising : (near far o m first last : ℤ) (size : ℕ) →
+    pos 0 ≤ℤ m → first ≡ near -ℤ o → last ≡ far -ℤ o → size ≡ unsigned_abs m → (n d : ℕ) →
+    IsBetween near far o m n d ↔ IsInSlab record { near = first; far = last; size = size } n d
+IsBetween-rising near far o m first last size positive first_is last_is size_is n d =
+    let move : pos n *ℤ m ≡ pos (n * unsigned_abs m) = times_positive n m positive in
+    let steps : n * size ≡ n * unsigned_abs m = ap (λ x. n * x) size_is in
+    let from : first *ℤ pos d ≡ (near *ℤ pos d) -ℤ (o *ℤ pos d) = ap (λ x. x *ℤ pos d) first_is ∙ sub_ℤ-*ℤ near o (pos d) in
+    let to : last *ℤ pos d ≡ (far *ℤ pos d) -ℤ (o *ℤ pos d) = ap (λ x. x *ℤ pos d) last_is ∙ sub_ℤ-*ℤ far o (pos d) in (
+      λ h.
+          let above = h.above in
+          let below = h.below in
+          record { past = record { at_least = omega (arith, ints) }; before = record { at_most = omega (arith, ints) } },
+      λ h.
+          let past = h.past.at_least in
+          let before = h.before.at_most in
+          record { above = omega (arith, ints); below = omega (arith, ints) },
+    )
+
+-- "at most" is transitive, through a fraction whose denominator isn't 0
+pub at_most_chain : (n d m e k l : ℕ) → 0 < e → IsAtMost n d m e → IsAtMost m e k l → IsAtMost n d k l
+at_most_chain n d m e k l e_positive p q =
+    let first : n * e * l ≤ m * d * l = mul-le-mul_right {m = n * e} {n = m * d} l p in
+    let second : m * l * d ≤ k * e * d = mul-le-mul_right {m = m * l} {n = k * e} d q in
+    le_of_mul-le-mul_right {m = n * l} {n = k * d} {k = e} (omega arith) e_positive
+
+-- fractions of one value are at most the same
+pub at_most_left : (n d m e k l : ℕ) → 0 < d → 0 < e → IsSameValue n d m e → IsAtMost n d k l ↔ IsAtMost m e k l
+at_most_left n d m e k l d_positive e_positive same = (
+  λ h. at_most_chain m e n d k l d_positive (omega arith) h,
+  λ h. at_most_chain n d m e k l e_positive (omega arith) h,
+)
+
+pub at_most_right : (n d m e k l : ℕ) → 0 < d → 0 < e → IsSameValue n d m e → IsAtMost k l n d ↔ IsAtMost k l m e
+at_most_right n d m e k l d_positive e_positive same = (
+  λ h. at_most_chain k l n d m e d_positive h (omega arith),
+  λ h. at_most_chain k l m e n d e_positive h (omega arith),
+)
+
+IsPast-at_most : (near : ℤ) (size n d : ℕ) → pos 0 <ℤ near →
+    IsAtMost (unsigned_abs near) size n d ↔ IsPast near size n d
+IsPast-at_most (pos near) size n d h = (
+  λ p. record { at_least = omega (arith, ints) },
+  λ p. let at_least = p.at_least in omega (arith, ints),
+)
+IsPast-at_most (negsuc near) size n d h = absurd (omega (arith, ints))
+
+IsBefore-at_most : (far : ℤ) (size n d : ℕ) → pos 0 ≤ℤ far →
+    IsAtMost n d (unsigned_abs far) size ↔ IsBefore far size n d
+IsBefore-at_most (pos far) size n d h = (
+  λ p. record { at_most = omega (arith, ints) },
+  λ p. let at_most = p.at_most in omega (arith, ints),
+)
+IsBefore-at_most (negsuc far) size n d h = absurd (omega (arith, ints))
+
+through : {P Q R : Type 0} → P ↔ Q → Q ↔ R → P ↔ R
+through p q = (λ h. q.0 (p.0 h), λ h. p.1 (q.1 h))
+
+beside : {P Q R S : Type 0} → P ↔ (Q × R) → R ↔ S → P ↔ (Q × S)
+beside p q = (λ h. ((p.0 h).0, q.0 (p.0 h).1), λ h. p.1 (h.0, q.1 h.1))
+
+-- a fraction of the value near / size is at most n / d where n / d is past it
+pub IsPast-value : (f : Frac) (near : ℤ) (size n d : ℕ) → pos 0 <ℤ near → 0 < size →
+    IsSameValue (numerator f) (denominator f) (unsigned_abs near) size →
+    IsAtMost (numerator f) (denominator f) n d ↔ IsPast near size n d
+IsPast-value f near size n d positive size_positive same =
+    through (at_most_left f.num f.den (unsigned_abs near) size n d f.limits.den_positive size_positive same)
+    (IsPast-at_most near size n d positive)
+
+pub IsBefore-value : (f : Frac) (far : ℤ) (size n d : ℕ) → pos 0 ≤ℤ far → 0 < size →
+    IsSameValue (numerator f) (denominator f) (unsigned_abs far) size →
+    IsAtMost n d (numerator f) (denominator f) ↔ IsBefore far size n d
+IsBefore-value f far size n d positive size_positive same =
+    through (at_most_right f.num f.den (unsigned_abs far) size n d f.limits.den_positive size_positive same)
+    (IsBefore-at_most far size n d positive)
+
+-- the greater of two is at most what both are at most
+pub later_left : (a b : Frac) → IsAtMost a.num a.den b.num b.den → (n d : ℕ) →
+    IsAtMost b.num b.den n d ↔ (IsAtMost a.num a.den n d × IsAtMost b.num b.den n d)
+later_left a b le n d =
+    (λ h. (at_most_chain a.num a.den b.num b.den n d b.limits.den_positive le h, h), λ h. h.1)
+
+pub later_right : (a b : Frac) → IsAtMost b.num b.den a.num a.den → (n d : ℕ) →
+    IsAtMost a.num a.den n d ↔ (IsAtMost a.num a.den n d × IsAtMost b.num b.den n d)
+later_right a b le n d =
+    (λ h. (h, at_most_chain b.num b.den a.num a.den n d a.limits.den_positive le h), λ h. h.0)
+
+-- what is at most the lesser of two is at most both
+pub earlier_left : (a b : Frac) → IsAtMost a.num a.den b.num b.den → (n d : ℕ) →
+    IsAtMost n d a.num a.den ↔ (IsAtMost n d a.num a.den × IsAtMost n d b.num b.den)
+earlier_left a b le n d =
+    (λ h. (h, at_most_chain n d a.num a.den b.num b.den a.limits.den_positive h le), λ h. h.0)
+
+pub earlier_right : (a b : Frac) → IsAtMost b.num b.den a.num a.den → (n d : ℕ) →
+    IsAtMost n d b.num b.den ↔ (IsAtMost n d a.num a.den × IsAtMost n d b.num b.den)
+earlier_right a b le n d =
+    (λ h. (at_most_chain n d b.num b.den a.num a.den b.limits.den_positive h le, h), λ h. h.1)
+
+-- an end that is raised or lowered to that of a slab
+pub raised : (entry end f : Frac) (near : ℤ) (size : ℕ) → pos 0 <ℤ near → 0 < size →
+    IsSameValue (numerator end) (denominator end) (unsigned_abs near) size →
+    ((n d : ℕ) → 0 < d → IsAtMost f.num f.den n d ↔ (IsAtMost entry.num entry.den n d × IsAtMost end.num end.den n d)) →
+    (n d : ℕ) → 0 < d → IsAtMost f.num f.den n d ↔ (IsAtMost entry.num entry.den n d × IsPast near size n d)
+raised entry end f near size positive size_positive same h n d d_positive =
+    beside (h n d d_positive) (IsPast-value end near size n d positive size_positive same)
+
+pub lowered : (exit end f : Frac) (far : ℤ) (size : ℕ) → pos 0 ≤ℤ far → 0 < size →
+    IsSameValue (numerator end) (denominator end) (unsigned_abs far) size →
+    ((n d : ℕ) → 0 < d → IsAtMost n d f.num f.den ↔ (IsAtMost n d exit.num exit.den × IsAtMost n d end.num end.den)) →
+    (n d : ℕ) → 0 < d → IsAtMost n d f.num f.den ↔ (IsAtMost n d exit.num exit.den × IsBefore far size n d)
+lowered exit end f far size positive size_positive same h n d d_positive =
+    beside (h n d d_positive) (IsBefore-value end far size n d positive size_positive same)
+
+-- a span whose two ends are narrowed
+pub Narrows-ends : (span : Span) (entry exit : Frac) (slab : Slab) →
+    ((n d : ℕ) → 0 < d → IsAtMost entry.num entry.den n d ↔ (IsAtMost span.entry.num span.entry.den n d × IsPast slab.near slab.size n d)) →
+    ((n d : ℕ) → 0 < d → IsAtMost n d exit.num exit.den ↔ (IsAtMost n d span.exit.num span.exit.den × IsBefore slab.far slab.size n d)) →
+    Narrows (IsInSlab slab) span record { entry = entry; exit = exit }
+Narrows-ends span entry exit slab p q n d d_positive = (
+  λ h.
+      let from = (p n d d_positive).0 h.from in
+      let to = (q n d d_positive).0 h.to in
+      (record { from = from.0; to = to.0 }, record { past = from.1; before = to.1 }),
+  λ h. record { from = (p n d d_positive).1 (h.0.from, h.1.past); to = (q n d d_positive).1 (h.0.to, h.1.before) },
+)

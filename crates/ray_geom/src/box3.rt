@@ -1,0 +1,60 @@
+ghost use Rattle.std.specs.Prelude.{◌≡◌, ◌≤ℤ◌, ◌↔◌, IsTrue, SomeIff};
+ghost use Rattle.ray_geom.specs.Boxes.{IsBox, box_value};
+
+use crate::vec3::{Vec3, is_short};
+use std::marker::Model;
+
+/// A box along the axes, within the limits. It may be without thickness. (VkAabbPositionsKHR, in
+/// whole numbers; the limits are our own.)
+#[derive(Clone, Copy, Debug)]
+pub struct Box3 {
+    pub(crate) lo: Vec3,
+    pub(crate) hi: Vec3,
+}
+
+impl Model for Box3 {
+    ghost use Rattle.ray_geom.specs.Boxes.{BoxValue, IsBox, box_value};
+
+    ghost Value = { BoxValue };
+
+    ghost view = { λ b. box_value b.lo b.hi };
+
+    ghost invariant = { λ b. IsBox (box_value b.lo b.hi) };
+
+    ghost inverse = { λ v. record { lo = v.lo; hi = v.hi } };
+}
+
+impl Box3 {
+    /// The box with these corners. None exactly where a coordinate is above 2^19 in absolute value
+    /// or `lo` is above `hi` on an axis.
+    pub fn new(lo: Vec3, hi: Vec3) -> Option<Box3>
+        ensures { let box = box_value lo hi in SomeIff result (IsBox box) box }
+    {
+        if is_short(lo, 1 << 19) && is_short(hi, 1 << 19) && is_ordered(lo, hi) {
+            Some(Box3 { lo, hi })
+        } else {
+            None
+        }
+    }
+
+    /// The least corner, as `new` was given it.
+    pub fn lo(&self) -> Vec3
+        ensures { result ≡ self.now.lo }
+    {
+        self.lo
+    }
+
+    /// The greatest corner, as `new` was given it.
+    pub fn hi(&self) -> Vec3
+        ensures { result ≡ self.now.hi }
+    {
+        self.hi
+    }
+}
+
+// Whether no coordinate of lo is above that of hi.
+fn is_ordered(lo: Vec3, hi: Vec3) -> bool
+    ensures { IsTrue result ↔ ((lo.x ≤ℤ hi.x) × (lo.y ≤ℤ hi.y) × (lo.z ≤ℤ hi.z)) }
+{
+    lo.x <= hi.x && lo.y <= hi.y && lo.z <= hi.z
+}

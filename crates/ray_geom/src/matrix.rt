@@ -1,0 +1,138 @@
+ghost use Rattle.std.specs.Prelude.{◌≡◌, ◌≢◌, ◌*◌, ◌^◌, ◌+ℤ◌, pos, SomeIff};
+ghost use Rattle.ray_geom.specs.Vector.{IsWithin, IsShort, cross_of, dot_of};
+ghost use Rattle.ray_geom.specs.Transform.{IsMatrix, matrix_of, matrix_value, rows_of, det_of, image_of};
+
+use crate::vec3::{Vec3, cross, dot, is_short};
+use std::marker::Model;
+
+/// A transform within the limits: a matrix M with a translation T, which maps v to M v + T.
+/// (VkTransformMatrixKHR, in whole numbers; the limits are our own.)
+#[derive(Clone, Copy, Debug)]
+pub struct Matrix {
+    // The rows of M.
+    pub(crate) a: Vec3,
+    pub(crate) b: Vec3,
+    pub(crate) c: Vec3,
+    // T.
+    pub(crate) t: Vec3,
+}
+
+impl Model for Matrix {
+    ghost use Rattle.ray_geom.specs.Transform.{MatrixValue, IsMatrix, matrix_value};
+
+    ghost Value = { MatrixValue };
+
+    ghost view = { λ m. matrix_value m.a m.b m.c m.t };
+
+    ghost invariant = { λ m. IsMatrix (matrix_value m.a m.b m.c m.t) };
+
+    ghost inverse = { λ v. record { a = v.a; b = v.b; c = v.c; t = v.t } };
+}
+
+impl Matrix {
+    /// The transform whose M has the first three numbers of each row, and whose T is the last
+    /// column. None exactly where a limit is broken: each number of M is at most 2^12 and each of T
+    /// at most 2^20 in absolute value, and the determinant of M isn't 0.
+    pub fn new(rows: [[i64; 4]; 3]) -> Option<Matrix>
+        ensures { let m = matrix_of rows in SomeIff result (IsMatrix m) m }
+    {
+        let [[ax, ay, az, tx], [bx, by, bz, ty], [cx, cy, cz, tz]] = rows;
+        let a = Vec3 {
+            x: ax,
+            y: ay,
+            z: az,
+        };
+        let b = Vec3 {
+            x: bx,
+            y: by,
+            z: bz,
+        };
+        let c = Vec3 {
+            x: cx,
+            y: cy,
+            z: cz,
+        };
+        let t = Vec3 {
+            x: tx,
+            y: ty,
+            z: tz,
+        };
+        from_parts(a, b, c, t)
+    }
+
+    /// The table that `new` was given.
+    pub fn rows(&self) -> [[i64; 4]; 3]
+        ensures table { result ≡ rows_of self.now }
+        ensures matrix { matrix_of result ≡ self.now }
+    {
+        let (a, b, c, t) = (self.a, self.b, self.c, self.t);
+        [
+            [a.x, a.y, a.z, t.x],
+            [b.x, b.y, b.z, t.y],
+            [c.x, c.y, c.z, t.z],
+        ]
+    }
+
+    /// The determinant of M. It isn't 0, and is at most 6 * 2^36 in absolute value.
+    pub fn det(&self) -> i64
+        ensures value { result ≡ det_of self.now }
+        ensures short { IsWithin (6 * 2 ^ 36) result }
+        ensures not_zero { result ≢ pos 0 }
+    {
+        determinant(self.a, self.b, self.c)
+    }
+
+    /// M v + T. None exactly where a coordinate of it is above 2^19 in absolute value.
+    pub fn apply(&self, v: Vec3) -> Option<Vec3>
+        requires { IsShort (2 ^ 19) v }
+        ensures { let image = image_of self.now v in SomeIff result (IsShort (2 ^ 19) image) image }
+    {
+        let image = Vec3 {
+            x: place(self.a, v, self.t.x),
+            y: place(self.b, v, self.t.y),
+            z: place(self.c, v, self.t.z),
+        };
+        if is_short(image, 1 << 19) {
+            Some(image)
+        } else {
+            None
+        }
+    }
+}
+
+// The transform with these rows of M and this T, within the limits.
+fn from_parts(a: Vec3, b: Vec3, c: Vec3, t: Vec3) -> Option<Matrix>
+    ensures { let m = matrix_value a b c t in SomeIff result (IsMatrix m) m }
+{
+    if is_short(a, 1 << 12)
+        && is_short(b, 1 << 12)
+        && is_short(c, 1 << 12)
+        && is_short(t, 1 << 20)
+        && determinant(a, b, c) != 0
+    {
+        Some(Matrix { a, b, c, t })
+    } else {
+        None
+    }
+}
+
+// The determinant of the matrix with these rows.
+fn determinant(a: Vec3, b: Vec3, c: Vec3) -> i64
+    requires a_short { IsShort (2 ^ 12) a }
+    requires b_short { IsShort (2 ^ 12) b }
+    requires c_short { IsShort (2 ^ 12) c }
+    ensures value { result ≡ dot_of a (cross_of b c) }
+    ensures short { IsWithin (6 * 2 ^ 36) result }
+{
+    dot(a, cross(b, c))
+}
+
+// One coordinate of an image: a row of M times v, and t.
+fn place(row: Vec3, v: Vec3, t: i64) -> i64
+    requires row_short { IsShort (2 ^ 12) row }
+    requires v_short { IsShort (2 ^ 19) v }
+    requires t_short { IsWithin (2 ^ 20) t }
+    ensures { result ≡ dot_of row v +ℤ t }
+{
+    dot(row, v) + t
+}

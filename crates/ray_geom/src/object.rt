@@ -1,0 +1,100 @@
+ghost use Rattle.std.specs.Prelude.{◌≡◌, ◌+◌, ◌^◌};
+ghost use Rattle.ray_geom.specs.Vector.{IsShort, minus_of};
+ghost use Rattle.ray_geom.specs.ObjectRay.{object_of, LeadsBack};
+
+use crate::adjugate::Adjugate;
+use crate::matrix::Matrix;
+use crate::ray::Ray;
+use crate::vec3::Vec3;
+use std::marker::Model;
+
+/// A ray in the space of an instance's object: at the distance t it is at (origin + t * dir) / det
+/// there. (Own; for the instance transforms of "Ray Traversal" in the Vulkan specification.)
+#[derive(Clone, Copy, Debug)]
+pub struct ObjectRay {
+    pub(crate) origin: Vec3,
+    pub(crate) dir: Vec3,
+    pub(crate) det: i64,
+    pub(crate) tmin: u64,
+    pub(crate) tmax: u64,
+}
+
+impl Model for ObjectRay {
+    ghost use Rattle.ray_geom.specs.ObjectRay.{ObjectRayValue, IsObjectRay, object_value};
+
+    ghost Value = { ObjectRayValue };
+
+    ghost view = { λ r. object_value r.origin r.dir r.det r.tmin r.tmax };
+
+    ghost invariant = { λ r. IsObjectRay (object_value r.origin r.dir r.det r.tmin r.tmax) };
+
+    ghost inverse = { λ v. record { origin = v.origin; dir = v.dir; det = v.det; tmin = v.tmin; tmax = v.tmax } };
+}
+
+impl ObjectRay {
+    /// Where it begins, times `det`.
+    pub fn origin(&self) -> Vec3
+        ensures { result ≡ self.now.origin }
+    {
+        self.origin
+    }
+
+    /// Its direction, times `det`.
+    pub fn dir(&self) -> Vec3
+        ensures { result ≡ self.now.dir }
+    {
+        self.dir
+    }
+
+    /// The determinant of the instance's matrix.
+    pub fn det(&self) -> i64
+        ensures { result ≡ self.now.det }
+    {
+        self.det
+    }
+
+    /// The least distance, in 1/65536.
+    pub fn tmin(&self) -> u64
+        ensures { result ≡ self.now.tmin }
+    {
+        self.tmin
+    }
+
+    /// The greatest distance, in 1/65536.
+    pub fn tmax(&self) -> u64
+        ensures { result ≡ self.now.tmax }
+    {
+        self.tmax
+    }
+}
+
+/// The ray in the space of an object that `m` maps to the world: adj(M) (o - T), adj(M) d, the
+/// determinant of M, and the ray's interval, all exact. M takes it back to the ray, det times as
+/// long. (Own; for the instance transforms of "Ray Traversal" in the Vulkan specification.)
+pub fn object_ray(ray: &Ray, m: &Matrix) -> ObjectRay
+    ensures value { result ≡ object_of ray.now m.now }
+    ensures back { LeadsBack ray.now m.now result }
+{
+    let adjugate = Adjugate::of(m);
+    ObjectRay {
+        origin: adjugate.times(seen_from(ray.origin, m.t)),
+        dir: adjugate.times(ray.dir),
+        det: m.det(),
+        tmin: ray.tmin,
+        tmax: ray.tmax,
+    }
+}
+
+// The way from t to o.
+fn seen_from(o: Vec3, t: Vec3) -> Vec3
+    requires o_short { IsShort (2 ^ 19) o }
+    requires t_short { IsShort (2 ^ 20) t }
+    ensures value { result ≡ minus_of o t }
+    ensures short { IsShort (2 ^ 19 + 2 ^ 20) result }
+{
+    Vec3 {
+        x: o.x - t.x,
+        y: o.y - t.y,
+        z: o.z - t.z,
+    }
+}
