@@ -5,10 +5,14 @@
 #[cfg(test)]
 mod answer;
 #[cfg(test)]
+mod changes;
+#[cfg(test)]
 mod failing;
 #[cfg(test)]
 mod reading;
 #[cfg(test)]
 mod rows;
+#[cfg(test)]
+mod shapes;
 #[cfg(test)]
 mod triangle;

@@ -141,8 +141,26 @@ fn other_inputs_are_answered(rt: HostRuntime) -> Result<(), Fail> {
         deep.push_str("]")?;
     }
     let rows = [
-        ("an object", "{}", Status::Unbuilt, "unbuilt 0\n"),
+        ("an object", "{}", Status::BadRecording, "bad-shape 0\n"),
         ("no command", "[]", Status::Unbuilt, "unbuilt 0\n"),
+        (
+            "a further member",
+            r#"[{"op":"begin","x":1}]"#,
+            Status::BadRecording,
+            "bad-shape 0\n",
+        ),
+        (
+            "a second command that is none",
+            r#"[{"op":"begin"},7]"#,
+            Status::BadRecording,
+            "bad-shape 1\n",
+        ),
+        (
+            "a command of another form",
+            r#"[{"op":"begin"}]"#,
+            Status::Unbuilt,
+            "unbuilt 0\n",
+        ),
         (
             "without command 16",
             short.as_str(),
