@@ -1,5 +1,5 @@
 -- The grammar of a script: which JSON values spell rules, and what they spell. (Own.)
-use Rattle.std.specs.Prelude.{ℕ, ◌≡◌, List, [], ◌∷◌, Option, Some, None, Result, Ok, Err, codes, option_and_then, Vec}
+use Rattle.std.specs.Prelude.{ℕ, ◌≡◌, List, [], ◌∷◌, Option, Some, None, Result, Ok, Err, codes, Vec}
 use Rattle.std.specs.declared.alloc.Global.{Global}
 use Rattle.serde_json.specs.Data.{Data}
 use Rattle.ray_json.specs.Fields.{◌>>=◌, at, optional_at, only, u64_of, word_of, list_of}

@@ -1,11 +1,10 @@
 -- Which rules are a script. (Own.)
-use Rattle.std.specs.Prelude.{ℕ, ◌^◌, ◌<◌, ◌≤◌, ◌&&◌, ◌≡◌, List, Bool, true, not, nat_lt, nat_le, length, position, take, if◌then◌else◌, Option, Some, None, Result, Ok, Err}
+use Rattle.std.specs.Prelude.{ℕ, ◌^◌, ◌&&◌, ◌≡◌, List, Bool, true, not, nat_lt, nat_le, length, position, take, if◌then◌else◌, Option, Some, None, Result, Ok, Err}
 use Rattle.ray_script.specs.declared.raw_choice.RawChoice.{RawChoice}
 use Rattle.ray_script.specs.declared.raw_choice.RawChoice.TheVariants.{At}
 use Rattle.ray_script.specs.declared.raw_rule.RawRule.{RawRule}
 use Rattle.ray_script.specs.declared.bad_script.BadScript.{BadScript}
 use Rattle.ray_script.specs.declared.bad_script.BadScript.TheVariants as faults
-use Rattle.ray_script.specs.declared.script.Script.{Script}
 
 -- a rule's distance is in range: its numerator is at most 2^40, its denominator from 1 to 65,536
 abbrev pub is_choice_in_range : RawChoice → Bool
