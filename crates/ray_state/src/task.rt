@@ -28,7 +28,10 @@ impl Task {
                 _ => Task::Rest,
             },
             Command::Trace {
-                top, rays, hits, ..
+                top,
+                rays,
+                hits,
+                ..
             } => Task::TraceRay {
                 top: *top,
                 ray: *rays,
