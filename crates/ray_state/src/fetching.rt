@@ -73,11 +73,7 @@ pub fn fetch<R: Threads + Sync, L: Ledger>(
 }
 
 // The output of a piece.
-fn output<L: Ledger>(
-    state: &State,
-    task: Task,
-    steps: &mut Steps<L>,
-) -> Result<Output, FetchFault>
+fn output<L: Ledger>(state: &State, task: Task, steps: &mut Steps<L>) -> Result<Output, FetchFault>
     ensures value { IsFetched (outcome_of (task_action task) (memory_of state.now)) result }
     ensures rising { steps.old ≤ steps.new }
     ensures cost { steps.new ≤ steps.old + 1 }

@@ -43,7 +43,10 @@ impl State {
     {
         match rec.command(i) {
             Command::Buffer {
-                id, size, content, ..
+                id,
+                size,
+                content,
+                ..
             } => self.make_buffer(*id, *size as usize, told(content)),
             Command::Structure { id, kind, .. } => self.make_structure(*id, *kind),
             _ => Ok(()),

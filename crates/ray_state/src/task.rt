@@ -4,7 +4,7 @@ ghost use Rattle.ray_state.specs.Tasks.{task_action};
 
 use ray_cmd::{Command, Geometry, Info, Spot};
 
-/// What a piece of a device command does, by its numbers.
+/// What a piece of a device command does, and with which structures and spots.
 #[derive(Clone, Copy)]
 pub(crate) enum Task {
     /// Builds a bottom structure from the triangle whose vertices stand at a spot.
@@ -28,7 +28,10 @@ impl Task {
                 _ => Task::Rest,
             },
             Command::Trace {
-                top, rays, hits, ..
+                top,
+                rays,
+                hits,
+                ..
             } => Task::TraceRay {
                 top: *top,
                 ray: *rays,

@@ -7,6 +7,7 @@ use std::marker::Brand;
 use std::test::Fail;
 use std::thread::Threads;
 
+// The triangle recording: builds one triangle and one instance of it, and traces one ray.
 const TRIANGLE: &str = concat!(
     r#"[{"op":"buffer","id":0,"size":128,"usage":["input"],"data":""#,
     r#"000000000000000000000000040000000000000000000000000000000400000000000000"#,

@@ -9,7 +9,6 @@ use Rattle.ray_cmd.specs.declared.build_mode.BuildMode.TheVariants as modes
 use Rattle.ray_cmd.specs.declared.geometry.Geometry.{Geometry}
 use Rattle.ray_cmd.specs.declared.geometry.Geometry.TheVariants as geometries
 use Rattle.ray_cmd.specs.declared.info.Info.{Info}
-use Rattle.ray_cmd.specs.declared.read_form.ReadForm.{ReadForm}
 use Rattle.ray_cmd.specs.declared.read_form.ReadForm.TheVariants.{Hits}
 use Rattle.ray_cmd.specs.declared.spot.Spot.{Spot}
 use Rattle.ray_cmd.specs.declared.structure_kind.StructureKind.{StructureKind}

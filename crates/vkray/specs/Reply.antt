@@ -1,5 +1,5 @@
 -- What the program answers to an input. (Own.)
-use Rattle.std.specs.Prelude.{◌≡◌, ◌≤◌, ◌<◌, ◌+◌, ◌^◌, ℕ, List, [], ◌++◌, length, take, drop, Option, Some, Result, Ok, Err, IfSome, codes, ◌⊎◌, String}
+use Rattle.std.specs.Prelude.{◌≡◌, ◌≤◌, ◌<◌, ◌+◌, ◌^◌, ℕ, List, [], ◌++◌, length, take, drop, Option, Some, Ok, Err, IfSome, codes, ◌⊎◌, String}
 use Rattle.std.specs.declared.alloc.Global.{Global}
 use Rattle.ray_io.specs.Faults.{HasRisen}
 use Rattle.ray_cmd.specs.declared.command.Command.{Command}

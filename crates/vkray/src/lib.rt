@@ -1,9 +1,15 @@
 //! The program as a library: one call reads a recording, decides whether it keeps the rules, runs
 //! it, and writes its text.
 //!
-//! The one call is `vkray`; `main` of the program hands it the standard streams, tests hand it
-//! sources and sinks in memory. It stands on ray_io (all bytes read and written), ray_cmd (the
-//! recording) and ray_state (what each command does).
+//! `main` of the program hands [`vkray`] the standard streams, tests hand it sources and sinks in
+//! memory. Its clauses `answer` and `complete` say by `specs/Reply` how a call ends and what is
+//! written.
+//!
+//! A recording runs as far as the forms of its commands are built. [`first_unbuilt`] says how far
+//! that is, by `specs/PathForm`; [`run_waves`] runs so many commands, by `specs/Run` of ray_state.
+//!
+//! It stands on ray_io (all bytes read and written), ray_cmd (the recording) and ray_state (what
+//! each command does).
 #![tactic(auto)]
 
 mod device;

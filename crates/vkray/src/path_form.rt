@@ -14,7 +14,7 @@ const MEMORY: Access = Access(Access::MEMORY_READ.0 | Access::MEMORY_WRITE.0);
 
 /// The least number at which the recording has a command whose form isn't built yet: it differs from
 /// the triangle recording in more than its vertices or its ray, or is one too many, or one is
-/// missing there. None exactly where every command's form is built. Own.
+/// missing there. None exactly where every command's form is built. (Own.)
 pub fn first_unbuilt(rec: &Recording) -> Option<u32>
     ensures unbuilt { IfSome result (IsFirstUnbuilt rec.now) }
     ensures within { IfSome result (λ i. i ≤ length rec.now) }

@@ -1,4 +1,4 @@
-use Rattle.std.proofs.Common.{inl, refl}
+use Rattle.std.proofs.Common.{inl}
 use Rattle.vkray.proofs.Stopping.{stops_as}
 use Rattle.vkray.proofs.executing.run_all.Goals as goal
 
