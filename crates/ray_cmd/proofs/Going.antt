@@ -1,5 +1,5 @@
 -- One command more of those that items spell.
-use Rattle.std.proofs.Common.{ℕ, ◌+◌, ◌<◌, ◌≡◌, List, [], ◌∷◌, ◌++◌, Result, Ok, Err, Bool, false, nat_le, refl, arith, append_assoc, ap, ◌∙◌, sym, suc, length, drop, get_or, map}
+use Rattle.std.proofs.Common.{ℕ, ◌+◌, ◌<◌, ◌≡◌, List, [], ◌∷◌, ◌++◌, Ok, Err, false, nat_le, refl, arith, append_assoc, ap, sym, suc, length, drop, get_or}
 use Rattle.std.proofs.lemmas.Bool.Decides.{nat_tests}
 use Rattle.std.proofs.Common.{add-one}
 use Rattle.std.proofs.Math.Seq.{drop-cons}

@@ -1,2 +1,3 @@
 pub mod Utf8Json
 pub mod Going
+pub mod Recorded

@@ -11,3 +11,4 @@ pub mod Grammar
 pub mod Json
 pub mod Counting
 pub mod Recordings
+pub mod Recorded

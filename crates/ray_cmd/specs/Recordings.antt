@@ -21,7 +21,6 @@ abbrev pub most_members : ℕ
 most_members = 2 ^ 26
 
 infixl 10 ◌>>=◌
-
 -- what is read after the first, or why the first is none
 abbrev pub ◌>>=◌ : {A B : Type 0} → Result A RecordingFault → (A → Result B RecordingFault) → Result B RecordingFault
 Ok x >>= next = next x

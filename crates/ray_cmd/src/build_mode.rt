@@ -19,10 +19,7 @@ impl FromJson for BuildMode {
 
     fn from_json(_alloc: Global, value: &Value) -> Result<Self, ReadFault> {
         read_word(
-            &[
-                ("build", BuildMode::Build),
-                ("update", BuildMode::Update),
-            ],
+            &[("build", BuildMode::Build), ("update", BuildMode::Update)],
             value,
         )
     }

@@ -31,7 +31,10 @@ pub enum Command {
         size: u64,
     },
     /// Destroys a buffer or a structure.
-    Destroy { what: Thing, id: u32 },
+    Destroy {
+        what: Thing,
+        id: u32,
+    },
     /// Asks the sizes of a structure with geometries of these counts of primitives
     /// (vkGetAccelerationStructureBuildSizesKHR).
     Sizes {
@@ -73,11 +76,20 @@ pub enum Command {
         regions: Listed<Region>,
     },
     /// Builds or updates structures (vkCmdBuildAccelerationStructuresKHR).
-    Build { infos: Listed<Info> },
+    Build {
+        infos: Listed<Info>,
+    },
     /// Copies a structure (vkCmdCopyAccelerationStructureKHR).
-    CopyStructure { mode: CopyMode, src: u32, dst: u32 },
+    CopyStructure {
+        mode: CopyMode,
+        src: u32,
+        dst: u32,
+    },
     /// Writes a structure's serialized form (vkCmdCopyAccelerationStructureToMemoryKHR).
-    Serialize { src: u32, dst: Stretch },
+    Serialize {
+        src: u32,
+        dst: Stretch,
+    },
     /// Reads a structure from its serialized form (vkCmdCopyMemoryToAccelerationStructureKHR).
     Deserialize {
         src: Stretch,

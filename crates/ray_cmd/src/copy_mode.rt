@@ -19,10 +19,7 @@ impl FromJson for CopyMode {
 
     fn from_json(_alloc: Global, value: &Value) -> Result<Self, ReadFault> {
         read_word(
-            &[
-                ("clone", CopyMode::Clone),
-                ("compact", CopyMode::Compact),
-            ],
+            &[("clone", CopyMode::Clone), ("compact", CopyMode::Compact)],
             value,
         )
     }

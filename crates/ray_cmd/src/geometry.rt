@@ -123,7 +123,14 @@ fn boxes(alloc: Global, value: &Value) -> Result<Geometry, ReadFault>
 {
     only_members(
         value,
-        &["kind", "opaque", "data", "stride", "count", "primitive_offset"],
+        &[
+            "kind",
+            "opaque",
+            "data",
+            "stride",
+            "count",
+            "primitive_offset",
+        ],
     )?;
     Ok(Geometry::Boxes {
         opaque: at(alloc, value, "opaque")?,

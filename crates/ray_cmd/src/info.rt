@@ -39,7 +39,15 @@ impl FromJson for Info {
     fn from_json(alloc: Global, value: &Value) -> Result<Self, ReadFault> {
         only_members(
             value,
-            &["mode", "dst", "src", "flags", "scratch", "geometries", "uses"],
+            &[
+                "mode",
+                "dst",
+                "src",
+                "flags",
+                "scratch",
+                "geometries",
+                "uses",
+            ],
         )?;
         let mode = at(alloc, value, "mode")?;
         let dst = at(alloc, value, "dst")?;

@@ -1,9 +1,11 @@
-ghost use Rattle.std.specs.Prelude.{◌≡◌, ◌⊎◌, IfOk, IfErr};
+ghost use Rattle.std.specs.Prelude.{ℕ, ◌≡◌, ◌⊎◌, Some, Err, IfOk, IfErr};
+ghost use Rattle.serde_json.specs.Data.{Items, array};
 ghost use Rattle.serde_json.specs.View.{view, items_view};
 ghost use Rattle.ray_cmd.specs.Json.{json_of};
 ghost use Rattle.ray_cmd.specs.Counting.{listed_in, less};
 ghost use Rattle.ray_cmd.specs.Grammar.{command_of};
 ghost use Rattle.ray_cmd.specs.Recordings.{most_members, or_bad, commands_from, recording_of, Answers};
+ghost use Rattle.ray_cmd.specs.Recorded.{IsRecordingOf, IsFirstBad};
 
 use crate::command::Command;
 use crate::counting::left_after;
@@ -31,6 +33,16 @@ const MOST_MEMBERS: u64 = 1 << 26;
 /// and it can take many times the memory of the bytes.
 pub fn read_recording(alloc: Global, bytes: &[u8]) -> Result<Recording, RecordingFault>
     ensures answer { Answers result (recording_of bytes.now) }
+    ensures ok { IfOk result (λ cs. (ds : Items) × (json_of bytes.now ≡ Some (array ds)) × IsRecordingOf ds cs) }
+    ensures bad_shape { (i : ℕ) (ds : Items) → result ≡ Err (RecordingFault.BadShape i)
+        → json_of bytes.now ≡ Some (array ds) → IsFirstBad ds i }
+{
+    reading(alloc, bytes)
+}
+
+// The same, as the one exact clause says it.
+fn reading(alloc: Global, bytes: &[u8]) -> Result<Recording, RecordingFault>
+    ensures { Answers result (recording_of bytes.now) }
 {
     let value = json(alloc, bytes)?;
     match value.as_array() {

@@ -19,10 +19,7 @@ impl FromJson for Thing {
 
     fn from_json(_alloc: Global, value: &Value) -> Result<Self, ReadFault> {
         read_word(
-            &[
-                ("buffer", Thing::Buffer),
-                ("structure", Thing::Structure),
-            ],
+            &[("buffer", Thing::Buffer), ("structure", Thing::Structure)],
             value,
         )
     }

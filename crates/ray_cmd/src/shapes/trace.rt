@@ -13,7 +13,12 @@ use std::alloc::Global;
 pub(crate) fn trace(alloc: Global, value: &Value) -> Result<Command, ReadFault>
     ensures { Gives result (trace_of (view value.now)) }
 {
-    only_members(value, &["op", "top", "rays", "count", "hits", "flags", "mask", "script"])?;
+    only_members(
+        value,
+        &[
+            "op", "top", "rays", "count", "hits", "flags", "mask", "script",
+        ],
+    )?;
     Ok(Command::Trace {
         top: at(alloc, value, "top")?,
         rays: at(alloc, value, "rays")?,

@@ -53,7 +53,10 @@ pub(crate) fn copy(alloc: Global, value: &Value) -> Result<Command, ReadFault>
 pub(crate) fn barrier(alloc: Global, value: &Value) -> Result<Command, ReadFault>
     ensures { Gives result (barrier_of (view value.now)) }
 {
-    only_members(value, &["op", "src_stages", "src_access", "dst_stages", "dst_access"])?;
+    only_members(
+        value,
+        &["op", "src_stages", "src_access", "dst_stages", "dst_access"],
+    )?;
     Ok(Command::Barrier {
         src_stages: at(alloc, value, "src_stages")?,
         src_access: at(alloc, value, "src_access")?,

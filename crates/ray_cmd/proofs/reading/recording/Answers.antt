@@ -1,4 +1,4 @@
-use Rattle.std.proofs.Common.{ℕ, ◌+◌, ◌≡◌, ◌<◌, ◌++◌, ◌∷◌, [], Ok, drop, length, sym, ap, ◌∙◌, arith, rules, add-one, length-append}
+use Rattle.std.proofs.Common.{◌+◌, ◌++◌, ◌∷◌, [], Ok, drop, length, sym, ap, ◌∙◌, arith, length-append}
 use Rattle.serde_json.specs.View.{view, items_view}
 use Rattle.ray_cmd.specs.Recordings.{◌>>=◌, commands_from}
 use Rattle.ray_cmd.proofs.Going.{goes_on, next_item}
@@ -12,8 +12,8 @@ loop-i-preserved c =
     let next = next_item values l.i value c.loop-i-test.true c.index-values-i.is in
     let pushed = c.in_ok-push.ensures in (
       goes_on l.i l.left c.in_ok-left.left (view value) (items_view (drop (l.i + 1) values)) l.commands _ c.in_ok-command.command
-      c.if-i-ge-MOST_COMMANDS.false c.in_ok-command.ensures (sym c.in_ok-left.ensures) pushed
-      ∙ (ap (λ ds. commands_from l.i l.left ds >>= λ commands. Ok (l.commands ++ commands)) (sym next) ∙ l.invariant.0),
+          c.if-i-ge-MOST_COMMANDS.false c.in_ok-command.ensures (sym c.in_ok-left.ensures) pushed
+          ∙ (ap (λ ds. commands_from l.i l.left ds >>= λ commands. Ok (l.commands ++ commands)) (sym next) ∙ l.invariant.0),
       ap length pushed ∙ (length-append l.commands (c.in_ok-command.command ∷ []) ∙ ap (λ n. n + 1) l.invariant.1),
       omega arith,
     )
