@@ -1,6 +1,7 @@
-ghost use Rattle.std.specs.Prelude.{◌≡◌, ◌+◌, ◌<◌, ◌↔◌, [], Some, length, drop, IfOk, IfSome, IsErrOf};
+ghost use Rattle.std.specs.Prelude.{◌≡◌, ◌+◌, ◌<◌, ◌↔◌, Some, length, drop, IfOk, IfErr, IfSome, IsErrOf};
 ghost use Rattle.ray_io.specs.Faults.{HasRisen};
-ghost use Rattle.ray_bench.specs.Status.{most_bytes};
+ghost use Rattle.ray_io.specs.declared.read_error.ReadError.{ReadError};
+ghost use Rattle.ray_bench.specs.Status.{most_bytes, error_of};
 
 use crate::bench_error::BenchError;
 use ray_io::{Source, read_all};
@@ -16,6 +17,7 @@ pub fn input<S: Source>(alloc: Global, source: &mut S) -> Result<Vec<u8>, BenchE
         ↔ ((most_bytes < length bytes) × (S.left source.new ≡ Some (drop (most_bytes + 1) bytes)))) }
     ensures fault { IsErrOf result BenchError.ReadFault
         → HasRisen (S.faults source.old) (S.faults source.new) }
+    ensures err { IfErr result (λ e. (r : ReadError) × (e ≡ error_of r)) }
 {
     match read_all(alloc, source, MOST_BYTES) {
         Ok(bytes) => Ok(bytes),
