@@ -4,3 +4,6 @@ pub mod Rays
 pub mod Spots
 pub mod Tested
 pub mod Status
+pub mod HexItems
+pub mod Readings
+pub mod Lines

@@ -2,19 +2,32 @@
 //! that it can be timed from outside. `ray_bench pairs 20000000` tests that many pairs of a ray and
 //! a triangle, of which few are hits, `ray_bench hits 20000000` that many that are all hits, and
 //! `ray_bench box-spans 20000000` that many pairs of a ray and a box, of which half are met. Each
-//! prints the number of pairs and of hits. Without words it does a little of each. Words that
-//! are none of its own give the line `bad-words` and status 3.
+//! prints the number of pairs and of hits. Without words it does a little of each.
+//!
+//! `ray_bench json`, `ray_bench hex` and `ray_bench recording` read standard input, of at most 2^26
+//! bytes, as a JSON value, as that with the hexadecimal digits of its items' members `data`, and as a
+//! recording. Each prints the number of bytes and what came of it: the number of items, of such
+//! members, or of commands, or else `not-json` or `bad-shape I`. What `hex` does is the least that
+//! a reader of recordings does by `serde_json` and `hex`.
+//!
+//! Words that are none of its own give the line `bad-words` and status 3.
 //!
 //! The contract that `main` uses is that of `count_hits`: the count is that of `AreHits` of
 //! `specs/Tested`, exactly the pairs that are hits by `hit_of` of ray_geom, or the boxes that are met
-//! by its `IsInside`, on which it stands.
+//! by its `IsInside`, on which it stands. That of `line` is the whole line of a reading, `line_of`
+//! of `specs/Lines`, which goes by `recording_of` of ray_cmd; `input` gives all the bytes.
 #![tactic(auto)]
 
 mod bench_error;
+mod counted;
 mod field;
+mod hex_items;
+mod input;
 mod job;
+mod line;
 mod pair;
 mod rays;
+mod reading;
 mod spot;
 mod testing;
 #[cfg(test)]
@@ -22,8 +35,12 @@ mod tests;
 mod work;
 
 use crate::bench_error::BenchError;
+use crate::input::input;
 use crate::job::Job;
+use crate::line::line;
+use crate::reading::Reading;
 use crate::testing::count_hits;
+use ray_io::StdSource;
 use std::env;
 use std::process::ExitCode;
 use std::rt::Env;
@@ -40,13 +57,18 @@ fn main(rt: HostRuntime) -> ExitCode {
 }
 
 // What the words ask for.
-fn run<R: Env + AllocGlobal + Print>(rt: &R) -> Result<(), BenchError> {
+fn run<R: Env + AllocGlobal + Print + Input>(rt: &R) -> Result<(), BenchError> {
     let words: Vec<String> = env::args(rt)?.skip(1).collect(rt.alloc())?;
     match words.as_slice() {
         [] => {
             report(rt, Job::LITTLE_PAIRS)?;
             report(rt, Job::LITTLE_HITS)?;
             report(rt, Job::LITTLE_BOX_SPANS)
+        }
+        [word] => {
+            let reading = Reading::named(word.as_str()).ok_or(BenchError::BadWords)?;
+            let bytes = input(rt.alloc(), &mut StdSource::new(rt.reader()))?;
+            tell(rt, reading, bytes.as_slice())
         }
         [work, number] => report(rt, Job::parse(work.as_str(), number.as_str())?),
         _ => Err(BenchError::BadWords),
@@ -57,5 +79,12 @@ fn run<R: Env + AllocGlobal + Print>(rt: &R) -> Result<(), BenchError> {
 fn report<R: AllocGlobal + Print>(rt: &R, job: Job) -> Result<(), BenchError> {
     let hits = count_hits(rt.alloc(), job)?;
     println!(rt; "{} {} hits {hits}", job.work, job.number)?;
+    Ok(())
+}
+
+// Reads the bytes and prints the line of what came of it.
+fn tell<R: AllocGlobal + Print>(rt: &R, reading: Reading, bytes: &[u8]) -> Result<(), BenchError> {
+    let line = line(rt.alloc(), reading, bytes)?;
+    println!(rt; "{line}")?;
     Ok(())
 }

@@ -1,7 +1,11 @@
 use crate::bench_error::BenchError;
+use crate::input::input;
 use crate::job::Job;
+use crate::line::line;
+use crate::reading::Reading;
 use crate::testing::count_hits;
 use crate::work::Work;
+use ray_io::MemSource;
 
 const fn pairs(number: usize) -> Job {
     Job {
@@ -74,5 +78,63 @@ fn counts_hits(rt: HostRuntime) -> Result<(), BenchError> {
 #[test]
 fn ends_with_status(rt: HostRuntime) {
     assert_eq!(rt; BenchError::BadWords.status(), 3);
+    assert_eq!(rt; BenchError::ReadFault.status(), 4);
+    assert_eq!(rt; BenchError::TooLong.status(), 6);
     assert_eq!(rt; BenchError::NoMemory.status(), 7);
+}
+
+#[test]
+fn names_readings(rt: HostRuntime) {
+    let cases = [
+        ("JSON", "json", Some(Reading::Json)),
+        ("digits", "hex", Some(Reading::Hex)),
+        ("commands", "recording", Some(Reading::Recording)),
+        ("a capital", "JSON", None),
+        ("a work that takes a number", "pairs", None),
+        ("no letter", "", None),
+    ];
+    for (name, word, reading) in cases {
+        assert_eq!(rt; Reading::named(word), reading, "{name}");
+    }
+}
+
+#[test]
+fn tells_what_came(rt: HostRuntime) -> Result<(), BenchError> {
+    let digits =
+        "[{\"data\":\"0f\"},{\"data\":\"F\"},{\"data\":\"0g\"},{\"data\":1},{},{\"data\":\"\"}]";
+    let cases = [
+        (Reading::Json, "[]", "json 2 bytes 0 items"),
+        (Reading::Json, "[1, [2, 3]]", "json 11 bytes 2 items"),
+        (Reading::Json, "{\"a\":1}", "json 7 bytes 0 items"),
+        (Reading::Json, "[1", "json 2 bytes not-json"),
+        (Reading::Hex, digits, "hex 68 bytes 2 data"),
+        (Reading::Hex, "1", "hex 1 bytes 0 data"),
+        (Reading::Hex, "", "hex 0 bytes not-json"),
+        (
+            Reading::Recording,
+            "[{\"op\":\"begin\"}]",
+            "recording 16 bytes 1 commands",
+        ),
+        (
+            Reading::Recording,
+            "[{\"op\":\"end\"},1]",
+            "recording 16 bytes bad-shape 1",
+        ),
+        (Reading::Recording, "{}", "recording 2 bytes bad-shape 0"),
+        (Reading::Recording, "]", "recording 1 bytes not-json"),
+    ];
+    for (reading, text, told) in cases {
+        let line = line(rt.alloc(), reading, text.as_bytes())?;
+        assert_eq!(rt; line.as_str(), told, "{text}");
+    }
+    Ok(())
+}
+
+#[test]
+fn takes_the_whole_input(rt: HostRuntime) -> Result<(), BenchError> {
+    let bytes = Vec::from_slice(rt.alloc(), b"[1, 2]")?;
+    let mut source = MemSource::new(bytes, 4, Vec::new(rt.alloc()));
+    let read = input(rt.alloc(), &mut source)?;
+    assert_eq!(rt; read.as_slice(), b"[1, 2]".as_slice());
+    Ok(())
 }
