@@ -1,8 +1,9 @@
--- The values before the first missing one, place by place.
+-- The records up to the first that isn't whole: which they are, and how many bytes each has.
 use Rattle.std.proofs.Common.{◌≡◌, ℕ, zero, suc, ◌+◌, ◌<◌, List, [], ◌∷◌, length, map, Option, Some, None, slice_index_or, All, refl, ap, ◌∙◌, arith}
 use Rattle.std.specs.List.{range_with_len}
 use Rattle.std.proofs.lemmas.List.Elements.{All-cons, All-nil}
-use Rattle.ray_bytes.specs.Slices.{before_missing, AreFirst}
+use Rattle.std.proofs.lemmas.Grind.{common_steps}
+use Rattle.ray_bytes.specs.Slices.{record_at, before_missing, AreFirst}
 
 -- where there is none at i, there is nothing
 none_first : {X : Type 0} (at : ℕ → Option X) (i n : ℕ) → at i ≡ None → AreFirst (λ k. at (i + k)) n []
@@ -71,3 +72,9 @@ pub All-before_missing :
 All-before_missing P at each zero i = All-nil P
 All-before_missing {X} P at each (suc n) i =
     all_step P (at i) (map at (range_with_len (i + 1) n)) (each i) (All-before_missing P at each n (i + 1))
+
+-- a record has as many bytes as its width
+pub length-record_at :
+    (bytes : List ℕ) (start stride width i : ℕ) (part : List ℕ)
+    → record_at bytes start stride width i ≡ Some part → length part ≡ width
+length-record_at bytes start stride width i part here = grind (arith, common_steps)

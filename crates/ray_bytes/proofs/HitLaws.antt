@@ -1,5 +1,5 @@
 -- A hit that is written is read again, and the other way round.
-use Rattle.std.proofs.Common.{◌≡◌, ℕ, ◌^◌, ◌<◌, List, [], ◌∷◌, length, drop, slice_index, sym, arith, All, lit<}
+use Rattle.std.proofs.Common.{◌≡◌, ℕ, ◌^◌, ◌<◌, List, [], length, drop, slice_index, sym, arith, All, lit<}
 use Rattle.std.proofs.lemmas.List.{drop_all}
 use Rattle.std.proofs.lemmas.List.Elements.{All-cons, All-nil}
 use Rattle.byteorder.specs.Numbers.{little_number-reads_back}
@@ -15,15 +15,7 @@ pub words_fit :
     → All (λ word. word < 2 ^ 32) (hit_words h)
 words_fit h kind instance custom sbt geometry primitive face spare =
     let Fits : ℕ → Type 0 = λ word. word < 2 ^ 32 in
-    let nine : All Fits [] = All-nil Fits in
-    let eight : All Fits (h.spare ∷ []) = All-cons Fits h.spare ([]) spare nine in
-    let seven : All Fits (h.face ∷ h.spare ∷ []) = All-cons Fits h.face (h.spare ∷ []) face eight in
-    let six : All Fits (h.primitive ∷ h.face ∷ h.spare ∷ []) = All-cons Fits h.primitive (h.face ∷ h.spare ∷ []) primitive seven in
-    let five : All Fits (h.geometry ∷ h.primitive ∷ h.face ∷ h.spare ∷ []) = All-cons Fits h.geometry (h.primitive ∷ h.face ∷ h.spare ∷ []) geometry six in
-    let four : All Fits (h.sbt ∷ h.geometry ∷ h.primitive ∷ h.face ∷ h.spare ∷ []) = All-cons Fits h.sbt (h.geometry ∷ h.primitive ∷ h.face ∷ h.spare ∷ []) sbt five in
-    let three : All Fits (h.custom ∷ h.sbt ∷ h.geometry ∷ h.primitive ∷ h.face ∷ h.spare ∷ []) = All-cons Fits h.custom (h.sbt ∷ h.geometry ∷ h.primitive ∷ h.face ∷ h.spare ∷ []) custom four in
-    let two : All Fits (h.instance ∷ h.custom ∷ h.sbt ∷ h.geometry ∷ h.primitive ∷ h.face ∷ h.spare ∷ []) = All-cons Fits h.instance (h.custom ∷ h.sbt ∷ h.geometry ∷ h.primitive ∷ h.face ∷ h.spare ∷ []) instance three in
-    All-cons Fits h.kind (h.instance ∷ h.custom ∷ h.sbt ∷ h.geometry ∷ h.primitive ∷ h.face ∷ h.spare ∷ []) kind two
+    search (All-cons Fits, All-nil Fits) depth 10
 
 -- what is read of a hit's bytes is the hit
 pub hit_of_bytes-hit_bytes :

@@ -1,14 +1,7 @@
-use Rattle.std.proofs.Common.{◌≡◌, ℕ, List, length, Some, arith}
-use Rattle.std.proofs.lemmas.Grind.{common_steps}
+use Rattle.std.proofs.Common.{◌≡◌, length}
 use Rattle.ray_bytes.specs.Slices.{record_at}
-use Rattle.ray_bytes.proofs.FirstRecords.{first_records, All-before_missing}
+use Rattle.ray_bytes.proofs.FirstRecords.{first_records, All-before_missing, length-record_at}
 use Rattle.ray_bytes.proofs.parts.Parts.new.Goals as goal
-
--- a record has as many bytes as its width
-length-record_at :
-    (bytes : List ℕ) (start stride width i : ℕ) (part : List ℕ)
-    → record_at bytes start stride width i ≡ Some part → length part ≡ width
-length-record_at bytes start stride width i part here = grind (arith, common_steps)
 
 pub returns-clause-first : goal.returns-clause-first
 returns-clause-first c = first_records (record_at c.args.bytes.now c.args.start c.args.stride c.args.width) c.args.count
