@@ -10,16 +10,17 @@ use bitflags::{Flag, Flags};
 pub struct Access(pub u32);
 
 impl Access {
-    /// Reads by transfers. (VK_ACCESS_TRANSFER_READ_BIT.)
+    /// Reads of the sources of copies, and of what is deserialized. (VK_ACCESS_TRANSFER_READ_BIT.)
     pub const TRANSFER_READ: Access = Access(1);
 
-    /// Writes by transfers. (VK_ACCESS_TRANSFER_WRITE_BIT.)
+    /// Writes of updates, fills and copies, of serialized bytes and of properties.
+    /// (VK_ACCESS_TRANSFER_WRITE_BIT.)
     pub const TRANSFER_WRITE: Access = Access(2);
 
-    /// Reads by shaders, and of the input of builds. (VK_ACCESS_SHADER_READ_BIT.)
+    /// Reads of rays by traces, and of the input of builds. (VK_ACCESS_SHADER_READ_BIT.)
     pub const SHADER_READ: Access = Access(4);
 
-    /// Writes by shaders. (VK_ACCESS_SHADER_WRITE_BIT.)
+    /// Writes of hits by traces. (VK_ACCESS_SHADER_WRITE_BIT.)
     pub const SHADER_WRITE: Access = Access(8);
 
     /// Reads of acceleration structures, and of scratch memory.
@@ -36,13 +37,13 @@ impl Access {
     /// Writes by the host. (VK_ACCESS_HOST_WRITE_BIT.)
     pub const HOST_WRITE: Access = Access(128);
 
-    /// Every read. It is a bit of its own. (VK_ACCESS_MEMORY_READ_BIT.)
+    /// Every read: a bit of its own. (VK_ACCESS_MEMORY_READ_BIT.)
     pub const MEMORY_READ: Access = Access(256);
 
-    /// Every write. It is a bit of its own. (VK_ACCESS_MEMORY_WRITE_BIT.)
+    /// Every write: a bit of its own. (VK_ACCESS_MEMORY_WRITE_BIT.)
     pub const MEMORY_WRITE: Access = Access(512);
 
-    /// The access of this word. None exactly where `access_words` of `specs/Words` has no such word.
+    /// The access of this word. None exactly where `access_words` of `specs/Words` lacks it.
     pub fn from_word(word: &str) -> Option<Access>
         ensures found { option_map (λ f. f.0) result ≡ find_name access_words word.now }
         ensures row { (bits : ℕ)

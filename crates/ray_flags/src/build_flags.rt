@@ -26,7 +26,7 @@ impl BuildFlags {
     /// The structure is to be small. (VK_BUILD_ACCELERATION_STRUCTURE_LOW_MEMORY_BIT_KHR.)
     pub const LOW_MEMORY: BuildFlags = BuildFlags(16);
 
-    /// The flag of this word. None exactly where `build_words` of `specs/Words` has no such word.
+    /// The flag of this word. None exactly where `build_words` of `specs/Words` lacks it.
     pub fn from_word(word: &str) -> Option<BuildFlags>
         ensures found { option_map (λ f. f.0) result ≡ find_name build_words word.now }
         ensures row { (bits : ℕ)

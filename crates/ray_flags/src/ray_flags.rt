@@ -41,7 +41,7 @@ impl RayFlags {
     /// Boxes are skipped. (SkipAABBsKHR.)
     pub const SKIP_AABBS: RayFlags = RayFlags(512);
 
-    /// The flag of this word. None exactly where `ray_words` of `specs/Words` has no such word.
+    /// The flag of this word. None exactly where `ray_words` of `specs/Words` lacks it.
     pub fn from_word(word: &str) -> Option<RayFlags>
         ensures found { option_map (λ f. f.0) result ≡ find_name ray_words word.now }
         ensures row { (bits : ℕ)

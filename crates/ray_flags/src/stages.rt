@@ -13,7 +13,7 @@ impl Stages {
     /// Updates, fills and copies of buffers. (VK_PIPELINE_STAGE_TRANSFER_BIT.)
     pub const TRANSFER: Stages = Stages(1);
 
-    /// Builds, copies and properties of structures.
+    /// Builds, copies, serializations and properties of structures.
     /// (VK_PIPELINE_STAGE_ACCELERATION_STRUCTURE_BUILD_BIT_KHR.)
     pub const BUILD: Stages = Stages(2);
 
@@ -27,7 +27,7 @@ impl Stages {
     /// (VK_PIPELINE_STAGE_ALL_COMMANDS_BIT.) `Flags::all` has the host too.
     pub const ALL: Stages = Stages(7);
 
-    /// The stages of this word. None exactly where `stage_words` of `specs/Words` has no such word.
+    /// The stages of this word. None exactly where `stage_words` of `specs/Words` lacks it.
     pub fn from_word(word: &str) -> Option<Stages>
         ensures found { option_map (λ f. f.0) result ≡ find_name stage_words word.now }
         ensures row { (bits : ℕ)

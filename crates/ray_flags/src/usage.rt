@@ -17,20 +17,21 @@ impl Usage {
     /// Rays and hits. (VK_BUFFER_USAGE_STORAGE_BUFFER_BIT.)
     pub const STORAGE: Usage = Usage(2);
 
-    /// Source of copies. (VK_BUFFER_USAGE_TRANSFER_SRC_BIT.)
+    /// Sources of copies, and of what is deserialized. (VK_BUFFER_USAGE_TRANSFER_SRC_BIT.)
     pub const TRANSFER_SRC: Usage = Usage(4);
 
-    /// Destination of updates, fills, copies, serializations and properties.
+    /// Destinations of updates, fills and copies, of serialized bytes and of properties.
     /// (VK_BUFFER_USAGE_TRANSFER_DST_BIT.)
     pub const TRANSFER_DST: Usage = Usage(8);
 
     /// Scratch memory of builds. (Own: Vulkan asks VK_BUFFER_USAGE_STORAGE_BUFFER_BIT of it.)
     pub const SCRATCH: Usage = Usage(16);
 
-    /// Memory of acceleration structures. (VK_BUFFER_USAGE_ACCELERATION_STRUCTURE_STORAGE_BIT_KHR.)
+    /// Memory of acceleration structures.
+    /// (VK_BUFFER_USAGE_ACCELERATION_STRUCTURE_STORAGE_BIT_KHR.)
     pub const STRUCTURE: Usage = Usage(32);
 
-    /// The usage of this word. None exactly where `usage_words` of `specs/Words` has no such word.
+    /// The usage of this word. None exactly where `usage_words` of `specs/Words` lacks it.
     pub fn from_word(word: &str) -> Option<Usage>
         ensures found { option_map (λ f. f.0) result ≡ find_name usage_words word.now }
         ensures row { (bits : ℕ)
