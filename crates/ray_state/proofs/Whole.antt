@@ -1,5 +1,5 @@
 -- A record that is all of the bytes.
-use Rattle.std.proofs.Common.{ℕ, ◌≡◌, ◌+◌, ◌*◌, List, length, take, drop, Option, Some, None, Bool, true, nat_le, arith, ap, ◌∙◌, refl}
+use Rattle.std.proofs.Common.{ℕ, ◌≡◌, ◌+◌, ◌*◌, List, length, take, Some, true, nat_le, arith, ap, ◌∙◌}
 use Rattle.std.proofs.lemmas.Bool.{cond-true}
 use Rattle.std.proofs.lemmas.Bool.Decides.{nat_tests}
 use Rattle.std.proofs.lemmas.Grind.{common_steps}

@@ -1,4 +1,4 @@
-use Rattle.std.proofs.Common.{ap, sym, ◌∙◌, option_map}
+use Rattle.std.proofs.Common.{ap, ◌∙◌, option_map}
 use Rattle.ray_bytes.specs.Records.{instance_of}
 use Rattle.ray_state.proofs.Whole.{whole_record}
 use Rattle.ray_state.proofs.top.record_in.Goals as goal

@@ -1,6 +1,5 @@
 use Rattle.std.proofs.Common.{◌≡◌, ◌∙◌, ap}
 use Rattle.ray_bytes.specs.declared.ray_record.RayRecord.{RayRecord}
-use Rattle.ray_bytes.specs.Records.{ray_of}
 use Rattle.ray_geom.specs.Scene.{RayValue, ray_value}
 use Rattle.ray_geom.specs.Decided.{where_so, ray_decided}
 use Rattle.ray_state.specs.Meaning.{recorded_ray}
