@@ -1,6 +1,6 @@
 -- The form of a recording that is built: the path form. It is the triangle recording with any vertices and any ray. A
 -- recording is compared with it command by command, by their members as read. (Own.)
-use Rattle.std.specs.Prelude.{ℕ, ◌≡◌, ◌<◌, ◌==◌, ◌&&◌, ◌⊎◌, List, [], ◌∷◌, length, take, drop, replicate, slice_get, Bool, true, false, Option, Some, None}
+use Rattle.std.specs.Prelude.{ℕ, ◌≡◌, ◌<◌, ◌==◌, ◌&&◌, ◌⊎◌, List, [], ◌∷◌, length, take, drop, replicate, slice_get, Bool, true, false, Option, Some, None, is_none}
 use Rattle.std.specs.Str.{bytes_eq}
 use Rattle.ray_cmd.specs.declared.command.Command.{Command}
 use Rattle.ray_cmd.specs.declared.command.Command.TheVariants as commands
@@ -98,7 +98,7 @@ is_build modes.Update = false
 
 -- a new structure of this id without flags, with scratch at the beginning of buffer 2
 abbrev pub is_new : ℕ → Info → Bool
-is_new dst info = is_build info.mode && ((info.dst == dst) && ((info.flags.0 == 0) && is_spot 2 0 info.scratch))
+is_new dst info = is_build info.mode && ((info.dst == dst) && (is_none info.src && ((info.flags.0 == 0) && is_spot 2 0 info.scratch)))
 
 -- the build of structure 0 from the triangle
 abbrev pub is_bottom_info : List Info → Bool

@@ -59,6 +59,7 @@ fn is_new(dst: u32, info: &Info) -> bool
 {
     matches!(info.mode, BuildMode::Build)
         && info.dst == dst
+        && info.src.is_none()
         && info.flags == BuildFlags(0)
         && is_spot(2, 0, info.scratch)
 }
