@@ -15,4 +15,6 @@ mod rows;
 #[cfg(test)]
 mod shapes;
 #[cfg(test)]
+mod texts;
+#[cfg(test)]
 mod triangle;
