@@ -10,7 +10,7 @@ loop-i-preserved c =
     let values = c.args.values.now in
     let value = c.index-values-i.result in
     let next = next_item values l.i value c.loop-i-test.true c.index-values-i.is in
-    let pushed = c.in_ok-push.ensures in (
+    let pushed = c.in_ok-push.ensures.pushed in (
       goes_on l.i l.left c.in_ok-left.left (view value) (items_view (drop (l.i + 1) values)) l.commands _ c.in_ok-command.command
           c.if-i-ge-MOST_COMMANDS.false c.in_ok-command.ensures (sym c.in_ok-left.ensures) pushed
           ∙ (ap (λ ds. commands_from l.i l.left ds >>= λ commands. Ok (l.commands ++ commands)) (sym next) ∙ l.invariant.0),
