@@ -1,0 +1,11 @@
+pub mod Buffers
+pub mod Ids
+pub mod Names
+pub mod Origins
+pub mod Places
+pub mod Ranges
+pub mod Shapes
+pub mod Sources
+pub mod Spans
+pub mod Status
+pub mod Structures

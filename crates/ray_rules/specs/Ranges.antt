@@ -1,0 +1,141 @@
+-- The bytes that a geometry reads, and those that have to be there. (Vulkan: the valid usage of
+-- VkAccelerationStructureBuildRangeInfoKHR; own: the ranges.)
+use Rattle.std.specs.Prelude.{ℕ, ◌+◌, ◌-◌, ◌*◌, List, [], ◌∷◌, Option, Some, None, Bool, true, false, nat_lt, ◌==◌, ◌&&◌, ◌||◌, not, if◌then◌else◌, min, option_map, length}
+use Rattle.std.specs.List.{sum_by}
+use Rattle.std.specs.Option.{option_map_or}
+use Rattle.ray_bytes.specs.Formats.{vertex_size}
+use Rattle.ray_bytes.specs.StructureSizes.{build_scratch_size, update_scratch_size}
+use Rattle.ray_bytes.specs.declared.format.Format.{Format}
+use Rattle.ray_cmd.specs.declared.build_mode.BuildMode.{BuildMode}
+use Rattle.ray_cmd.specs.declared.build_mode.BuildMode.TheVariants as modes
+use Rattle.ray_cmd.specs.declared.geometry.Geometry.{Geometry}
+use Rattle.ray_cmd.specs.declared.geometry.Geometry.TheVariants as geometries
+use Rattle.ray_cmd.specs.declared.index.Index.{Index}
+use Rattle.ray_cmd.specs.declared.info.Info.{Info}
+use Rattle.ray_cmd.specs.declared.spot.Spot.{Spot}
+use Rattle.ray_rules.specs.declared.live_buffer.LiveBuffer.{LiveBuffer}
+use Rattle.ray_rules.specs.declared.range.Range.{Range}
+use Rattle.ray_rules.specs.Ids.{Ids, look}
+
+-- so many bytes of a buffer from an offset on
+abbrev pub range : ℕ → ℕ → ℕ → Range
+range buffer from size = record { buffer = buffer; from = from; size = size }
+
+-- how many bytes a buffer has: none where it isn't live
+abbrev pub size_at : Ids LiveBuffer → ℕ → ℕ
+size_at buffers id = option_map_or (λ (b : LiveBuffer). b.size) (look buffers id) 0
+
+-- whether a range isn't whole within its buffer. An empty one has to begin within it, or at its end
+abbrev pub is_outside : Ids LiveBuffer → Range → Bool
+is_outside buffers r = nat_lt (size_at buffers r.buffer) (r.from + r.size)
+
+-- whether a range is there, and isn't whole within its buffer
+abbrev pub is_outside_if : Ids LiveBuffer → Option Range → Bool
+is_outside_if buffers r = option_map_or (is_outside buffers) r false
+
+-- whether two ranges share a byte
+abbrev pub meets : Range → Range → Bool
+meets r s =
+    (r.buffer == s.buffer && (nat_lt r.from (s.from + s.size) && nat_lt s.from (r.from + r.size)))
+    && (nat_lt 0 r.size && nat_lt 0 s.size)
+
+-- how many primitives a geometry has
+abbrev pub count_of : Geometry → ℕ
+count_of (geometries.Triangles opaque format vertex stride max_vertex index transform count primitive_offset first_vertex transform_offset) = count
+count_of (geometries.Boxes opaque content stride count primitive_offset) = count
+count_of (geometries.Instances content count primitive_offset) = count
+
+-- how many primitives geometries have together
+abbrev pub primitives : List Geometry → ℕ
+primitives gs = sum_by count_of gs
+
+-- the indices of so many triangles
+abbrev pub index_range : Index → ℕ → ℕ → Range
+index_range index primitive_offset count =
+    range index.buffer (index.offset + primitive_offset) (3 * count * index.index_size)
+
+-- the transform of a geometry: three rows of four numbers
+abbrev pub transform_range : ℕ → Spot → Range
+transform_range transform_offset spot = range spot.buffer (spot.offset + transform_offset) 48
+
+-- one vertex, counted from the place of the vertices
+abbrev pub vertex_range : Spot → ℕ → Format → ℕ → Range
+vertex_range vertex stride format number = range vertex.buffer (vertex.offset + number * stride) (vertex_size format)
+
+-- the vertices of so many triangles without indices: from the first byte of the first to the last
+-- byte of the last
+abbrev pub vertices_range : Spot → ℕ → Format → ℕ → ℕ → ℕ → Range
+vertices_range vertex stride format primitive_offset first_vertex count =
+    range vertex.buffer (vertex.offset + primitive_offset + first_vertex * stride)
+    ((3 * count - 1) * stride + vertex_size format)
+
+-- a range, cut at the end of its buffer
+abbrev pub cut : Ids LiveBuffer → Range → Range
+cut buffers r = record r { size = min r.size (size_at buffers r.buffer - r.from) }
+
+-- the vertices that indices may name: from number `first_vertex` to the end of number
+-- `first_vertex + max_vertex`, cut at the end of the buffer
+abbrev pub indexed_range : Ids LiveBuffer → Spot → ℕ → Format → ℕ → ℕ → Range
+indexed_range buffers vertex stride format first_vertex max_vertex =
+    cut buffers (range vertex.buffer (vertex.offset + first_vertex * stride) (max_vertex * stride + vertex_size format))
+
+-- the boxes of a geometry: from the first byte of the first to the last byte of the last
+abbrev pub boxes_range : Spot → ℕ → ℕ → ℕ → Range
+boxes_range content stride count primitive_offset =
+    range content.buffer (content.offset + primitive_offset) ((count - 1) * stride + 24)
+
+-- the instances of a geometry
+abbrev pub instances_range : Spot → ℕ → ℕ → Range
+instances_range content count primitive_offset =
+    range content.buffer (content.offset + primitive_offset) (64 * count)
+
+-- the vertices that triangles read, with or without indices
+abbrev pub vertices_read : Ids LiveBuffer → Spot → ℕ → Format → ℕ → Option Index → ℕ → ℕ → ℕ → Range
+vertices_read buffers vertex stride format max_vertex None count primitive_offset first_vertex =
+    vertices_range vertex stride format primitive_offset first_vertex count
+vertices_read buffers vertex stride format max_vertex (Some index) count primitive_offset first_vertex =
+    indexed_range buffers vertex stride format first_vertex max_vertex
+
+-- the vertices that have to be there: all that are read without indices, and with indices the
+-- greatest that an index may name
+abbrev pub vertices_needed : Spot → ℕ → Format → ℕ → Option Index → ℕ → ℕ → ℕ → Range
+vertices_needed vertex stride format max_vertex None count primitive_offset first_vertex =
+    vertices_range vertex stride format primitive_offset first_vertex count
+vertices_needed vertex stride format max_vertex (Some index) count primitive_offset first_vertex =
+    vertex_range vertex stride format max_vertex
+
+-- what a geometry reads: vertices, boxes or instances; indices; the transform. A geometry of no
+-- primitives reads nothing
+unfoldable pub inputs_read : Ids LiveBuffer → Geometry → List (Option Range)
+inputs_read buffers (geometries.Triangles opaque format vertex stride max_vertex index transform count primitive_offset first_vertex transform_offset) =
+    if count == 0 then None ∷ None ∷ None ∷ [] else
+    Some (vertices_read buffers vertex stride format max_vertex index count primitive_offset first_vertex)
+    ∷ option_map (λ x. index_range x primitive_offset count) index
+    ∷ option_map (transform_range transform_offset) transform
+    ∷ []
+inputs_read buffers (geometries.Boxes opaque content stride count primitive_offset) =
+    (if count == 0 then None else Some (boxes_range content stride count primitive_offset)) ∷ None ∷ None ∷ []
+inputs_read buffers (geometries.Instances content count primitive_offset) =
+    (if count == 0 then None else Some (instances_range content count primitive_offset)) ∷ None ∷ None ∷ []
+
+-- what has to be there of what a geometry reads
+unfoldable pub inputs_needed : Geometry → List (Option Range)
+inputs_needed (geometries.Triangles opaque format vertex stride max_vertex index transform count primitive_offset first_vertex transform_offset) =
+    if count == 0 then None ∷ None ∷ None ∷ [] else
+    Some (vertices_needed vertex stride format max_vertex index count primitive_offset first_vertex)
+    ∷ option_map (λ x. index_range x primitive_offset count) index
+    ∷ option_map (transform_range transform_offset) transform
+    ∷ []
+inputs_needed (geometries.Boxes opaque content stride count primitive_offset) =
+    (if count == 0 then None else Some (boxes_range content stride count primitive_offset)) ∷ None ∷ None ∷ []
+inputs_needed (geometries.Instances content count primitive_offset) =
+    (if count == 0 then None else Some (instances_range content count primitive_offset)) ∷ None ∷ None ∷ []
+
+-- the scratch memory that a build or an update of so many primitives takes
+abbrev pub scratch_size : BuildMode → ℕ → ℕ
+scratch_size modes.Build n = build_scratch_size n
+scratch_size modes.Update n = update_scratch_size n
+
+-- the scratch memory of an info
+abbrev pub scratch_range : Info → Range
+scratch_range info = range info.scratch.buffer info.scratch.offset (scratch_size info.mode (primitives info.geometries))
