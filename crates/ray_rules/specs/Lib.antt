@@ -1,9 +1,13 @@
 pub mod Buffers
+pub mod Conflicts
+pub mod FlagRules
 pub mod Ids
 pub mod Names
 pub mod Origins
+pub mod Phases
 pub mod Places
 pub mod Ranges
+pub mod Refusals
 pub mod Shapes
 pub mod Sources
 pub mod Spans
