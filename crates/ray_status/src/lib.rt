@@ -1,0 +1,18 @@
+//! The static state of a recording in code: what the commands before a command leave, as far as
+//! rules speak of it, and what structures were built by.
+//!
+//! [`Status`] is seen by contracts as the `Status` of ray_rules, and [`Status::step`] goes from a
+//! command to the next as `after` says. The checkers of the static rules and of the order go over a
+//! recording with it.
+//!
+//! It stands on ray_rules (the definitions) and ray_cmd (the commands).
+#![tactic(auto)]
+
+mod origins;
+mod ranges;
+mod status;
+mod step;
+
+pub use crate::origins::{info_of, is_deserialized, uses_of};
+pub use crate::ranges::{meets, structure_range};
+pub use crate::status::Status;
