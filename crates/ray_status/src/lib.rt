@@ -8,11 +8,13 @@
 //! It stands on ray_rules (the definitions) and ray_cmd (the commands).
 #![tactic(auto)]
 
+mod inputs;
 mod origins;
 mod ranges;
 mod status;
 mod step;
 
+pub use crate::inputs::{count_of, inputs_needed, primitives, range};
 pub use crate::origins::{info_of, is_deserialized, uses_of};
 pub use crate::ranges::{meets, structure_range};
 pub use crate::status::Status;

@@ -1,0 +1,204 @@
+ghost use Rattle.std.specs.Prelude.{◌≡◌, ◌<◌, ◌^◌, ◌==◌, None, Some, if◌then◌else◌, option_map};
+ghost use Rattle.ray_rules.specs.Ranges.{boxes_range, count_of, index_range, inputs_needed, instances_range, primitives, range, transform_range, vertices_needed, vertices_range};
+
+use ray_bytes::Format;
+use ray_cmd::{Geometry, Index, Spot};
+use ray_rules::Range;
+
+/// So many bytes of a buffer from an offset on. Own.
+pub fn range(buffer: u32, from: u64, size: u128) -> Range
+    ensures { result ≡ range buffer from size }
+{
+    Range {
+        buffer,
+        from: u128::from(from),
+        size,
+    }
+}
+
+/// How many primitives a geometry has.
+pub fn count_of(geometry: &Geometry) -> u32
+    ensures { result ≡ count_of geometry.now }
+{
+    match geometry {
+        Geometry::Triangles { count, .. } => *count,
+        Geometry::Boxes { count, .. } => *count,
+        Geometry::Instances { count, .. } => *count,
+    }
+}
+
+/// How many primitives geometries have together.
+pub fn primitives(geometries: &[Geometry]) -> u128
+    ensures value { result ≡ primitives geometries.now }
+    ensures limit { result < 2 ^ 100 }
+{
+    let mut total = 0;
+    for geometry in geometries {
+        total += u128::from(count_of(geometry));
+    }
+    total
+}
+
+/// What has to be there of what a geometry reads: vertices, boxes or instances; indices; the
+/// transform. A geometry of no primitives needs nothing.
+#[tactic(auto, unfolding(ray_rules::specs::Ranges::inputs_needed))]
+pub fn inputs_needed(geometry: &Geometry) -> [Option<Range>; 3]
+    ensures { result ≡ inputs_needed geometry.now }
+{
+    match *geometry {
+        Geometry::Triangles {
+            format,
+            vertex,
+            stride,
+            max_vertex,
+            index,
+            transform,
+            count,
+            primitive_offset,
+            first_vertex,
+            transform_offset,
+            ..
+        } => {
+            if count == 0 {
+                return [None, None, None];
+            }
+            [
+                Some(vertices_needed(
+                    vertex,
+                    stride,
+                    format,
+                    max_vertex,
+                    index,
+                    count,
+                    primitive_offset,
+                    first_vertex,
+                )),
+                indices(index, primitive_offset, count),
+                transform_of(transform, transform_offset),
+            ]
+        }
+        Geometry::Boxes {
+            content,
+            stride,
+            count,
+            primitive_offset,
+            ..
+        } => [
+            boxes(content, stride, count, primitive_offset),
+            None,
+            None,
+        ],
+        Geometry::Instances {
+            content,
+            count,
+            primitive_offset,
+        } => [instances(content, count, primitive_offset), None, None],
+    }
+}
+
+// The boxes of a geometry, where it has any.
+fn boxes(content: Spot, stride: u32, count: u32, primitive_offset: u32) -> Option<Range>
+    ensures { result ≡ (if count == 0 then None else Some (boxes_range content stride count primitive_offset)) }
+{
+    if count == 0 {
+        return None;
+    }
+    Some(Range {
+        buffer: content.buffer,
+        from: u128::from(content.offset) + u128::from(primitive_offset),
+        size: u128::from(count - 1) * u128::from(stride) + 24,
+    })
+}
+
+// The instances of a geometry, where it has any.
+fn instances(content: Spot, count: u32, primitive_offset: u32) -> Option<Range>
+    ensures { result ≡ (if count == 0 then None else Some (instances_range content count primitive_offset)) }
+{
+    if count == 0 {
+        return None;
+    }
+    Some(Range {
+        buffer: content.buffer,
+        from: u128::from(content.offset) + u128::from(primitive_offset),
+        size: 64 * u128::from(count),
+    })
+}
+
+// The indices of so many triangles, where there are any.
+fn indices(index: Option<Index>, primitive_offset: u32, count: u32) -> Option<Range>
+    ensures { result ≡ option_map (λ x. index_range x primitive_offset count) index }
+{
+    match index {
+        Some(index) => Some(Range {
+            buffer: index.buffer,
+            from: u128::from(index.offset) + u128::from(primitive_offset),
+            size: 3 * u128::from(count) * u128::from(index.index_size),
+        }),
+        None => None,
+    }
+}
+
+// The transform of a geometry, where it has one.
+fn transform_of(transform: Option<Spot>, transform_offset: u32) -> Option<Range>
+    ensures { result ≡ option_map (transform_range transform_offset) transform }
+{
+    match transform {
+        Some(spot) => Some(Range {
+            buffer: spot.buffer,
+            from: u128::from(spot.offset) + u128::from(transform_offset),
+            size: 48,
+        }),
+        None => None,
+    }
+}
+
+// The vertices that have to be there.
+fn vertices_needed(
+    vertex: Spot,
+    stride: u32,
+    format: Format,
+    max_vertex: u32,
+    index: Option<Index>,
+    count: u32,
+    primitive_offset: u32,
+    first_vertex: u32,
+) -> Range
+    ensures { result ≡ vertices_needed vertex stride format max_vertex index count primitive_offset first_vertex }
+{
+    match index {
+        Some(_) => Range {
+            buffer: vertex.buffer,
+            from: u128::from(vertex.offset) + u128::from(max_vertex) * u128::from(stride),
+            size: u128::from(format.size()),
+        },
+        None => vertices(
+            vertex,
+            stride,
+            format,
+            primitive_offset,
+            first_vertex,
+            count,
+        ),
+    }
+}
+
+// The vertices of so many triangles without indices.
+fn vertices(
+    vertex: Spot,
+    stride: u32,
+    format: Format,
+    primitive_offset: u32,
+    first_vertex: u32,
+    count: u32,
+) -> Range
+    ensures { result ≡ vertices_range vertex stride format primitive_offset first_vertex count }
+{
+    let stride = u128::from(stride);
+    Range {
+        buffer: vertex.buffer,
+        from: u128::from(vertex.offset)
+            + u128::from(primitive_offset)
+            + u128::from(first_vertex) * stride,
+        size: (3 * u128::from(count)).saturating_sub(1) * stride + u128::from(format.size()),
+    }
+}
