@@ -11,10 +11,12 @@
 mod inputs;
 mod origins;
 mod ranges;
+mod sizes;
 mod status;
 mod step;
 
 pub use crate::inputs::{count_of, inputs_needed, primitives, range};
 pub use crate::origins::{info_of, is_deserialized, uses_of};
 pub use crate::ranges::{meets, structure_range};
+pub use crate::sizes::{scratch_range, structure_size};
 pub use crate::status::Status;

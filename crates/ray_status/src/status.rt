@@ -2,6 +2,7 @@ ghost use Rattle.std.specs.Prelude.{◌≡◌, ◌+◌, ◌≤◌, false, None, 
 ghost use Rattle.ray_cmd.specs.declared.thing.Thing.TheVariants.{Buffer};
 ghost use Rattle.ray_rules.specs.Buffers.{holds_structure};
 ghost use Rattle.ray_rules.specs.Ids.{look};
+ghost use Rattle.ray_rules.specs.Ranges.{is_outside, size_at};
 ghost use Rattle.ray_rules.specs.Status.{at_first, built_at, fill_in, in_phase, live_bytes, submitted, waited, with_buffer, with_structure, without_thing};
 ghost use Rattle.ray_rules.specs.Structures.{overlaps_structure, structure_range};
 
@@ -60,6 +61,24 @@ impl Status {
         ensures { result ≡ look self.now.buffers id }
     {
         self.buffers.get(&id).copied()
+    }
+
+    /// Whether a range isn't whole within its buffer. A buffer that isn't live has no bytes.
+    pub fn is_outside(&self, range: Range) -> bool
+        ensures { result ≡ is_outside self.now.buffers range }
+    {
+        let size = self.size_of_buffer(range.buffer);
+        size < range.size || size - range.size < range.from
+    }
+
+    // How many bytes a buffer has: none where it isn't live.
+    fn size_of_buffer(&self, id: u32) -> u128
+        ensures { result ≡ size_at self.now.buffers id }
+    {
+        match self.buffer(id) {
+            Some(buffer) => u128::from(buffer.size),
+            None => 0,
+        }
     }
 
     /// The live structure of an id.
