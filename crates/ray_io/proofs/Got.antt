@@ -1,6 +1,6 @@
 -- What a source has given while it is read to its end.
 use Rattle.std.proofs.Common.{◌≡◌, ℕ, ◌+◌, ◌<◌, ◌≤◌, ◌↔◌, List, ◌++◌, length, take, drop, Option, Some, None, IfSome, ap, sym, ◌∙◌, arith, append_assoc, length-append, length-drop}
-use Rattle.std.proofs.lemmas.List.{take-append-drop, take_at, length-take-le}
+use Rattle.std.proofs.lemmas.List.{take-append-drop}
 use Rattle.std.proofs.lemmas.Option.{same_Some}
 use Rattle.std.proofs.Math.Seq.{drop-append_seam}
 use Rattle.ray_io.specs.Source.{GivesFirst}
@@ -17,19 +17,17 @@ abbrev pub HasGiven : Option (List ℕ) → Option (List ℕ) → List ℕ → T
 HasGiven start now got = IfSome start (λ bytes. Splits bytes now got)
 
 -- a read brings what it gave behind what was given before
-Splits-more : (bytes : List ℕ) (now next : Option (List ℕ)) (got : List ℕ) (count : ℕ) (old new : List ℕ) → Splits bytes now got → IfSome now (λ left. GivesFirst left next count old new) → Splits bytes next (got ++ take count new)
-Splits-more bytes now next got count old new had one =
-    let gave : GivesFirst had.rest next count old new = rw had.left at one in
-    let front : take count new ≡ take count had.rest = rw gave.given (take_at _ _ _ (length-take-le _ _ gave.within)) in
-    record {
+Splits-more : (bytes : List ℕ) (now next : Option (List ℕ)) (got : List ℕ) (count : ℕ) (into : List ℕ) → Splits bytes now got → IfSome now (λ left. GivesFirst left next count into) → Splits bytes next (got ++ take count into)
+Splits-more bytes now next got count into had one =
+    let gave : GivesFirst had.rest next count into = rw had.left at one in record {
       rest = drop count had.rest;
       left = gave.others;
-      whole = rw (front, append_assoc, take-append-drop) had.whole;
+      whole = rw (gave.given, append_assoc, take-append-drop) had.whole;
     }
 
-pub HasGiven-more : (start now next : Option (List ℕ)) (got : List ℕ) (count : ℕ) (old new : List ℕ) → HasGiven start now got → IfSome now (λ left. GivesFirst left next count old new) → HasGiven start next (got ++ take count new)
-HasGiven-more None now next got count old new had one = tt
-HasGiven-more (Some bytes) now next got count old new had one = Splits-more bytes now next got count old new had one
+pub HasGiven-more : (start now next : Option (List ℕ)) (got : List ℕ) (count : ℕ) (into : List ℕ) → HasGiven start now got → IfSome now (λ left. GivesFirst left next count into) → HasGiven start next (got ++ take count into)
+HasGiven-more None now next got count into had one = tt
+HasGiven-more (Some bytes) now next got count into had one = Splits-more bytes now next got count into had one
 
 -- wherever a source stands, having given no more than so many bytes, it has left all but those
 pub HasGiven-leaves : (start now : Option (List ℕ)) (got : List ℕ) (most : ℕ) → length got ≤ most → HasGiven start now got → IfSome start (λ bytes. LeavesAllBut most bytes now)

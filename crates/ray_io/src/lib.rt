@@ -29,6 +29,7 @@ pub use read_error::ReadError;
 pub use reading::read_all;
 pub use sink::Sink;
 pub use source::Source;
+pub use std::alloc::AllocError as NoMemory;
 pub use std_sink::StdSink;
 pub use std_source::StdSource;
 pub use write_fault::WriteFault;

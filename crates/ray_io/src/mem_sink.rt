@@ -8,7 +8,7 @@ ghost use Rattle.ray_io.specs.MemSink.{taken_count, after_write, after_failed_wr
 use crate::count::{counted_on, is_among};
 use crate::failed::Failed;
 use crate::sink::Sink;
-use std::alloc::{AllocError, Global};
+use std::alloc::{AllocError as NoMemory, Global};
 use std::marker::Model;
 
 /// Room in memory for `room` bytes, of which each write takes at most `piece`; the writes whose
@@ -46,7 +46,7 @@ impl Model for MemSink {
 impl MemSink {
     /// An empty sink, at which no write was made yet. All the memory that it will need is taken
     /// here; an error says that there was none.
-    pub fn new(alloc: Global, room: u32, piece: u32, fails: Vec<u32>) -> Result<MemSink, AllocError>
+    pub fn new(alloc: Global, room: u32, piece: u32, fails: Vec<u32>) -> Result<MemSink, NoMemory>
         ensures { IfOk result (λ s. s ≡ record {
           taken = [];
           room = room;

@@ -74,8 +74,7 @@ impl Source for MemSource {
         // What `Source` promises.
         ensures count { IfOk result (λ n. n ≤ length into.old) }
         ensures told { IfOk result (λ n. IfSome (Some self.old.left) (λ bytes.
-            GivesFirst bytes (Some self.new.left) n into.old into.new)) }
-        ensures rest { IfOk result (λ n. drop n into.new ≡ drop n into.old) }
+            GivesFirst bytes (Some self.new.left) n into.new)) }
         ensures end { IfOk result (λ n. IfSome (Some self.old.left) (λ bytes.
             0 < length into.old → (n ≡ 0) ↔ (bytes ≡ []))) }
         ensures failed { OnErr result (HasRisen self.old.faults self.new.faults) }

@@ -1,6 +1,6 @@
 //! What gives bytes.
 
-ghost use Rattle.std.specs.Prelude.{◌≡◌, ℕ, Option, ◌<◌, ◌≤◌, ◌↔◌, List, [], length, drop, IfOk, OnErr, IfSome, is_some};
+ghost use Rattle.std.specs.Prelude.{◌≡◌, ℕ, Option, ◌<◌, ◌≤◌, ◌↔◌, List, [], length, IfOk, OnErr, IfSome, is_some};
 ghost use Rattle.ray_io.specs.Faults.{HasRisen};
 ghost use Rattle.ray_io.specs.Source.{GivesFirst};
 
@@ -14,13 +14,12 @@ pub trait Source {
     /// How many reads have failed; it never falls.
     ghost faults: { Self → ℕ };
 
-    /// Reads once, and gives how many bytes now lie at the front of `into`. What lies in `into`
-    /// after an `Err` is left open.
+    /// Reads once, and gives how many bytes now lie at the front of `into`. What lies behind them,
+    /// and all that lies in `into` after an `Err`, is left open.
     fn read(&mut self, into: &mut [u8]) -> Result<usize, Failed>
         ensures count { IfOk result (λ n. n ≤ length into.old) }
         ensures told { IfOk result (λ n. IfSome (left self.old) (λ bytes.
-            GivesFirst bytes (left self.new) n into.old into.new)) }
-        ensures rest { IfOk result (λ n. drop n into.new ≡ drop n into.old) }
+            GivesFirst bytes (left self.new) n into.new)) }
 
         // Nothing comes, where there was room, exactly where nothing is left.
         ensures end { IfOk result (λ n. IfSome (left self.old) (λ bytes.

@@ -33,7 +33,7 @@ fn a_file_takes_and_gives_bytes(rt: HostRuntime) -> Result<(), Fail> {
 }
 
 #[test]
-fn a_slice_longer_than_the_window_comes_whole(rt: HostRuntime) -> Result<(), Fail> {
+fn a_long_slice_comes_whole(rt: HostRuntime) -> Result<(), Fail> {
     let long = vec![in rt.alloc(); 7; 20000]?;
     let mut source = StdSource::new(long.as_slice());
     let all = read_all(rt.alloc(), &mut source, 20000)?;
