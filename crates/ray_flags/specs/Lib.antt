@@ -1,2 +1,4 @@
+pub mod Flags
 pub mod Words
+pub mod Constants
 pub mod Admission

@@ -1,6 +1,7 @@
 ghost use Rattle.std.specs.Prelude.{ℕ, ⊤, ◌≡◌, ◌↔◌, Some, Contains, option_map, refl};
 ghost use Rattle.bitflags.specs.Sets.{find_name};
 ghost use Rattle.ray_flags.specs.Words.{access_words};
+ghost use Rattle.ray_flags.specs.Constants.{access_constants};
 
 use crate::words::{Words, flag_list};
 use bitflags::{Flag, Flags};
@@ -48,6 +49,9 @@ impl Access {
         ensures found { option_map (λ f. f.0) result ≡ find_name access_words word.now }
         ensures row { (bits : ℕ)
             → (option_map (λ f. f.0) result ≡ Some bits) ↔ Contains access_words (word.now, bits) }
+
+        // Each constant is the flag of its word.
+        ensures constants { access_words ≡ access_constants }
     {
         Access::of_word(word)
     }

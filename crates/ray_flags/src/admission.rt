@@ -9,7 +9,6 @@ use bitflags::Flags;
 /// Whether a primitive counts as opaque: as its geometry does, overridden by the force bits of its
 /// instance, overridden by the ray's `opaque` or `no_opaque`. (Vulkan, "Ray Traversal": ray
 /// opacity; VK_KHR_ray_query.)
-#[tactic(auto, unfolding(crate::specs::Words::has))]
 pub fn effective(opaque: bool, instance: InstanceFlags, ray: RayFlags) -> bool
     requires instance_agrees { ¬ ForcesBoth instance }
     requires ray_agrees { ¬ AsksBoth ray }
@@ -51,7 +50,6 @@ fn override_by(base: bool, on: bool, off: bool) -> bool
 }
 
 // Whether the ray skips primitives of this kind.
-#[tactic(auto, unfolding(crate::specs::Words::has))]
 fn skipped(kind: Kind, ray: RayFlags) -> bool
     ensures { result ≡ is_skipped kind ray }
 {
@@ -62,7 +60,6 @@ fn skipped(kind: Kind, ray: RayFlags) -> bool
 }
 
 // Whether the ray culls primitives of this opacity.
-#[tactic(auto, unfolding(crate::specs::Words::has))]
 fn culled_by_opacity(opaque: bool, ray: RayFlags) -> bool
     ensures { result ≡ is_culled_by_opacity opaque ray }
 {
@@ -74,7 +71,6 @@ fn culled_by_opacity(opaque: bool, ray: RayFlags) -> bool
 }
 
 // Whether the ray culls a primitive for the face that it shows.
-#[tactic(auto, unfolding(crate::specs::Words::has))]
 fn culled_by_face(kind: Kind, front: bool, instance: InstanceFlags, ray: RayFlags) -> bool
     ensures { result ≡ is_culled_by_face kind front instance ray }
 {
@@ -89,7 +85,6 @@ fn culled_by_face(kind: Kind, front: bool, instance: InstanceFlags, ray: RayFlag
 }
 
 // Whether the ray culls triangles that show their front, or their back.
-#[tactic(auto, unfolding(crate::specs::Words::has))]
 fn face_culled(front: bool, ray: RayFlags) -> bool
     ensures { result ≡ culls_face front ray }
 {

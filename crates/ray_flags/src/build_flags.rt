@@ -1,6 +1,7 @@
 ghost use Rattle.std.specs.Prelude.{ℕ, ⊤, ◌≡◌, ◌↔◌, Some, Contains, option_map, refl};
 ghost use Rattle.bitflags.specs.Sets.{find_name};
 ghost use Rattle.ray_flags.specs.Words.{build_words};
+ghost use Rattle.ray_flags.specs.Constants.{build_constants};
 
 use crate::words::{Words, flag_list};
 use bitflags::{Flag, Flags};
@@ -31,6 +32,9 @@ impl BuildFlags {
         ensures found { option_map (λ f. f.0) result ≡ find_name build_words word.now }
         ensures row { (bits : ℕ)
             → (option_map (λ f. f.0) result ≡ Some bits) ↔ Contains build_words (word.now, bits) }
+
+        // Each constant is the flag of its word.
+        ensures constants { build_words ≡ build_constants }
     {
         BuildFlags::of_word(word)
     }

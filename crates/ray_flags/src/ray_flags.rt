@@ -1,6 +1,7 @@
 ghost use Rattle.std.specs.Prelude.{ℕ, ⊤, ◌≡◌, ◌↔◌, Some, Contains, option_map, refl};
 ghost use Rattle.bitflags.specs.Sets.{find_name};
 ghost use Rattle.ray_flags.specs.Words.{ray_words};
+ghost use Rattle.ray_flags.specs.Constants.{ray_constants};
 
 use crate::words::{Words, flag_list};
 use bitflags::{Flag, Flags};
@@ -46,6 +47,9 @@ impl RayFlags {
         ensures found { option_map (λ f. f.0) result ≡ find_name ray_words word.now }
         ensures row { (bits : ℕ)
             → (option_map (λ f. f.0) result ≡ Some bits) ↔ Contains ray_words (word.now, bits) }
+
+        // Each constant is the flag of its word.
+        ensures constants { ray_words ≡ ray_constants }
     {
         RayFlags::of_word(word)
     }

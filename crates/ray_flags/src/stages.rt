@@ -1,6 +1,7 @@
 ghost use Rattle.std.specs.Prelude.{ℕ, ⊤, ◌≡◌, ◌↔◌, Some, Contains, option_map, refl};
 ghost use Rattle.bitflags.specs.Sets.{find_name};
 ghost use Rattle.ray_flags.specs.Words.{stage_words};
+ghost use Rattle.ray_flags.specs.Constants.{stage_constants};
 
 use crate::words::{Words, flag_list};
 use bitflags::{Flag, Flags};
@@ -32,6 +33,9 @@ impl Stages {
         ensures found { option_map (λ f. f.0) result ≡ find_name stage_words word.now }
         ensures row { (bits : ℕ)
             → (option_map (λ f. f.0) result ≡ Some bits) ↔ Contains stage_words (word.now, bits) }
+
+        // Each constant is the flag of its word.
+        ensures constants { stage_words ≡ stage_constants }
     {
         Stages::of_word(word)
     }

@@ -87,59 +87,7 @@ fn reads_words(rt: HostRuntime) {
     }
 }
 
-// Each flag by its name, and its bits.
-const NAMES: [(u32, u32); 40] = [
-    (Usage::INPUT.0, 1),
-    (Usage::STORAGE.0, 2),
-    (Usage::TRANSFER_SRC.0, 4),
-    (Usage::TRANSFER_DST.0, 8),
-    (Usage::SCRATCH.0, 16),
-    (Usage::STRUCTURE.0, 32),
-    (BuildFlags::ALLOW_UPDATE.0, 1),
-    (BuildFlags::ALLOW_COMPACTION.0, 2),
-    (BuildFlags::PREFER_FAST_TRACE.0, 4),
-    (BuildFlags::PREFER_FAST_BUILD.0, 8),
-    (BuildFlags::LOW_MEMORY.0, 16),
-    (RayFlags::OPAQUE.0, 1),
-    (RayFlags::NO_OPAQUE.0, 2),
-    (RayFlags::TERMINATE_ON_FIRST_HIT.0, 4),
-    (RayFlags::SKIP_CLOSEST_HIT_SHADER.0, 8),
-    (RayFlags::CULL_BACK_FACING.0, 16),
-    (RayFlags::CULL_FRONT_FACING.0, 32),
-    (RayFlags::CULL_OPAQUE.0, 64),
-    (RayFlags::CULL_NO_OPAQUE.0, 128),
-    (RayFlags::SKIP_TRIANGLES.0, 256),
-    (RayFlags::SKIP_AABBS.0, 512),
-    (Stages::TRANSFER.0, 1),
-    (Stages::BUILD.0, 2),
-    (Stages::COMPUTE.0, 4),
-    (Stages::HOST.0, 8),
-    (Stages::ALL.0, 7),
-    (Access::TRANSFER_READ.0, 1),
-    (Access::TRANSFER_WRITE.0, 2),
-    (Access::SHADER_READ.0, 4),
-    (Access::SHADER_WRITE.0, 8),
-    (Access::STRUCTURE_READ.0, 16),
-    (Access::STRUCTURE_WRITE.0, 32),
-    (Access::HOST_READ.0, 64),
-    (Access::HOST_WRITE.0, 128),
-    (Access::MEMORY_READ.0, 256),
-    (Access::MEMORY_WRITE.0, 512),
-    (InstanceFlags::TRIANGLE_FACING_CULL_DISABLE.0 as u32, 1),
-    (InstanceFlags::TRIANGLE_FLIP_FACING.0 as u32, 2),
-    (InstanceFlags::FORCE_OPAQUE.0 as u32, 4),
-    (InstanceFlags::FORCE_NO_OPAQUE.0 as u32, 8),
-];
-
-#[test]
-fn names_bits(rt: HostRuntime) {
-    for (row, (flag, want)) in NAMES.iter().enumerate() {
-        assert_eq!(rt; *flag, *want, "flag {row}");
-    }
-}
-
 // The opacity, where neither the instance nor the ray has both of its flags.
-#[tactic(auto, unfolding(crate::specs::Words::has))]
 fn opacity(opaque: bool, instance: InstanceFlags, ray: RayFlags) -> Option<bool> {
     let forces_both = instance.contains(InstanceFlags::FORCE_OPAQUE)
         && instance.contains(InstanceFlags::FORCE_NO_OPAQUE);

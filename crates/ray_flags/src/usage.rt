@@ -1,6 +1,7 @@
 ghost use Rattle.std.specs.Prelude.{ℕ, ⊤, ◌≡◌, ◌↔◌, Some, Contains, option_map, refl};
 ghost use Rattle.bitflags.specs.Sets.{find_name};
 ghost use Rattle.ray_flags.specs.Words.{usage_words};
+ghost use Rattle.ray_flags.specs.Constants.{usage_constants};
 
 use crate::words::{Words, flag_list};
 use bitflags::{Flag, Flags};
@@ -36,6 +37,9 @@ impl Usage {
         ensures found { option_map (λ f. f.0) result ≡ find_name usage_words word.now }
         ensures row { (bits : ℕ)
             → (option_map (λ f. f.0) result ≡ Some bits) ↔ Contains usage_words (word.now, bits) }
+
+        // Each constant is the flag of its word.
+        ensures constants { usage_words ≡ usage_constants }
     {
         Usage::of_word(word)
     }
