@@ -1,0 +1,6 @@
+pub mod Shared
+pub mod Searches
+pub mod Ordered
+pub mod Changed
+pub mod Queries
+pub mod Firsts
