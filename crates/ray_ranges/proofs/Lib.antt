@@ -4,3 +4,5 @@ pub mod Ordered
 pub mod Changed
 pub mod Queries
 pub mod Firsts
+pub mod Lines
+pub mod Placing

@@ -1,3 +1,5 @@
 pub mod Meeting
 pub mod Apart
 pub mod First
+pub mod Places
+pub mod Addresses

@@ -68,6 +68,18 @@ impl DisjointRanges {
         Ok(())
     }
 
+    // Puts the numbers of a range that meets none into the set: none, where it is empty.
+    pub(crate) fn put(&mut self, range: Range) -> Result<(), AllocError>
+        requires { meets_any self.old range ≡ false }
+        ensures { OnOk result ((n : ℕ) → covers self.new n ≡ (has n range || covers self.old n)) }
+    {
+        if range.from < range.end {
+            self.add(range)
+        } else {
+            Ok(())
+        }
+    }
+
     // Puts the numbers of the range into the set: those ranges that it meets become one with it. After
     // an error some of these are gone.
     pub(crate) fn cover(&mut self, range: Range) -> Result<(), AllocError>

@@ -21,7 +21,7 @@ pub fn first_meeting(
         if taken.meets(*range) {
             return Ok(Some(k));
         }
-        taken.cover(*range)?;
+        taken.put(*range)?;
     }
     Ok(None)
 }

@@ -17,7 +17,7 @@ returns-then-meets c =
 pub loop-k-preserved : goal.loop-k-preserved
 loop-k-preserved c = record {
   numbers = λ n.
-      c.in_ok-cover.ensures n
+      c.in_ok-put.ensures n
       ∙ (ap (λ b. has n (range_at c.args.ranges.now c.loop-k.k) || b) (c.loop-k.invariant.numbers n)
       ∙ covers_more_after c.args.others.now c.args.ranges.now c.loop-k.k n (record { from = 0; end = 0 }) (omega arith));
   none = λ j l. elim (cases_eq j c.loop-k.k) [
