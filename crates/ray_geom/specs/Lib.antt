@@ -17,3 +17,4 @@ pub mod Crossing
 pub mod ObjectRay
 pub mod BoxSpan
 pub mod Slabs
+pub mod Equality

@@ -1,5 +1,5 @@
 -- Rays and triangles as values, and the limits that they keep.
-use Rattle.std.specs.Prelude.{ℕ, pos, ◌≢◌, ◌≤◌, ◌^◌}
+use Rattle.std.specs.Prelude.{ℕ, pos, ◌≢◌, ◌≤◌, ◌^◌, List, [], ◌∷◌}
 use Rattle.ray_geom.specs.declared.vec3.Vec3.{Vec3}
 use Rattle.ray_geom.specs.Vector.{IsShort, vec3}
 
@@ -24,6 +24,10 @@ pub record TriValue : Type 0 where
 -- the triangle with these vertices
 abbrev pub tri_value : Vec3 → Vec3 → Vec3 → TriValue
 tri_value v0 v1 v2 = record { v0 = v0; v1 = v1; v2 = v2 }
+
+-- the vertices of a triangle, in order
+abbrev pub vertices_of : TriValue → List Vec3
+vertices_of tri = tri.v0 ∷ tri.v1 ∷ tri.v2 ∷ []
 
 -- the limits of a ray (own; that tmin is at most tmax is a rule of OpRayQueryInitializeKHR, in the
 -- Vulkan specification's appendix "Vulkan Environment for SPIR-V")

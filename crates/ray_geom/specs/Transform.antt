@@ -30,6 +30,19 @@ matrix_of rows =
     matrix_value (row_at rows 0) (row_at rows 1) (row_at rows 2)
     (vec3 (entry_at rows 0 3) (entry_at rows 1 3) (entry_at rows 2 3))
 
+-- the table of twelve numbers, row by row (VkTransformMatrixKHR)
+abbrev pub table_of : List ℤ → List (List ℤ)
+table_of words =
+    let word : ℕ → ℤ = λ k. slice_index_or words k (pos 0) in
+    (word 0 ∷ word 1 ∷ word 2 ∷ word 3 ∷ []) ∷ (word 4 ∷ word 5 ∷ word 6 ∷ word 7 ∷ []) ∷
+    (word 8 ∷ word 9 ∷ word 10 ∷ word 11 ∷ []) ∷ []
+
+-- the transform that maps each point to itself
+abbrev pub identity_value : MatrixValue
+identity_value =
+    matrix_value (vec3 (pos 1) (pos 0) (pos 0)) (vec3 (pos 0) (pos 1) (pos 0)) (vec3 (pos 0) (pos 0) (pos 1))
+    (vec3 (pos 0) (pos 0) (pos 0))
+
 -- a row of a table: three numbers and one more
 abbrev pub row_of : Vec3 → ℤ → List ℤ
 row_of v last = v.x ∷ v.y ∷ v.z ∷ last ∷ []

@@ -1,5 +1,5 @@
 -- Points and directions with whole coordinates, and what is computed of them.
-use Rattle.std.specs.Prelude.{ℕ, ℤ, pos, neg_ℤ, ◌+ℤ◌, ◌-ℤ◌, ◌*ℤ◌, ◌≤ℤ◌}
+use Rattle.std.specs.Prelude.{ℕ, ℤ, pos, neg_ℤ, ◌+ℤ◌, ◌-ℤ◌, ◌*ℤ◌, ◌≤ℤ◌, List, slice_index_or}
 use Rattle.std.specs.Ordering.{int_cmp, ordering_then}
 use Rattle.std.specs.declared.cmp.Ordering.{Ordering}
 use Rattle.ray_geom.specs.declared.vec3.Vec3.{Vec3}
@@ -18,6 +18,11 @@ pub record IsShort (m : ℕ) (v : Vec3) : Type 0 where
 -- the point with these coordinates
 abbrev pub vec3 : ℤ → ℤ → ℤ → Vec3
 vec3 x y z = record { x = x; y = y; z = z }
+
+-- the point of three numbers in a row, as those of a record (own)
+abbrev pub point_of : List ℤ → Vec3
+point_of words =
+    vec3 (slice_index_or words 0 (pos 0)) (slice_index_or words 1 (pos 0)) (slice_index_or words 2 (pos 0))
 
 -- the way from b to a
 abbrev pub minus_of : Vec3 → Vec3 → Vec3

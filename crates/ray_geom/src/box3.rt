@@ -1,4 +1,5 @@
-ghost use Rattle.std.specs.Prelude.{◌≡◌, ◌≤ℤ◌, ◌↔◌, IsTrue, SomeIff};
+ghost use Rattle.std.specs.Prelude.{◌≡◌, ◌≤ℤ◌, ◌^◌, ◌↔◌, IsTrue, SomeIff};
+ghost use Rattle.ray_geom.specs.Vector.{IsShort};
 ghost use Rattle.ray_geom.specs.Boxes.{IsBox, box_value};
 
 use crate::vec3::{Vec3, is_short};
@@ -39,17 +40,39 @@ impl Box3 {
 
     /// The least corner, as `new` was given it.
     pub fn lo(&self) -> Vec3
-        ensures { result ≡ self.now.lo }
+        ensures value { result ≡ self.now.lo }
+        ensures short { IsShort (2 ^ 19) result }
+        ensures limits { IsBox self.now }
     {
         self.lo
     }
 
     /// The greatest corner, as `new` was given it.
     pub fn hi(&self) -> Vec3
-        ensures { result ≡ self.now.hi }
+        ensures value { result ≡ self.now.hi }
+        ensures short { IsShort (2 ^ 19) result }
+        ensures limits { IsBox self.now }
     {
         self.hi
     }
+}
+
+impl PartialEq for Box3 {
+    ghost use Rattle.ray_geom.specs.Equality.{box_eq, box_eq-laws};
+
+    ghost eq = { box_eq };
+
+    ghost laws = { box_eq-laws };
+
+    fn eq(&self, other: &Box3) -> bool {
+        self.lo == other.lo && self.hi == other.hi
+    }
+}
+
+impl Eq for Box3 {
+    ghost use Rattle.ray_geom.specs.Equality.{box_eq-equivalence};
+
+    ghost laws = { box_eq-equivalence };
 }
 
 // Whether no coordinate of lo is above that of hi.

@@ -1,4 +1,4 @@
-ghost use Rattle.std.specs.Prelude.{◌≡◌, ◌*◌, ◌≤◌, ◌↔◌, ℕ, IsSome, IfSome};
+ghost use Rattle.std.specs.Prelude.{◌≡◌, ◌*◌, ◌^◌, ◌≤◌, ◌↔◌, ℕ, IsSome, IfSome};
 ghost use Rattle.std.specs.Int.{IsGcd};
 ghost use Rattle.ray_geom.specs.Fraction.{IsFraction, IsLowest, IsSameValue};
 
@@ -40,6 +40,22 @@ impl Frac {
         } else {
             None
         }
+    }
+
+    /// The fraction 0, which is 0/1.
+    pub fn zero() -> Frac
+        ensures num { numerator result ≡ 0 }
+        ensures den { denominator result ≡ 1 }
+    {
+        Frac { num: 0, den: 1 }
+    }
+
+    /// The fraction `parts` / 65536, as the ends of a ray's interval are given.
+    pub fn part(parts: u64) -> Frac
+        requires { parts ≤ 2 ^ 40 }
+        ensures { IsSameValue (numerator result) (denominator result) parts 65536 }
+    {
+        Frac::new(parts, 65536).unwrap()
     }
 
     /// The numerator and the denominator in lowest terms.

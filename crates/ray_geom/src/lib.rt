@@ -56,4 +56,4 @@ pub use crate::span::Span;
 pub use crate::steps::Steps;
 pub use crate::tri::Tri;
 pub use crate::tri_hit::TriHit;
-pub use crate::vec3::Vec3;
+pub use crate::vec3::{Vec3, is_short};

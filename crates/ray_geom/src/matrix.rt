@@ -1,6 +1,6 @@
 ghost use Rattle.std.specs.Prelude.{◌≡◌, ◌≢◌, ◌*◌, ◌^◌, ◌+ℤ◌, pos, SomeIff};
 ghost use Rattle.ray_geom.specs.Vector.{IsWithin, IsShort, cross_of, dot_of};
-ghost use Rattle.ray_geom.specs.Transform.{IsMatrix, matrix_of, matrix_value, rows_of, det_of, image_of};
+ghost use Rattle.ray_geom.specs.Transform.{IsMatrix, matrix_of, matrix_value, rows_of, table_of, identity_value, det_of, image_of};
 
 use crate::vec3::{Vec3, cross, dot, is_short};
 use std::marker::Model;
@@ -60,10 +60,36 @@ impl Matrix {
         from_parts(a, b, c, t)
     }
 
+    /// The transform of the twelve numbers of a record, row by row, as `new` makes it.
+    pub fn from_words(words: [i32; 12]) -> Option<Matrix>
+        ensures { let m = matrix_of (table_of words) in SomeIff result (IsMatrix m) m }
+    {
+        let [ax, ay, az, tx, bx, by, bz, ty, cx, cy, cz, tz] = words;
+        from_parts(
+            Vec3::from_words([ax, ay, az]),
+            Vec3::from_words([bx, by, bz]),
+            Vec3::from_words([cx, cy, cz]),
+            Vec3::from_words([tx, ty, tz]),
+        )
+    }
+
+    /// The transform that leaves each point where it is.
+    pub fn identity() -> Matrix
+        ensures { result ≡ identity_value }
+    {
+        Matrix {
+            a: Vec3 { x: 1, y: 0, z: 0 },
+            b: Vec3 { x: 0, y: 1, z: 0 },
+            c: Vec3 { x: 0, y: 0, z: 1 },
+            t: Vec3 { x: 0, y: 0, z: 0 },
+        }
+    }
+
     /// The table that `new` was given.
     pub fn rows(&self) -> [[i64; 4]; 3]
         ensures table { result ≡ rows_of self.now }
         ensures matrix { matrix_of result ≡ self.now }
+        ensures limits { IsMatrix self.now }
     {
         let (a, b, c, t) = (self.a, self.b, self.c, self.t);
         [
@@ -98,6 +124,24 @@ impl Matrix {
             None
         }
     }
+}
+
+impl PartialEq for Matrix {
+    ghost use Rattle.ray_geom.specs.Equality.{matrix_eq, matrix_eq-laws};
+
+    ghost eq = { matrix_eq };
+
+    ghost laws = { matrix_eq-laws };
+
+    fn eq(&self, other: &Matrix) -> bool {
+        (self.a, self.b, self.c, self.t) == (other.a, other.b, other.c, other.t)
+    }
+}
+
+impl Eq for Matrix {
+    ghost use Rattle.ray_geom.specs.Equality.{matrix_eq-equivalence};
+
+    ghost laws = { matrix_eq-equivalence };
 }
 
 // The transform with these rows of M and this T, within the limits.

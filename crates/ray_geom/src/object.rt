@@ -1,6 +1,6 @@
 ghost use Rattle.std.specs.Prelude.{◌≡◌, ◌+◌, ◌^◌};
 ghost use Rattle.ray_geom.specs.Vector.{IsShort, minus_of};
-ghost use Rattle.ray_geom.specs.ObjectRay.{object_of, LeadsBack};
+ghost use Rattle.ray_geom.specs.ObjectRay.{IsObjectRay, object_of, LeadsBack};
 
 use crate::adjugate::Adjugate;
 use crate::matrix::Matrix;
@@ -34,35 +34,40 @@ impl Model for ObjectRay {
 impl ObjectRay {
     /// Where it begins, times `det`.
     pub fn origin(&self) -> Vec3
-        ensures { result ≡ self.now.origin }
+        ensures value { result ≡ self.now.origin }
+        ensures limits { IsObjectRay self.now }
     {
         self.origin
     }
 
     /// Its direction, times `det`.
     pub fn dir(&self) -> Vec3
-        ensures { result ≡ self.now.dir }
+        ensures value { result ≡ self.now.dir }
+        ensures limits { IsObjectRay self.now }
     {
         self.dir
     }
 
     /// The determinant of the instance's matrix.
     pub fn det(&self) -> i64
-        ensures { result ≡ self.now.det }
+        ensures value { result ≡ self.now.det }
+        ensures limits { IsObjectRay self.now }
     {
         self.det
     }
 
     /// The least distance, in 1/65536.
     pub fn tmin(&self) -> u64
-        ensures { result ≡ self.now.tmin }
+        ensures value { result ≡ self.now.tmin }
+        ensures limits { IsObjectRay self.now }
     {
         self.tmin
     }
 
     /// The greatest distance, in 1/65536.
     pub fn tmax(&self) -> u64
-        ensures { result ≡ self.now.tmax }
+        ensures value { result ≡ self.now.tmax }
+        ensures limits { IsObjectRay self.now }
     {
         self.tmax
     }

@@ -1,6 +1,9 @@
-ghost use Rattle.std.specs.Prelude.{SomeIff};
+ghost use Rattle.std.specs.Prelude.{◌≡◌, SomeIff};
+ghost use Rattle.ray_geom.specs.Fraction.{IsSameValue};
+ghost use Rattle.ray_geom.specs.Frac.{numerator, denominator};
 ghost use Rattle.ray_geom.specs.Scene.{IsRay, ray_value};
 
+use crate::frac::Frac;
 use crate::vec3::{Vec3, is_short};
 use std::marker::Model;
 
@@ -52,4 +55,71 @@ impl Ray {
             None
         }
     }
+
+    /// Where it begins.
+    pub fn origin(&self) -> Vec3
+        ensures value { result ≡ self.now.origin }
+        ensures limits { IsRay self.now }
+    {
+        self.origin
+    }
+
+    /// Its direction.
+    pub fn dir(&self) -> Vec3
+        ensures value { result ≡ self.now.dir }
+        ensures limits { IsRay self.now }
+    {
+        self.dir
+    }
+
+    /// The least distance, in 1/65536.
+    pub fn tmin(&self) -> u64
+        ensures value { result ≡ self.now.tmin }
+        ensures limits { IsRay self.now }
+    {
+        self.tmin
+    }
+
+    /// The greatest distance, in 1/65536.
+    pub fn tmax(&self) -> u64
+        ensures value { result ≡ self.now.tmax }
+        ensures limits { IsRay self.now }
+    {
+        self.tmax
+    }
+
+    /// The least distance as a fraction: tmin / 65536.
+    pub fn least(&self) -> Frac
+        ensures { IsSameValue (numerator result) (denominator result) self.now.tmin 65536 }
+    {
+        Frac::part(self.tmin)
+    }
+
+    /// The greatest distance as a fraction: tmax / 65536.
+    pub fn greatest(&self) -> Frac
+        ensures { IsSameValue (numerator result) (denominator result) self.now.tmax 65536 }
+    {
+        Frac::part(self.tmax)
+    }
+}
+
+impl PartialEq for Ray {
+    ghost use Rattle.ray_geom.specs.Equality.{ray_eq, ray_eq-laws};
+
+    ghost eq = { ray_eq };
+
+    ghost laws = { ray_eq-laws };
+
+    fn eq(&self, other: &Ray) -> bool {
+        self.origin == other.origin
+            && self.dir == other.dir
+            && self.tmin == other.tmin
+            && self.tmax == other.tmax
+    }
+}
+
+impl Eq for Ray {
+    ghost use Rattle.ray_geom.specs.Equality.{ray_eq-equivalence};
+
+    ghost laws = { ray_eq-equivalence };
 }

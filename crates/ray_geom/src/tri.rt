@@ -1,5 +1,5 @@
-ghost use Rattle.std.specs.Prelude.{SomeIff};
-ghost use Rattle.ray_geom.specs.Scene.{IsTri, tri_value};
+ghost use Rattle.std.specs.Prelude.{◌≡◌, SomeIff};
+ghost use Rattle.ray_geom.specs.Scene.{IsTri, tri_value, vertices_of};
 
 use crate::vec3::{Vec3, is_short};
 use std::marker::Model;
@@ -37,4 +37,30 @@ impl Tri {
             None
         }
     }
+
+    /// The vertices in order, as `new` was given them.
+    pub fn vertices(&self) -> [Vec3; 3]
+        ensures value { result ≡ vertices_of self.now }
+        ensures limits { IsTri self.now }
+    {
+        [self.v0, self.v1, self.v2]
+    }
+}
+
+impl PartialEq for Tri {
+    ghost use Rattle.ray_geom.specs.Equality.{tri_eq, tri_eq-laws};
+
+    ghost eq = { tri_eq };
+
+    ghost laws = { tri_eq-laws };
+
+    fn eq(&self, other: &Tri) -> bool {
+        self.v0 == other.v0 && (self.v1, self.v2) == (other.v1, other.v2)
+    }
+}
+
+impl Eq for Tri {
+    ghost use Rattle.ray_geom.specs.Equality.{tri_eq-equivalence};
+
+    ghost laws = { tri_eq-equivalence };
 }

@@ -1,5 +1,5 @@
 ghost use Rattle.std.specs.Prelude.{◌≡◌, ◌+◌, ◌*◌, ◌^◌, ◌↔◌, IsTrue};
-ghost use Rattle.ray_geom.specs.Vector.{IsWithin, IsShort, minus_of, minor_of, cross_of, dot_of};
+ghost use Rattle.ray_geom.specs.Vector.{IsWithin, IsShort, point_of, minus_of, minor_of, cross_of, dot_of};
 
 /// A point, or a direction, with whole coordinates. The derived order is the lexicographic one: by
 /// x, then by y, then by z. (Own.)
@@ -10,8 +10,22 @@ pub struct Vec3 {
     pub z: i64,
 }
 
-// Whether each coordinate is at most the limit in absolute value.
-pub(crate) fn is_short(v: Vec3, limit: u64) -> bool
+impl Vec3 {
+    /// The point of three numbers of a record.
+    pub fn from_words(words: [i32; 3]) -> Vec3
+        ensures { result ≡ point_of words }
+    {
+        let [x, y, z] = words;
+        Vec3 {
+            x: i64::from(x),
+            y: i64::from(y),
+            z: i64::from(z),
+        }
+    }
+}
+
+/// Whether each coordinate is at most the limit in absolute value.
+pub fn is_short(v: Vec3, limit: u64) -> bool
     ensures { IsTrue result ↔ IsShort limit v }
 {
     v.x.unsigned_abs() <= limit && v.y.unsigned_abs() <= limit && v.z.unsigned_abs() <= limit
