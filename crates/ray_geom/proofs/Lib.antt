@@ -14,3 +14,4 @@ pub mod Sizes
 pub mod ObjectRays
 pub mod Slabs
 pub mod Spans
+pub mod LeastBoxes

@@ -13,6 +13,7 @@ pub mod Decided
 pub mod HitValue
 pub mod Transform
 pub mod Boxes
+pub mod LeastBoxes
 pub mod Crossing
 pub mod ObjectRay
 pub mod BoxSpan

@@ -1,6 +1,6 @@
 ghost use Rattle.std.specs.Prelude.{◌≡◌, ◌≤ℤ◌, ◌^◌, ◌↔◌, IsTrue, SomeIff};
 ghost use Rattle.ray_geom.specs.Vector.{IsShort};
-ghost use Rattle.ray_geom.specs.Boxes.{IsBox, box_value};
+ghost use Rattle.ray_geom.specs.Boxes.{IsBox, IsBelow, IsIn, IsPart, box_value};
 
 use crate::vec3::{Vec3, is_short};
 use std::marker::Model;
@@ -47,6 +47,20 @@ impl Box3 {
         self.lo
     }
 
+    /// Whether a point is in the box, faces included.
+    pub fn contains(&self, v: Vec3) -> bool
+        ensures { IsTrue result ↔ IsIn v self.now }
+    {
+        is_below(self.lo, v) && is_below(v, self.hi)
+    }
+
+    /// Whether a box is in this one.
+    pub fn holds(&self, inner: &Box3) -> bool
+        ensures { IsTrue result ↔ IsPart inner.now self.now }
+    {
+        is_below(self.lo, inner.lo) && is_below(inner.hi, self.hi)
+    }
+
     /// The greatest corner, as `new` was given it.
     pub fn hi(&self) -> Vec3
         ensures value { result ≡ self.now.hi }
@@ -64,7 +78,10 @@ impl PartialEq for Box3 {
 
     ghost laws = { box_eq-laws };
 
-    fn eq(&self, other: &Box3) -> bool {
+    fn eq(&self, other: &Box3) -> bool
+        ensures value { result ≡ box_eq self.now other.now }
+        ensures same { IsTrue result ↔ (self.now ≡ other.now) }
+    {
         self.lo == other.lo && self.hi == other.hi
     }
 }
@@ -80,4 +97,11 @@ fn is_ordered(lo: Vec3, hi: Vec3) -> bool
     ensures { IsTrue result ↔ ((lo.x ≤ℤ hi.x) × (lo.y ≤ℤ hi.y) × (lo.z ≤ℤ hi.z)) }
 {
     lo.x <= hi.x && lo.y <= hi.y && lo.z <= hi.z
+}
+
+// Whether no coordinate of the first point is above that of the second.
+fn is_below(a: Vec3, b: Vec3) -> bool
+    ensures { IsTrue result ↔ IsBelow a b }
+{
+    is_ordered(a, b)
 }

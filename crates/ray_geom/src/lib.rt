@@ -21,11 +21,13 @@
 
 mod adjugate;
 mod box3;
+mod box_laws;
 mod box_span;
 mod count;
 mod edge;
 mod frac;
 mod hit;
+mod least_box;
 mod matrix;
 mod measured;
 mod object;
@@ -43,6 +45,7 @@ mod tri;
 mod tri_hit;
 mod vec3;
 
+pub use crate::box_laws::{part_law, union_law};
 pub use crate::box_span::span_box;
 pub use crate::box3::Box3;
 pub use crate::frac::Frac;

@@ -1,0 +1,8 @@
+use Rattle.ray_geom.proofs.LeastBoxes.{IsLeastOf-boxes}
+use Rattle.ray_geom.proofs.box3.Box3.of_boxes.Goals as goal
+
+pub returns-clause-least : goal.returns-clause-least
+returns-clause-least c = (IsLeastOf-boxes c.args.boxes.now c.joined_boxes.result c.joined_boxes.ensures).0
+
+pub returns-clause-none : goal.returns-clause-none
+returns-clause-none c = (IsLeastOf-boxes c.args.boxes.now c.joined_boxes.result c.joined_boxes.ensures).1

@@ -1,0 +1,8 @@
+use Rattle.ray_geom.proofs.LeastBoxes.{IsLeastOf-points}
+use Rattle.ray_geom.proofs.box3.Box3.of_points.Goals as goal
+
+pub returns-clause-least : goal.returns-clause-least
+returns-clause-least c = (IsLeastOf-points c.args.points.now c.joined_points.result c.joined_points.ensures).0
+
+pub returns-clause-none : goal.returns-clause-none
+returns-clause-none c = (IsLeastOf-points c.args.points.now c.joined_points.result c.joined_points.ensures).1
