@@ -13,5 +13,5 @@ pub mod HitValues
 pub mod Sizes
 pub mod ObjectRays
 pub mod Slabs
-pub mod Spans
+pub mod Reaches
 pub mod LeastBoxes

@@ -1,16 +1,15 @@
--- Which distances a slab holds, and what is left of a span that is narrowed to it.
-use Rattle.std.proofs.Common.{ℕ, ◌≡◌, ◌*◌, ◌^◌, ◌<◌, ◌≤◌, ap, ◌∙◌, refl, arith}
+-- Which distances a slab holds, and what is left of a reach that is narrowed to it.
+use Rattle.std.proofs.Common.{ℕ, ◌≡◌, ◌*◌, ◌^◌, ◌<◌, ◌≤◌, ap, ◌∙◌, refl, sym, subst, arith}
 use Rattle.std.specs.Prelude.{ℤ, pos, negsuc, neg_ℤ, ◌-ℤ◌, ◌*ℤ◌, ◌≤ℤ◌, ◌<ℤ◌, ◌↔◌, unsigned_abs}
 use Rattle.std.specs.Int.{w64}
 use Rattle.std.specs.Int.RustNames.{FitsSigned}
 use Rattle.std.proofs.lemmas.Int.{ints}
 use Rattle.std.proofs.Math.Nat.{mul-le-mul_right, le_of_mul-le-mul_right}
-use Rattle.ray_geom.specs.declared.frac.Frac.{Frac}
+use Rattle.ray_geom.specs.declared.ratio.Ratio.{Ratio}
 use Rattle.ray_geom.specs.declared.slab.Slab.{Slab}
-use Rattle.ray_geom.specs.declared.span.Span.{Span}
+use Rattle.ray_geom.specs.declared.reach.Reach.{Reach}
 use Rattle.ray_geom.specs.Vector.{IsWithin}
 use Rattle.ray_geom.specs.Fraction.{IsAtMost, IsSameValue}
-use Rattle.ray_geom.specs.Frac.{numerator, denominator}
 use Rattle.ray_geom.specs.BoxSpan.{near_end, far_end, IsBetween}
 use Rattle.ray_geom.specs.Slabs.{IsPast, IsBefore, IsInSlab, Narrows}
 use Rattle.ray_geom.proofs.Ring.{sub_ℤ-*ℤ}
@@ -92,7 +91,7 @@ IsBetween-rising near far o m first last size positive first_is last_is size_is 
           record { above = omega (arith, ints); below = omega (arith, ints) },
     )
 
--- "at most" is transitive, through a fraction whose denominator isn't 0
+-- "at most" is transitive, through a fraction whose isn.den't 0
 pub at_most_chain : (n d m e k l : ℕ) → 0 < e → IsAtMost n d m e → IsAtMost m e k l → IsAtMost n d k l
 at_most_chain n d m e k l e_positive p q =
     let first : n * e * l ≤ m * d * l = mul-le-mul_right {m = n * e} {n = m * d} l p in
@@ -128,70 +127,50 @@ IsBefore-at_most (pos far) size n d h = (
 )
 IsBefore-at_most (negsuc far) size n d h = absurd (omega (arith, ints))
 
-through : {P Q R : Type 0} → P ↔ Q → Q ↔ R → P ↔ R
-through p q = (λ h. q.0 (p.0 h), λ h. p.1 (q.1 h))
-
 beside : {P Q R S : Type 0} → P ↔ (Q × R) → R ↔ S → P ↔ (Q × S)
 beside p q = (λ h. ((p.0 h).0, q.0 (p.0 h).1), λ h. p.1 (h.0, q.1 h.1))
 
--- a fraction of the value near / size is at most n / d where n / d is past it
-pub IsPast-value : (f : Frac) (near : ℤ) (size n d : ℕ) → pos 0 <ℤ near → 0 < size →
-    IsSameValue (numerator f) (denominator f) (unsigned_abs near) size →
-    IsAtMost (numerator f) (denominator f) n d ↔ IsPast near size n d
-IsPast-value f near size n d positive size_positive same =
-    through (at_most_left f.num f.den (unsigned_abs near) size n d f.limits.den_positive size_positive same)
-    (IsPast-at_most near size n d positive)
-
-pub IsBefore-value : (f : Frac) (far : ℤ) (size n d : ℕ) → pos 0 ≤ℤ far → 0 < size →
-    IsSameValue (numerator f) (denominator f) (unsigned_abs far) size →
-    IsAtMost n d (numerator f) (denominator f) ↔ IsBefore far size n d
-IsBefore-value f far size n d positive size_positive same =
-    through (at_most_right f.num f.den (unsigned_abs far) size n d f.limits.den_positive size_positive same)
-    (IsBefore-at_most far size n d positive)
-
 -- the greater of two is at most what both are at most
-pub later_left : (a b : Frac) → IsAtMost a.num a.den b.num b.den → (n d : ℕ) →
+pub later_left : (a b : Ratio) → IsAtMost a.num a.den b.num b.den → (n d : ℕ) →
     IsAtMost b.num b.den n d ↔ (IsAtMost a.num a.den n d × IsAtMost b.num b.den n d)
 later_left a b le n d =
-    (λ h. (at_most_chain a.num a.den b.num b.den n d b.limits.den_positive le h, h), λ h. h.1)
+    (λ h. (at_most_chain a.num a.den b.num b.den n d b.positive le h, h), λ h. h.1)
 
-pub later_right : (a b : Frac) → IsAtMost b.num b.den a.num a.den → (n d : ℕ) →
+pub later_right : (a b : Ratio) → IsAtMost b.num b.den a.num a.den → (n d : ℕ) →
     IsAtMost a.num a.den n d ↔ (IsAtMost a.num a.den n d × IsAtMost b.num b.den n d)
 later_right a b le n d =
-    (λ h. (h, at_most_chain b.num b.den a.num a.den n d a.limits.den_positive le h), λ h. h.0)
+    (λ h. (h, at_most_chain b.num b.den a.num a.den n d a.positive le h), λ h. h.0)
 
 -- what is at most the lesser of two is at most both
-pub earlier_left : (a b : Frac) → IsAtMost a.num a.den b.num b.den → (n d : ℕ) →
+pub earlier_left : (a b : Ratio) → IsAtMost a.num a.den b.num b.den → (n d : ℕ) →
     IsAtMost n d a.num a.den ↔ (IsAtMost n d a.num a.den × IsAtMost n d b.num b.den)
 earlier_left a b le n d =
-    (λ h. (h, at_most_chain n d a.num a.den b.num b.den a.limits.den_positive h le), λ h. h.0)
+    (λ h. (h, at_most_chain n d a.num a.den b.num b.den a.positive h le), λ h. h.0)
 
-pub earlier_right : (a b : Frac) → IsAtMost b.num b.den a.num a.den → (n d : ℕ) →
+pub earlier_right : (a b : Ratio) → IsAtMost b.num b.den a.num a.den → (n d : ℕ) →
     IsAtMost n d b.num b.den ↔ (IsAtMost n d a.num a.den × IsAtMost n d b.num b.den)
 earlier_right a b le n d =
-    (λ h. (at_most_chain n d b.num b.den a.num a.den b.limits.den_positive h le, h), λ h. h.1)
+    (λ h. (at_most_chain n d b.num b.den a.num a.den b.positive h le, h), λ h. h.1)
 
 -- an end that is raised or lowered to that of a slab
-pub raised : (entry end f : Frac) (near : ℤ) (size : ℕ) → pos 0 <ℤ near → 0 < size →
-    IsSameValue (numerator end) (denominator end) (unsigned_abs near) size →
-    ((n d : ℕ) → 0 < d → IsAtMost f.num f.den n d ↔ (IsAtMost entry.num entry.den n d × IsAtMost end.num end.den n d)) →
+pub raised : (entry f : Ratio) (near : ℤ) (num size : ℕ) → pos 0 <ℤ near → num ≡ unsigned_abs near →
+    ((n d : ℕ) → 0 < d → IsAtMost f.num f.den n d ↔ (IsAtMost entry.num entry.den n d × IsAtMost num size n d)) →
     (n d : ℕ) → 0 < d → IsAtMost f.num f.den n d ↔ (IsAtMost entry.num entry.den n d × IsPast near size n d)
-raised entry end f near size positive size_positive same h n d d_positive =
-    beside (h n d d_positive) (IsPast-value end near size n d positive size_positive same)
+raised entry f near num size positive is h n d d_positive =
+    beside (h n d d_positive) (subst (λ x. IsAtMost x size n d ↔ IsPast near size n d) (sym is) (IsPast-at_most near size n d positive))
 
-pub lowered : (exit end f : Frac) (far : ℤ) (size : ℕ) → pos 0 ≤ℤ far → 0 < size →
-    IsSameValue (numerator end) (denominator end) (unsigned_abs far) size →
-    ((n d : ℕ) → 0 < d → IsAtMost n d f.num f.den ↔ (IsAtMost n d exit.num exit.den × IsAtMost n d end.num end.den)) →
+pub lowered : (exit f : Ratio) (far : ℤ) (num size : ℕ) → pos 0 ≤ℤ far → num ≡ unsigned_abs far →
+    ((n d : ℕ) → 0 < d → IsAtMost n d f.num f.den ↔ (IsAtMost n d exit.num exit.den × IsAtMost n d num size)) →
     (n d : ℕ) → 0 < d → IsAtMost n d f.num f.den ↔ (IsAtMost n d exit.num exit.den × IsBefore far size n d)
-lowered exit end f far size positive size_positive same h n d d_positive =
-    beside (h n d d_positive) (IsBefore-value end far size n d positive size_positive same)
+lowered exit f far num size positive is h n d d_positive =
+    beside (h n d d_positive) (subst (λ x. IsAtMost n d x size ↔ IsBefore far size n d) (sym is) (IsBefore-at_most far size n d positive))
 
--- a span whose two ends are narrowed
-pub Narrows-ends : (span : Span) (entry exit : Frac) (slab : Slab) →
-    ((n d : ℕ) → 0 < d → IsAtMost entry.num entry.den n d ↔ (IsAtMost span.entry.num span.entry.den n d × IsPast slab.near slab.size n d)) →
-    ((n d : ℕ) → 0 < d → IsAtMost n d exit.num exit.den ↔ (IsAtMost n d span.exit.num span.exit.den × IsBefore slab.far slab.size n d)) →
-    Narrows (IsInSlab slab) span record { entry = entry; exit = exit }
-Narrows-ends span entry exit slab p q n d d_positive = (
+-- a reach whose two ends are narrowed
+pub Narrows-ends : (reach : Reach) (entry exit : Ratio) (slab : Slab) →
+    ((n d : ℕ) → 0 < d → IsAtMost entry.num entry.den n d ↔ (IsAtMost reach.entry.num reach.entry.den n d × IsPast slab.near slab.size n d)) →
+    ((n d : ℕ) → 0 < d → IsAtMost n d exit.num exit.den ↔ (IsAtMost n d reach.exit.num reach.exit.den × IsBefore slab.far slab.size n d)) →
+    Narrows (IsInSlab slab) reach record { entry = entry; exit = exit }
+Narrows-ends reach entry exit slab p q n d d_positive = (
   λ h.
       let from = (p n d d_positive).0 h.from in
       let to = (q n d d_positive).0 h.to in

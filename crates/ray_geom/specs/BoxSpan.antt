@@ -1,7 +1,8 @@
 -- Where a ray is inside a box. A distance is n / d with 0 < d.
 use Rattle.std.specs.Prelude.{ℕ, ℤ, pos, negsuc, ◌*◌, ◌<◌, ◌≤◌, ◌+ℤ◌, ◌*ℤ◌, ◌≤ℤ◌}
+use Rattle.ray_geom.specs.declared.reach.Reach.{Reach}
 use Rattle.ray_geom.specs.declared.span.Span.{Span}
-use Rattle.ray_geom.specs.Fraction.{IsAtMost}
+use Rattle.ray_geom.specs.Fraction.{IsFraction, IsAtMost}
 use Rattle.ray_geom.specs.Frac.{numerator, denominator}
 use Rattle.ray_geom.specs.Boxes.{BoxValue}
 use Rattle.ray_geom.specs.ObjectRay.{ObjectRayValue}
@@ -34,6 +35,21 @@ pub record IsInside (object : ObjectRayValue) (box : BoxValue) (n d : ℕ) : Typ
   pub z : IsOnAxis object.det box.lo.z box.hi.z object.origin.z object.dir.z n d
   pub from : object.tmin * d ≤ 65536 * n
   pub to : 65536 * n ≤ object.tmax * d
+
+-- both ends of a reach are within the limits of a fraction (own)
+pub record AreFractions (reach : Reach) : Type 0 where
+  pub entry : IsFraction reach.entry.num reach.entry.den
+  pub exit : IsFraction reach.exit.num reach.exit.den
+
+-- the reach: its entry is the least distance that is inside, its exit the greatest, and each distance from
+-- the entry to the exit is inside (own)
+pub record IsReach (object : ObjectRayValue) (box : BoxValue) (reach : Reach) : Type 0 where
+  pub entry : IsInside object box reach.entry.num reach.entry.den
+  pub exit : IsInside object box reach.exit.num reach.exit.den
+  pub least : (n d : ℕ) → 0 < d → IsInside object box n d → IsAtMost reach.entry.num reach.entry.den n d
+  pub greatest : (n d : ℕ) → 0 < d → IsInside object box n d → IsAtMost n d reach.exit.num reach.exit.den
+  pub between : (n d : ℕ) → 0 < d → IsAtMost reach.entry.num reach.entry.den n d →
+      IsAtMost n d reach.exit.num reach.exit.den → IsInside object box n d
 
 -- the span: its entry is the least distance that is inside, and its exit the greatest (own)
 pub record IsSpan (object : ObjectRayValue) (box : BoxValue) (span : Span) : Type 0 where

@@ -39,7 +39,7 @@ same_value f g h =
     (same_den f.num f.den g.num g.den f.limits.den_positive g.limits.den_positive f.lowest g.lowest h)
 
 -- below is transitive
-below_chain : (n d m e k l : ℕ) → 0 < d → 0 < l → n * e < m * d → m * l < k * e → n * l < k * d
+pub below_chain : (n d m e k l : ℕ) → 0 < d → 0 < l → n * e < m * d → m * l < k * e → n * l < k * d
 below_chain n d m e k l d_positive l_positive p q =
     let first : n * e * l < m * d * l =
     mul-lt-mul_of_pos_right {m = n * e} {n = m * d} {k = l} p l_positive in

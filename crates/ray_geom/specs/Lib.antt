@@ -4,6 +4,8 @@ pub mod Fraction
 pub mod Frac
 pub mod Gauss
 pub mod FracLaws
+pub mod Ratio
+pub mod RatioLaws
 pub mod EdgeVolume
 pub mod EdgeSide
 pub mod TriangleHit

@@ -1,9 +1,17 @@
--- What the private calls of the box span give: which distances n / d they keep.
-use Rattle.std.specs.Prelude.{ℕ, ℤ, pos, ◌*◌, ◌^◌, ◌<◌, ◌↔◌, ◌*ℤ◌, ◌≤ℤ◌, unsigned_abs}
+-- What the private calls of the box reach give: which distances n / d they keep.
+use Rattle.std.specs.Prelude.{ℕ, ℤ, pos, ◌+◌, ◌*◌, ◌^◌, ◌<◌, ◌↔◌, ◌*ℤ◌, ◌≤ℤ◌, unsigned_abs}
 use Rattle.ray_geom.specs.declared.slab.Slab.{Slab}
-use Rattle.ray_geom.specs.declared.span.Span.{Span}
+use Rattle.ray_geom.specs.declared.reach.Reach.{Reach}
+use Rattle.ray_geom.specs.Vector.{IsWithin}
 use Rattle.ray_geom.specs.Fraction.{IsAtMost}
-use Rattle.ray_geom.specs.Frac.{numerator, denominator}
+
+-- how large the numbers of one axis are: the determinant, the box's two ends, and o and m
+pub record IsAxis (det lo hi o m : ℤ) : Type 0 where
+  pub det_short : IsWithin (6 * 2 ^ 36) det
+  pub lo_short : IsWithin (2 ^ 19) lo
+  pub hi_short : IsWithin (2 ^ 19) hi
+  pub o_short : IsWithin (3 * 2 ^ 25 * (2 ^ 19 + 2 ^ 20)) o
+  pub m_short : IsWithin (3 * 2 ^ 45) m
 
 -- n / d is at least near / size, where size isn't 0; where it is, near isn't above 0
 pub record IsPast (near : ℤ) (size n d : ℕ) : Type 0 where
@@ -25,13 +33,13 @@ pub record IsSlab (slab : Slab) : Type 0 where
   pub size_below : slab.size < 2 ^ 47
 
 -- n / d is from the entry to the exit
-pub record Covers (span : Span) (n d : ℕ) : Type 0 where
-  pub from : IsAtMost (numerator span.entry) (denominator span.entry) n d
-  pub to : IsAtMost n d (numerator span.exit) (denominator span.exit)
+pub record Covers (reach : Reach) (n d : ℕ) : Type 0 where
+  pub from : IsAtMost reach.entry.num reach.entry.den n d
+  pub to : IsAtMost n d reach.exit.num reach.exit.den
 
--- the second span covers what the first covers and P holds of
-abbrev pub Narrows : (ℕ → ℕ → Type 0) → Span → Span → Type 0
-Narrows P span narrower = (n d : ℕ) → 0 < d → Covers narrower n d ↔ (Covers span n d × P n d)
+-- the second reach covers what the first covers and P holds of
+abbrev pub Narrows : (ℕ → ℕ → Type 0) → Reach → Reach → Type 0
+Narrows P reach narrower = (n d : ℕ) → 0 < d → Covers narrower n d ↔ (Covers reach n d × P n d)
 
 -- P holds of no distance
 abbrev pub Never : (ℕ → ℕ → Type 0) → Type 0

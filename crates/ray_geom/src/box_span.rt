@@ -1,165 +1,25 @@
-ghost use Rattle.std.specs.Prelude.{◌≡◌, ℕ, ◌+◌, ◌*◌, ◌^◌, ◌<◌, ◌≤◌, ◌↔◌, IfSome, IfNone, unsigned_abs};
-ghost use Rattle.ray_geom.specs.Vector.{IsWithin};
-ghost use Rattle.ray_geom.specs.Fraction.{IsFraction, IsAtMost, IsSameValue};
-ghost use Rattle.ray_geom.specs.Frac.{numerator, denominator};
-ghost use Rattle.ray_geom.specs.BoxSpan.{near_end, far_end, IsBetween, IsOnAxis, IsInside, IsSpan};
-ghost use Rattle.ray_geom.specs.Slabs.{IsPast, IsBefore, IsInSlab, IsSlab, Covers, Narrows, Never};
+ghost use Rattle.std.specs.Prelude.{ℕ, ◌<◌, IfSome, IfNone};
+ghost use Rattle.ray_geom.specs.BoxSpan.{IsInside, IsSpan};
 
+use crate::box_reach::reach_box;
 use crate::box3::Box3;
-use crate::frac::Frac;
 use crate::object::ObjectRay;
-use crate::slab::Slab;
 use crate::span::Span;
 
 /// From where to where the ray is inside the box, ends included: from the least to the greatest
 /// distance of the ray's interval at which it is inside on all three axes. None exactly where there
-/// is no such distance. (Own; for the intersection of rays with AABBs in "Ray Traversal" of the
-/// Vulkan specification.)
+/// is no such distance. It is [`reach_box`] with both ends in lowest terms, which takes two greatest
+/// common divisors. (Own; for the intersection of rays with AABBs in "Ray Traversal" of the Vulkan
+/// specification.)
 pub fn span_box(ray: &ObjectRay, b: &Box3) -> Option<Span>
     ensures some { IfSome result (λ span. IsSpan ray.now b.now span) }
     ensures none { IfNone result ((n d : ℕ) → 0 < d → ¬ IsInside ray.now b.now n d) }
 {
-    let all = interval(ray.tmin, ray.tmax);
-    let x = on_axis(all, ray.det, b.lo.x, b.hi.x, ray.origin.x, ray.dir.x)?;
-    let y = on_axis(x, ray.det, b.lo.y, b.hi.y, ray.origin.y, ray.dir.y)?;
-    let z = on_axis(y, ray.det, b.lo.z, b.hi.z, ray.origin.z, ray.dir.z)?;
-    if z.entry <= z.exit { Some(z) } else { None }
-}
-
-// The distances from least / 65536 to most / 65536.
-fn interval(least: u64, most: u64) -> Span
-    requires least_short { least ≤ 2 ^ 40 }
-    requires most_short { most ≤ 2 ^ 40 }
-    ensures { (n d : ℕ) → 0 < d → Covers result n d ↔ ((least * d ≤ 65536 * n) × (65536 * n ≤ most * d)) }
-{
-    Span {
-        entry: part(least, 65536),
-        exit: part(most, 65536),
+    match reach_box(ray, b) {
+        Some(reach) => Some(Span {
+            entry: reach.entry.reduced(),
+            exit: reach.exit.reduced(),
+        }),
+        None => None,
     }
-}
-
-// The ends of a box on one axis, times det: the lesser and the greater.
-fn ends(det: i64, lo: i64, hi: i64) -> (i64, i64)
-    requires det_short { IsWithin (6 * 2 ^ 36) det }
-    requires lo_short { IsWithin (2 ^ 19) lo }
-    requires hi_short { IsWithin (2 ^ 19) hi }
-    ensures value { result ≡ (near_end det lo hi, far_end det lo hi) }
-    ensures near_short { IsWithin (6 * 2 ^ 55) result.0 }
-    ensures far_short { IsWithin (6 * 2 ^ 55) result.1 }
-{
-    if det < 0 {
-        (det * hi, det * lo)
-    } else {
-        (det * lo, det * hi)
-    }
-}
-
-// The distances of the span at which o + t m is between the ends of a box on one axis.
-fn on_axis(span: Span, det: i64, lo: i64, hi: i64, o: i64, m: i64) -> Option<Span>
-    requires det_short { IsWithin (6 * 2 ^ 36) det }
-    requires lo_short { IsWithin (2 ^ 19) lo }
-    requires hi_short { IsWithin (2 ^ 19) hi }
-    requires o_short { IsWithin (3 * 2 ^ 25 * (2 ^ 19 + 2 ^ 20)) o }
-    requires m_short { IsWithin (3 * 2 ^ 45) m }
-    ensures some { IfSome result (Narrows (IsOnAxis det lo hi o m) span) }
-    ensures none { IfNone result (Never (IsOnAxis det lo hi o m)) }
-{
-    let (near, far) = ends(det, lo, hi);
-    narrow(span, slab_of(near, far, o, m))
-}
-
-// The distances at which o + t m is from near to far.
-fn slab_of(near: i64, far: i64, o: i64, m: i64) -> Slab
-    requires near_short { IsWithin (6 * 2 ^ 55) near }
-    requires far_short { IsWithin (6 * 2 ^ 55) far }
-    requires o_short { IsWithin (3 * 2 ^ 25 * (2 ^ 19 + 2 ^ 20)) o }
-    requires m_short { IsWithin (3 * 2 ^ 45) m }
-    ensures inside { (n d : ℕ) → IsBetween near far o m n d ↔ IsInSlab result n d }
-    ensures short { IsSlab result }
-{
-    let size = m.unsigned_abs();
-    if m < 0 {
-        Slab {
-            near: o - far,
-            far: o - near,
-            size,
-        }
-    } else {
-        Slab {
-            near: near - o,
-            far: far - o,
-            size,
-        }
-    }
-}
-
-// The distances of the span that are in the slab.
-fn narrow(span: Span, slab: Slab) -> Option<Span>
-    requires { IsSlab slab }
-    ensures some { IfSome result (Narrows (IsInSlab slab) span) }
-    ensures none { IfNone result (Never (IsInSlab slab)) }
-{
-    let entry = raise(span.entry, slab.near, slab.size)?;
-    let exit = lower(span.exit, slab.far, slab.size)?;
-    Some(Span { entry, exit })
-}
-
-// The greater of the entry and near / size; None where size is 0 and near is above it.
-fn raise(entry: Frac, near: i64, size: u64) -> Option<Frac>
-    requires near_below { unsigned_abs near < 2 ^ 58 }
-    requires size_below { size < 2 ^ 47 }
-    ensures some { IfSome result (λ f. (n d : ℕ) → 0 < d →
-        IsAtMost (numerator f) (denominator f) n d ↔ (IsAtMost (numerator entry) (denominator entry) n d × IsPast near size n d)) }
-    ensures none { IfNone result (Never (IsPast near size)) }
-{
-    if near <= 0 {
-        Some(entry)
-    } else if size == 0 {
-        None
-    } else {
-        Some(later(entry, part(near.unsigned_abs(), size)))
-    }
-}
-
-// The lesser of the exit and far / size; None where far is below 0.
-fn lower(exit: Frac, far: i64, size: u64) -> Option<Frac>
-    requires far_below { unsigned_abs far < 2 ^ 58 }
-    requires size_below { size < 2 ^ 47 }
-    ensures some { IfSome result (λ f. (n d : ℕ) → 0 < d →
-        IsAtMost n d (numerator f) (denominator f) ↔ (IsAtMost n d (numerator exit) (denominator exit) × IsBefore far size n d)) }
-    ensures none { IfNone result (Never (IsBefore far size)) }
-{
-    if far < 0 {
-        None
-    } else if size == 0 {
-        Some(exit)
-    } else {
-        Some(earlier(exit, part(far.unsigned_abs(), size)))
-    }
-}
-
-// The greater of two distances.
-fn later(a: Frac, b: Frac) -> Frac
-    ensures { (n d : ℕ) → 0 < d →
-        IsAtMost (numerator result) (denominator result) n d ↔
-        (IsAtMost (numerator a) (denominator a) n d × IsAtMost (numerator b) (denominator b) n d) }
-{
-    if a < b { b } else { a }
-}
-
-// The lesser of two distances.
-fn earlier(a: Frac, b: Frac) -> Frac
-    ensures { (n d : ℕ) → 0 < d →
-        IsAtMost n d (numerator result) (denominator result) ↔
-        (IsAtMost n d (numerator a) (denominator a) × IsAtMost n d (numerator b) (denominator b)) }
-{
-    if a < b { a } else { b }
-}
-
-// num / den.
-fn part(num: u64, den: u64) -> Frac
-    requires { IsFraction num den }
-    ensures { IsSameValue (numerator result) (denominator result) num den }
-{
-    Frac::new(num, den).unwrap()
 }

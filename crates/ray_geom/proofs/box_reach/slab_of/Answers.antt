@@ -1,7 +1,7 @@
 use Rattle.std.proofs.Common.{rules}
 use Rattle.std.proofs.lemmas.Int.{to_z-of_z}
 use Rattle.ray_geom.proofs.Slabs.{IsBetween-falling, IsBetween-rising}
-use Rattle.ray_geom.proofs.box_span.slab_of.Goals as goal
+use Rattle.ray_geom.proofs.box_reach.slab_of.Goals as goal
 
 pub returns-then-m-lt0-clause-inside : goal.returns-then-m-lt0-clause-inside
 returns-then-m-lt0-clause-inside c =

@@ -1,7 +1,7 @@
 use Rattle.std.proofs.Common.{rules}
 use Rattle.std.proofs.lemmas.Int.{to_z-of_z}
 use Rattle.ray_geom.proofs.Slabs.{EndsFit, ends_fit, near_end-negative, far_end-negative, near_end-positive, far_end-positive}
-use Rattle.ray_geom.proofs.box_span.ends.Goals as goal
+use Rattle.ray_geom.proofs.box_reach.ends.Goals as goal
 
 pub returns-then-det-lt0-clause-value : goal.returns-then-det-lt0-clause-value
 returns-then-det-lt0-clause-value c =

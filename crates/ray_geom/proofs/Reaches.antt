@@ -1,64 +1,59 @@
--- What is left of the interval once it is narrowed on three axes is the span.
-use Rattle.std.proofs.Common.{ℕ, ◌≡◌, ◌+◌, ◌*◌, ◌^◌, ◌<◌, ◌≤◌, Option, Some, None, subst, to_z, of_z, arith}
+-- What is left of the interval once it is narrowed on three axes is the reach.
+use Rattle.std.proofs.Common.{ℕ, ◌≡◌, ◌+◌, ◌*◌, ◌^◌, ◌<◌, ◌≤◌, Option, Some, None, subst, ap, to_z, of_z, arith}
 use Rattle.std.specs.Prelude.{ℤ, ◌↔◌, IfSome, IfNone}
 use Rattle.std.specs.Int.{w64}
 use Rattle.std.specs.Int.RustNames.{FitsSigned}
 use Rattle.std.proofs.lemmas.Int.{ints, to_z-of_z}
-use Rattle.ray_geom.specs.declared.span.Span.{Span}
+use Rattle.ray_geom.specs.declared.frac.Frac.{Frac}
+use Rattle.ray_geom.specs.declared.reach.Reach.{Reach}
 use Rattle.ray_geom.specs.Fraction.{IsAtMost, IsSameValue}
-use Rattle.ray_geom.specs.Frac.{numerator, denominator}
 use Rattle.ray_geom.specs.Vector.{IsWithin}
 use Rattle.ray_geom.specs.Boxes.{BoxValue, IsBox}
 use Rattle.ray_geom.specs.ObjectRay.{ObjectRayValue, IsObjectRay}
-use Rattle.ray_geom.specs.BoxSpan.{IsOnAxis, IsInside, IsSpan}
+use Rattle.ray_geom.specs.BoxSpan.{IsOnAxis, IsInside, IsReach, IsSpan}
 use Rattle.ray_geom.specs.Slabs.{Covers, Narrows, Never}
 use Rattle.ray_geom.proofs.Slabs.{at_most_chain, at_most_left, at_most_right}
 
 -- the interval covers the distances from tmin to tmax
-pub Covers-interval : (span : Span) (least most : ℕ) →
-    IsSameValue (numerator span.entry) (denominator span.entry) least 65536 →
-    IsSameValue (numerator span.exit) (denominator span.exit) most 65536 →
-    (n d : ℕ) → Covers span n d ↔ ((least * d ≤ 65536 * n) × (65536 * n ≤ most * d))
-Covers-interval span least most p q n d =
-    let from = at_most_left span.entry.num span.entry.den least 65536 n d span.entry.limits.den_positive (omega arith) p in
-    let to = at_most_right span.exit.num span.exit.den most 65536 n d span.exit.limits.den_positive (omega arith) q in (
-      λ h.
-          let a : least * d ≤ n * 65536 = from.0 h.from in
-          let b : n * 65536 ≤ most * d = to.0 h.to in
-          (omega arith, omega arith),
-      λ h.
-          let a : least * d ≤ n * 65536 = let x = h.0 in omega arith in
-          let b : n * 65536 ≤ most * d = let x = h.1 in omega arith in
-          record { from = from.1 a; to = to.1 b },
+pub Covers-interval : (reach : Reach) (least most : ℕ) →
+    reach.entry.num ≡ least → reach.entry.den ≡ 65536 → reach.exit.num ≡ most → reach.exit.den ≡ 65536 →
+    (n d : ℕ) → Covers reach n d ↔ ((least * d ≤ 65536 * n) × (65536 * n ≤ most * d))
+Covers-interval reach least most p q r s n d =
+    let a = ap (λ x. x * d) p in
+    let b = ap (λ x. n * x) q in
+    let e = ap (λ x. x * d) r in
+    let f = ap (λ x. n * x) s in (
+      λ h. let from = h.from in let to = h.to in (omega arith, omega arith),
+      λ h. let from = h.0 in let to = h.1 in record { from = omega arith; to = omega arith },
     )
 
 -- what a narrower says by one fact it says by another that is the same
-pub Narrows-same : (P Q : ℕ → ℕ → Type 0) (span narrower : Span) →
-    ((n d : ℕ) → Q n d ↔ P n d) → Narrows P span narrower → Narrows Q span narrower
-Narrows-same P Q span narrower same h n d d_positive = (
+pub Narrows-same : (P Q : ℕ → ℕ → Type 0) (reach narrower : Reach) →
+    ((n d : ℕ) → Q n d ↔ P n d) → Narrows P reach narrower → Narrows Q reach narrower
+Narrows-same P Q reach narrower same h n d d_positive = (
   λ x. let y = (h n d d_positive).0 x in (y.0, (same n d).1 y.1),
   λ x. (h n d d_positive).1 (x.0, (same n d).0 x.1),
 )
 
-pub IfSome-Narrows : (P Q : ℕ → ℕ → Type 0) (span : Span) (r : Option Span) →
-    ((n d : ℕ) → Q n d ↔ P n d) → IfSome r (Narrows P span) → IfSome r (Narrows Q span)
-IfSome-Narrows P Q span None same h = h
-IfSome-Narrows P Q span (Some narrower) same h = Narrows-same P Q span narrower same h
+pub IfSome-Narrows : (P Q : ℕ → ℕ → Type 0) (reach : Reach) (r : Option Reach) →
+    ((n d : ℕ) → Q n d ↔ P n d) → IfSome r (Narrows P reach) → IfSome r (Narrows Q reach)
+IfSome-Narrows P Q reach None same h = h
+IfSome-Narrows P Q reach (Some narrower) same h = Narrows-same P Q reach narrower same h
 
-pub IfNone-Never : (P Q : ℕ → ℕ → Type 0) (r : Option Span) →
+pub IfNone-Never : (P Q : ℕ → ℕ → Type 0) (r : Option Reach) →
     ((n d : ℕ) → Q n d ↔ P n d) → IfNone r (Never P) → IfNone r (Never Q)
 IfNone-Never P Q None same h = λ n d d_positive q. h n d d_positive ((same n d).0 q)
 IfNone-Never P Q (Some narrower) same h = h
 
 -- the interval, narrowed on three axes
-pub record IsNarrowed (object : ObjectRayValue) (box : BoxValue) (all x y z : Span) : Type 0 where
+pub record IsNarrowed (object : ObjectRayValue) (box : BoxValue) (all x y z : Reach) : Type 0 where
   pub interval : (n d : ℕ) → 0 < d → Covers all n d ↔ ((object.tmin * d ≤ 65536 * n) × (65536 * n ≤ object.tmax * d))
   pub on_x : Narrows (IsOnAxis object.det box.lo.x box.hi.x object.origin.x object.dir.x) all x
   pub on_y : Narrows (IsOnAxis object.det box.lo.y box.hi.y object.origin.y object.dir.y) x y
   pub on_z : Narrows (IsOnAxis object.det box.lo.z box.hi.z object.origin.z object.dir.z) y z
 
 -- covers what is inside
-Covers-inside : (object : ObjectRayValue) (box : BoxValue) (all x y z : Span) → IsNarrowed object box all x y z →
+Covers-inside : (object : ObjectRayValue) (box : BoxValue) (all x y z : Reach) → IsNarrowed object box all x y z →
     (n d : ℕ) → 0 < d → Covers z n d ↔ IsInside object box n d
 Covers-inside object box all x y z h n d d_positive = (
   λ c.
@@ -78,21 +73,22 @@ Covers-inside object box all x y z h n d d_positive = (
       ),
 )
 
--- it is the span, where its entry is at most its exit
-pub IsSpan-narrowed : (object : ObjectRayValue) (box : BoxValue) (all x y z : Span) → IsNarrowed object box all x y z →
-    IsAtMost (numerator z.entry) (denominator z.entry) (numerator z.exit) (denominator z.exit) → IsSpan object box z
-IsSpan-narrowed object box all x y z h ordered = record {
-  entry = (Covers-inside object box all x y z h z.entry.num z.entry.den z.entry.limits.den_positive).0
+-- it is the reach, where its entry is at most its exit
+pub IsReach-narrowed : (object : ObjectRayValue) (box : BoxValue) (all x y z : Reach) → IsNarrowed object box all x y z →
+    IsAtMost z.entry.num z.entry.den z.exit.num z.exit.den → IsReach object box z
+IsReach-narrowed object box all x y z h ordered = record {
+  entry = (Covers-inside object box all x y z h z.entry.num z.entry.den z.entry.positive).0
       (record { from = omega arith; to = ordered });
-  exit = (Covers-inside object box all x y z h z.exit.num z.exit.den z.exit.limits.den_positive).0
+  exit = (Covers-inside object box all x y z h z.exit.num z.exit.den z.exit.positive).0
       (record { from = ordered; to = omega arith });
   least = λ n d d_positive i. ((Covers-inside object box all x y z h n d d_positive).1 i).from;
   greatest = λ n d d_positive i. ((Covers-inside object box all x y z h n d d_positive).1 i).to;
+  between = λ n d d_positive from to. (Covers-inside object box all x y z h n d d_positive).0 (record { from = from; to = to });
 }
 
 -- and where it isn't, nothing is inside
-pub Never-narrowed : (object : ObjectRayValue) (box : BoxValue) (all x y z : Span) → IsNarrowed object box all x y z →
-    (IsAtMost (numerator z.entry) (denominator z.entry) (numerator z.exit) (denominator z.exit) → ⊥) →
+pub Never-narrowed : (object : ObjectRayValue) (box : BoxValue) (all x y z : Reach) → IsNarrowed object box all x y z →
+    (IsAtMost z.entry.num z.entry.den z.exit.num z.exit.den → ⊥) →
     Never (IsInside object box)
 Never-narrowed object box all x y z h crossed n d d_positive i =
     let c = (Covers-inside object box all x y z h n d d_positive).1 i in
@@ -166,7 +162,7 @@ pub Never-z : (object : ObjectRayValue) (box : BoxValue) → IsObjectRay object 
 Never-z object box r b h n d d_positive i =
     subst (λ P. Never P) (are_held object box r b).z h n d d_positive i.z
 
-pub IsNarrowed-held : (object : ObjectRayValue) (box : BoxValue) (all x y z : Span) → IsObjectRay object → IsBox box →
+pub IsNarrowed-held : (object : ObjectRayValue) (box : BoxValue) (all x y z : Reach) → IsObjectRay object → IsBox box →
     ((n d : ℕ) → 0 < d → Covers all n d ↔ ((object.tmin * d ≤ 65536 * n) × (65536 * n ≤ object.tmax * d))) →
     Narrows (HeldX object box) all x → Narrows (HeldY object box) x y → Narrows (HeldZ object box) y z →
     IsNarrowed object box all x y z
@@ -177,4 +173,27 @@ IsNarrowed-held object box all x y z r b interval on_x on_y on_z =
       on_x = subst (λ P. Narrows P all x) same.x on_x;
       on_y = subst (λ P. Narrows P x y) same.y on_y;
       on_z = subst (λ P. Narrows P y z) same.z on_z;
+    }
+
+-- the reach in lowest terms is the span
+pub IsSpan-reduced : (object : ObjectRayValue) (box : BoxValue) (reach : Reach) (entry exit : Frac) →
+    IsReach object box reach →
+    IsSameValue entry.num entry.den reach.entry.num reach.entry.den →
+    IsSameValue exit.num exit.den reach.exit.num reach.exit.den →
+    IsSpan object box record { entry = entry; exit = exit }
+IsSpan-reduced object box reach entry exit h p q =
+    let first = reach.entry in
+    let last = reach.exit in
+    let same_entry = λ (k l : ℕ). at_most_left entry.num entry.den first.num first.den k l entry.limits.den_positive first.positive p in
+    let under_entry = λ (k l : ℕ). at_most_right entry.num entry.den first.num first.den k l entry.limits.den_positive first.positive p in
+    let same_exit = λ (k l : ℕ). at_most_left exit.num exit.den last.num last.den k l exit.limits.den_positive last.positive q in
+    let under_exit = λ (k l : ℕ). at_most_right exit.num exit.den last.num last.den k l exit.limits.den_positive last.positive q in
+    let ordered : IsAtMost first.num first.den last.num last.den = h.least last.num last.den last.positive h.exit in
+    record {
+      entry = h.between entry.num entry.den entry.limits.den_positive ((under_entry first.num first.den).1 (omega arith))
+          ((same_entry last.num last.den).1 ordered);
+      exit = h.between exit.num exit.den exit.limits.den_positive ((under_exit first.num first.den).1 ordered)
+          ((same_exit last.num last.den).1 (omega arith));
+      least = λ n d positive i. (same_entry n d).1 (h.least n d positive i);
+      greatest = λ n d positive i. (under_exit n d).1 (h.greatest n d positive i);
     }

@@ -3,11 +3,11 @@ use Rattle.std.specs.Int.{w64}
 use Rattle.std.specs.Int.RustNames.{FitsSigned}
 use Rattle.std.proofs.lemmas.Int.{to_z-of_z}
 use Rattle.ray_geom.proofs.Slabs.{Narrows-ends}
-use Rattle.ray_geom.proofs.box_span.narrow.Goals as goal
+use Rattle.ray_geom.proofs.box_reach.narrow.Goals as goal
 
 pub returns-clause-some : goal.returns-clause-some
 returns-clause-some c =
     let near : FitsSigned w64 c.args.slab.near = search rules in
     let far : FitsSigned w64 c.args.slab.far = search rules in
-    Narrows-ends c.args.span c.in_ok-entry.entry c.in_ok-exit.exit c.args.slab
+    Narrows-ends c.args.reach c.in_ok-entry.entry c.in_ok-exit.exit c.args.slab
     (simp to_z-of_z at c.in_ok-entry.ensures.some) (simp to_z-of_z at c.in_ok-exit.ensures.some)
