@@ -10,7 +10,7 @@ use Rattle.ray_cmd.specs.declared.place.Place.{Place}
 use Rattle.ray_cmd.specs.declared.place.Place.TheVariants.{Part}
 use Rattle.ray_cmd.specs.declared.region.Region.{Region}
 use Rattle.ray_cmd.specs.declared.spot.Spot.{Spot}
-use Rattle.ray_rules.specs.declared.range.Range.{Range}
+use Rattle.ray_rules.specs.declared.byte_range.ByteRange.{ByteRange}
 use Rattle.ray_rules.specs.Places.{whole}
 use Rattle.ray_rules.specs.Ranges.{range, meets, scratch_range}
 use Rattle.ray_rules.specs.Status.{Status}
@@ -40,9 +40,10 @@ first_conflict before k (info ∷ infos) =
     if list_any (conflict info) before then Some k else first_conflict (before ++ info ∷ []) (k + 1) infos
 
 -- what a region reads of a buffer, and what it writes
-abbrev pub region_source : ℕ → Region → Range
+abbrev pub region_source : ℕ → Region → ByteRange
 region_source src region = range src region.src_offset region.size
-abbrev pub region_target : ℕ → Region → Range
+
+abbrev pub region_target : ℕ → Region → ByteRange
 region_target dst region = range dst region.dst_offset region.size
 
 -- whether a region conflicts, given those before it and all of the command: what it writes

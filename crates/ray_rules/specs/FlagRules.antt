@@ -2,13 +2,13 @@
 -- VkMemoryBarrier and its table of supported access types; own: scripts.)
 use Rattle.std.specs.Prelude.{ℕ, List, [], ◌∷◌, Option, Some, None, Bool, true, false, ◌&&◌, ◌||◌, ◌==◌, not, nat_lt, option_map}
 use Rattle.std.specs.List.{list_any, count_by}
-use Prim.Native.String.{String}
 use Rattle.ray_cmd.specs.declared.command.Command.{Command}
 use Rattle.ray_cmd.specs.declared.command.Command.TheVariants as commands
 use Rattle.ray_cmd.specs.declared.place.Place.{Place}
 use Rattle.ray_cmd.specs.declared.place.Place.TheVariants.{Part}
-use Rattle.ray_flags.specs.Words.{has, stage_words, access_words}
-use Rattle.ray_flags.specs.Admission.{ray_has}
+use Rattle.ray_flags.specs.Flags.{ray_has, CullBackFacing, CullFrontFacing, CullNoOpaque, CullOpaque, NoOpaque, Opaque, SkipAabbs, SkipTriangles}
+use Rattle.ray_flags.specs.Flags.{Stage, stages_have, Build, Compute, Host, Transfer}
+use Rattle.ray_flags.specs.Flags.{AccessFlag, access_has, HostRead, HostWrite, MemoryRead, MemoryWrite, ShaderRead, ShaderWrite, StructureRead, StructureWrite, TransferRead, TransferWrite}
 use Rattle.ray_flags.specs.declared.access.Access.{Access}
 use Rattle.ray_flags.specs.declared.ray_flags.RayFlags.{RayFlags}
 use Rattle.ray_flags.specs.declared.stages.Stages.{Stages}
@@ -22,9 +22,9 @@ are_several facts = nat_lt 1 (count_by (λ fact. fact) facts)
 -- whether ray flags contradict each other
 abbrev pub is_contradiction : RayFlags → Bool
 is_contradiction flags =
-    are_several (ray_has flags "opaque" ∷ ray_has flags "no_opaque" ∷ ray_has flags "cull_opaque" ∷ ray_has flags "cull_no_opaque" ∷ [])
-    || (are_several (ray_has flags "skip_triangles" ∷ ray_has flags "cull_back_facing" ∷ ray_has flags "cull_front_facing" ∷ [])
-    || are_several (ray_has flags "skip_triangles" ∷ ray_has flags "skip_aabbs" ∷ []))
+    are_several (ray_has flags Opaque ∷ ray_has flags NoOpaque ∷ ray_has flags CullOpaque ∷ ray_has flags CullNoOpaque ∷ [])
+    || (are_several (ray_has flags SkipTriangles ∷ ray_has flags CullBackFacing ∷ ray_has flags CullFrontFacing ∷ [])
+    || are_several (ray_has flags SkipTriangles ∷ ray_has flags SkipAabbs ∷ []))
 
 -- V22: more than one of `opaque`, `no_opaque`, `cull_opaque`, `cull_no_opaque`; more than one of
 -- `skip_triangles`, `cull_back_facing`, `cull_front_facing`; both skips
@@ -37,29 +37,23 @@ unfoldable pub v23 : Command → Option Place
 v23 (commands.Trace top rays count hits flags mask script) = option_map Part (refused_at script)
 v23 _ = None
 
--- whether stages have one of a word, and accesses one of a word
-abbrev pub stages_have : Stages → String → Bool
-stages_have stages word = has stage_words word stages.0
-abbrev pub access_has : Access → String → Bool
-access_has access word = has access_words word access.0
-
 -- whether accesses have one that only these stages support, and none of them is there
-abbrev pub lacks_stage : Access → String → Stages → List String → Bool
-lacks_stage access word stages support = access_has access word && not (list_any (stages_have stages) support)
+abbrev pub lacks_stage : Access → AccessFlag → Stages → List Stage → Bool
+lacks_stage access flag stages support = access_has access flag && not (list_any (stages_have stages) support)
 
 -- whether accesses have one that no stage supports. Every stage supports `memory_read` and
 -- `memory_write`
 unfoldable pub is_unsupported : Stages → Access → Bool
 is_unsupported stages access =
-    lacks_stage access "transfer_read" stages ("transfer" ∷ "build" ∷ [])
-    || (lacks_stage access "transfer_write" stages ("transfer" ∷ "build" ∷ [])
-    || (lacks_stage access "shader_read" stages ("build" ∷ "compute" ∷ [])
-    || (lacks_stage access "shader_write" stages ("compute" ∷ [])
-    || (lacks_stage access "structure_read" stages ("build" ∷ "compute" ∷ [])
-    || (lacks_stage access "structure_write" stages ("build" ∷ [])
-    || (lacks_stage access "host_read" stages ("host" ∷ [])
-    || (lacks_stage access "host_write" stages ("host" ∷ [])
-    || ((access_has access "memory_read" || access_has access "memory_write") && stages.0 == 0))))))))
+    lacks_stage access TransferRead stages (Transfer ∷ Build ∷ [])
+    || (lacks_stage access TransferWrite stages (Transfer ∷ Build ∷ [])
+    || (lacks_stage access ShaderRead stages (Build ∷ Compute ∷ [])
+    || (lacks_stage access ShaderWrite stages (Compute ∷ [])
+    || (lacks_stage access StructureRead stages (Build ∷ Compute ∷ [])
+    || (lacks_stage access StructureWrite stages (Build ∷ [])
+    || (lacks_stage access HostRead stages (Host ∷ [])
+    || (lacks_stage access HostWrite stages (Host ∷ [])
+    || ((access_has access MemoryRead || access_has access MemoryWrite) && stages.0 == 0))))))))
 
 -- V24: an access that no named stage of its side supports
 unfoldable pub v24 : Command → Option Place

@@ -32,6 +32,7 @@ lacks_thing z things.Structure id = lacks_structure z id
 -- whether the buffer of indices or of a transform, where there are any, isn't live
 abbrev pub lacks_index : Status → Option Index → Bool
 lacks_index z index = option_map_or (λ (x : Index). lacks_buffer z x.buffer) index false
+
 abbrev pub lacks_transform : Status → Option Spot → Bool
 lacks_transform z transform = option_map_or (λ (s : Spot). lacks_buffer z s.buffer) transform false
 

@@ -4,7 +4,6 @@
 use Rattle.std.specs.Prelude.{ℕ, ◌+◌, List, [], ◌∷◌, Option, Some, None, Bool, true, false, ◌&&◌, ◌||◌, ◌==◌, not, nat_lt, nat_le, length, sum, if◌then◌else◌}
 use Rattle.std.specs.List.{list_any, list_all}
 use Rattle.std.specs.Option.{option_map_or, option_or}
-use Prim.Native.String.{String}
 use Rattle.ray_cmd.specs.declared.asked.Asked.{Asked}
 use Rattle.ray_cmd.specs.declared.asked.Asked.TheVariants as asked
 use Rattle.ray_cmd.specs.declared.command.Command.{Command}
@@ -17,8 +16,7 @@ use Rattle.ray_cmd.specs.declared.info.Info.{Info}
 use Rattle.ray_cmd.specs.declared.place.Place.{Place}
 use Rattle.ray_cmd.specs.declared.structure_kind.StructureKind.{StructureKind}
 use Rattle.ray_cmd.specs.declared.structure_kind.StructureKind.TheVariants as kinds
-use Rattle.ray_flags.specs.Words.{has, build_words}
-use Rattle.ray_flags.specs.declared.build_flags.BuildFlags.{BuildFlags}
+use Rattle.ray_flags.specs.Flags.{build_has, PreferFastBuild, PreferFastTrace}
 use Rattle.ray_rules.specs.Places.{whole, part_at, first_part}
 use Rattle.ray_rules.specs.Ranges.{primitives}
 use Rattle.ray_rules.specs.Status.{Status}
@@ -63,10 +61,12 @@ abbrev pub is_triangles : Geometry → Bool
 is_triangles (geometries.Triangles opaque format vertex stride max_vertex index transform count primitive_offset first_vertex transform_offset) = true
 is_triangles (geometries.Boxes opaque content stride count primitive_offset) = false
 is_triangles (geometries.Instances content count primitive_offset) = false
+
 abbrev pub is_boxes : Geometry → Bool
 is_boxes (geometries.Triangles opaque format vertex stride max_vertex index transform count primitive_offset first_vertex transform_offset) = false
 is_boxes (geometries.Boxes opaque content stride count primitive_offset) = true
 is_boxes (geometries.Instances content count primitive_offset) = false
+
 abbrev pub is_instances : Geometry → Bool
 is_instances (geometries.Triangles opaque format vertex stride max_vertex index transform count primitive_offset first_vertex transform_offset) = false
 is_instances (geometries.Boxes opaque content stride count primitive_offset) = false
@@ -93,13 +93,9 @@ v8 z (commands.Sizes kind counts) = whole (is_top kind && not (length counts == 
 v8 z (commands.Build infos) = first_part (is_misshapen z) infos
 v8 z _ = None
 
--- whether build flags have a word
-abbrev pub build_has : BuildFlags → String → Bool
-build_has flags word = has build_words word flags.0
-
 -- whether an info prefers both a fast trace and a fast build
 abbrev pub prefers_both : Info → Bool
-prefers_both info = build_has info.flags "prefer_fast_trace" && build_has info.flags "prefer_fast_build"
+prefers_both info = build_has info.flags PreferFastTrace && build_has info.flags PreferFastBuild
 
 -- V9: both fast flags
 unfoldable pub v9 : Status → Command → Option Place

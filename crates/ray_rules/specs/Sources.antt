@@ -3,7 +3,6 @@
 use Rattle.std.specs.Prelude.{ℕ, List, [], ◌∷◌, Option, Some, None, Bool, true, false, ◌&&◌, ◌||◌, ◌==◌, not, nat_lt, length}
 use Rattle.std.specs.List.{list_any, list_all, zip}
 use Rattle.std.specs.Option.{option_and_then, option_map_or, is_some}
-use Prim.Native.String.{String}
 use Rattle.ray_bytes.specs.declared.format.Format.{Format}
 use Rattle.ray_bytes.specs.declared.format.Format.TheVariants.{S32x3, S32x2, S16x3}
 use Rattle.ray_cmd.specs.declared.asked.Asked.{Asked}
@@ -18,12 +17,12 @@ use Rattle.ray_cmd.specs.declared.index.Index.{Index}
 use Rattle.ray_cmd.specs.declared.info.Info.{Info}
 use Rattle.ray_cmd.specs.declared.place.Place.{Place}
 use Rattle.ray_cmd.specs.declared.spot.Spot.{Spot}
+use Rattle.ray_flags.specs.Flags.{BuildFlag, build_has, AllowCompaction, AllowUpdate}
 use Rattle.ray_rules.specs.declared.built.Built.{Built}
 use Rattle.ray_rules.specs.declared.live_structure.LiveStructure.{LiveStructure}
 use Rattle.ray_rules.specs.Ids.{look}
 use Rattle.ray_rules.specs.Origins.{info_of, uses_of, is_deserialized}
 use Rattle.ray_rules.specs.Places.{whole, first_part}
-use Rattle.ray_rules.specs.Shapes.{build_has}
 use Rattle.ray_rules.specs.Status.{Status, built_at}
 use Rattle.ray_rules.specs.Structures.{is_bottom}
 
@@ -46,13 +45,13 @@ abbrev pub info_at : List Command → Status → ℕ → Option Info
 info_at rec z id = option_and_then (info_of rec) (built_at z id)
 
 -- whether the structure of an id was last built or updated without a flag
-abbrev pub was_built_without : List Command → Status → String → ℕ → Bool
-was_built_without rec z word id =
-    option_map_or (λ (info : Info). not (build_has info.flags word)) (info_at rec z id) false
+abbrev pub was_built_without : List Command → Status → BuildFlag → ℕ → Bool
+was_built_without rec z flag id =
+    option_map_or (λ (info : Info). not (build_has info.flags flag)) (info_at rec z id) false
 
 -- whether an info updates what doesn't allow it
 abbrev pub updates_forbidden : List Command → Status → Info → Bool
-updates_forbidden rec z info = option_map_or (was_built_without rec z "allow_update") info.src false
+updates_forbidden rec z info = option_map_or (was_built_without rec z AllowUpdate) info.src false
 
 -- V14: update's `src` was built without `allow_update`
 unfoldable pub v14 : List Command → Status → Command → Option Place
@@ -148,7 +147,7 @@ is_deserialized_at rec z id = option_map_or (is_deserialized rec) (built_at z id
 
 -- whether the structure of an id can't be compacted
 abbrev pub is_not_compactable : List Command → Status → ℕ → Bool
-is_not_compactable rec z id = was_built_without rec z "allow_compaction" id || is_deserialized_at rec z id
+is_not_compactable rec z id = was_built_without rec z AllowCompaction id || is_deserialized_at rec z id
 
 -- whether what can't be compacted is to be
 abbrev pub compacts_forbidden : List Command → Status → CopyMode → ℕ → Bool

@@ -16,7 +16,7 @@ use Rattle.ray_cmd.specs.declared.place.Place.{Place}
 use Rattle.ray_cmd.specs.declared.structure_kind.StructureKind.{StructureKind}
 use Rattle.ray_cmd.specs.declared.structure_kind.StructureKind.TheVariants as kinds
 use Rattle.ray_rules.specs.declared.live_structure.LiveStructure.{LiveStructure}
-use Rattle.ray_rules.specs.declared.range.Range.{Range}
+use Rattle.ray_rules.specs.declared.byte_range.ByteRange.{ByteRange}
 use Rattle.ray_rules.specs.Ids.{look}
 use Rattle.ray_rules.specs.Places.{whole, first_part}
 use Rattle.ray_rules.specs.Ranges.{range, is_outside, meets, primitives}
@@ -24,11 +24,11 @@ use Rattle.ray_rules.specs.Spans.{misses}
 use Rattle.ray_rules.specs.Status.{Status}
 
 -- the bytes in which a structure stands
-abbrev pub structure_range : LiveStructure → Range
+abbrev pub structure_range : LiveStructure → ByteRange
 structure_range structure = range structure.buffer structure.offset structure.size
 
 -- whether bytes share one with a live structure
-abbrev pub overlaps_structure : Status → Range → Bool
+abbrev pub overlaps_structure : Status → ByteRange → Bool
 overlaps_structure z r = list_any (λ (s : LiveStructure). meets r (structure_range s)) (values_of z.structures)
 
 -- V6: a structure's offset isn't a multiple of 256, its range isn't within its buffer, or it
@@ -73,6 +73,7 @@ v11 z _ = None
 abbrev pub is_bottom : StructureKind → Bool
 is_bottom kinds.Bottom = true
 is_bottom kinds.Top = false
+
 abbrev pub is_top : StructureKind → Bool
 is_top kinds.Bottom = false
 is_top kinds.Top = true
@@ -80,6 +81,7 @@ is_top kinds.Top = true
 -- whether the structure of an id is live and a bottom, or a top
 abbrev pub is_bottom_at : Status → ℕ → Bool
 is_bottom_at z id = option_map_or (λ (s : LiveStructure). is_bottom s.kind) (look z.structures id) false
+
 abbrev pub is_top_at : Status → ℕ → Bool
 is_top_at z id = option_map_or (λ (s : LiveStructure). is_top s.kind) (look z.structures id) false
 

@@ -12,13 +12,13 @@
 #![tactic(auto)]
 
 mod built;
+mod byte_range;
 mod live_buffer;
 mod live_structure;
 mod phase;
-mod range;
 
 pub use crate::built::Built;
+pub use crate::byte_range::ByteRange;
 pub use crate::live_buffer::LiveBuffer;
 pub use crate::live_structure::LiveStructure;
 pub use crate::phase::Phase;
-pub use crate::range::Range;

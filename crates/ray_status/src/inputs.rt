@@ -3,13 +3,13 @@ ghost use Rattle.ray_rules.specs.Ranges.{boxes_range, count_of, index_range, inp
 
 use ray_bytes::Format;
 use ray_cmd::{Geometry, Index, Spot};
-use ray_rules::Range;
+use ray_rules::ByteRange;
 
 /// So many bytes of a buffer from an offset on. Own.
-pub fn range(buffer: u32, from: u64, size: u128) -> Range
+pub fn range(buffer: u32, from: u64, size: u128) -> ByteRange
     ensures { result ≡ range buffer from size }
 {
-    Range {
+    ByteRange {
         buffer,
         from: u128::from(from),
         size,
@@ -42,7 +42,7 @@ pub fn primitives(geometries: &[Geometry]) -> u128
 /// What has to be there of what a geometry reads: vertices, boxes or instances; indices; the
 /// transform. A geometry of no primitives needs nothing.
 #[tactic(auto, unfolding(ray_rules::specs::Ranges::inputs_needed))]
-pub fn inputs_needed(geometry: &Geometry) -> [Option<Range>; 3]
+pub fn inputs_needed(geometry: &Geometry) -> [Option<ByteRange>; 3]
     ensures { result ≡ inputs_needed geometry.now }
 {
     match *geometry {
@@ -97,13 +97,13 @@ pub fn inputs_needed(geometry: &Geometry) -> [Option<Range>; 3]
 }
 
 // The boxes of a geometry, where it has any.
-fn boxes(content: Spot, stride: u32, count: u32, primitive_offset: u32) -> Option<Range>
+fn boxes(content: Spot, stride: u32, count: u32, primitive_offset: u32) -> Option<ByteRange>
     ensures { result ≡ (if count == 0 then None else Some (boxes_range content stride count primitive_offset)) }
 {
     if count == 0 {
         return None;
     }
-    Some(Range {
+    Some(ByteRange {
         buffer: content.buffer,
         from: u128::from(content.offset) + u128::from(primitive_offset),
         size: u128::from(count - 1) * u128::from(stride) + 24,
@@ -111,13 +111,13 @@ fn boxes(content: Spot, stride: u32, count: u32, primitive_offset: u32) -> Optio
 }
 
 // The instances of a geometry, where it has any.
-fn instances(content: Spot, count: u32, primitive_offset: u32) -> Option<Range>
+fn instances(content: Spot, count: u32, primitive_offset: u32) -> Option<ByteRange>
     ensures { result ≡ (if count == 0 then None else Some (instances_range content count primitive_offset)) }
 {
     if count == 0 {
         return None;
     }
-    Some(Range {
+    Some(ByteRange {
         buffer: content.buffer,
         from: u128::from(content.offset) + u128::from(primitive_offset),
         size: 64 * u128::from(count),
@@ -125,11 +125,11 @@ fn instances(content: Spot, count: u32, primitive_offset: u32) -> Option<Range>
 }
 
 // The indices of so many triangles, where there are any.
-fn indices(index: Option<Index>, primitive_offset: u32, count: u32) -> Option<Range>
+fn indices(index: Option<Index>, primitive_offset: u32, count: u32) -> Option<ByteRange>
     ensures { result ≡ option_map (λ x. index_range x primitive_offset count) index }
 {
     match index {
-        Some(index) => Some(Range {
+        Some(index) => Some(ByteRange {
             buffer: index.buffer,
             from: u128::from(index.offset) + u128::from(primitive_offset),
             size: 3 * u128::from(count) * u128::from(index.index_size),
@@ -139,11 +139,11 @@ fn indices(index: Option<Index>, primitive_offset: u32, count: u32) -> Option<Ra
 }
 
 // The transform of a geometry, where it has one.
-fn transform_of(transform: Option<Spot>, transform_offset: u32) -> Option<Range>
+fn transform_of(transform: Option<Spot>, transform_offset: u32) -> Option<ByteRange>
     ensures { result ≡ option_map (transform_range transform_offset) transform }
 {
     match transform {
-        Some(spot) => Some(Range {
+        Some(spot) => Some(ByteRange {
             buffer: spot.buffer,
             from: u128::from(spot.offset) + u128::from(transform_offset),
             size: 48,
@@ -162,11 +162,11 @@ fn vertices_needed(
     count: u32,
     primitive_offset: u32,
     first_vertex: u32,
-) -> Range
+) -> ByteRange
     ensures { result ≡ vertices_needed vertex stride format max_vertex index count primitive_offset first_vertex }
 {
     match index {
-        Some(_) => Range {
+        Some(_) => ByteRange {
             buffer: vertex.buffer,
             from: u128::from(vertex.offset) + u128::from(max_vertex) * u128::from(stride),
             size: u128::from(format.size()),
@@ -190,11 +190,11 @@ fn vertices(
     primitive_offset: u32,
     first_vertex: u32,
     count: u32,
-) -> Range
+) -> ByteRange
     ensures { result ≡ vertices_range vertex stride format primitive_offset first_vertex count }
 {
     let stride = u128::from(stride);
-    Range {
+    ByteRange {
         buffer: vertex.buffer,
         from: u128::from(vertex.offset)
             + u128::from(primitive_offset)

@@ -8,15 +8,26 @@
 //! It stands on ray_rules (the definitions) and ray_cmd (the commands).
 #![tactic(auto)]
 
+mod facts;
 mod inputs;
 mod origins;
 mod ranges;
 mod sizes;
 mod status;
 mod step;
+mod usages;
 
+pub use crate::facts::{
+    differ_in_kind, has_top, has_unbuilt, info_at, is_bottom, is_bottom_at, is_deserialized_at,
+    is_smaller, is_top, is_top_at, is_unbuilt, lacks_a_structure, lacks_buffer, lacks_structure,
+    made_size, misses, uses_wrongly,
+};
 pub use crate::inputs::{count_of, inputs_needed, primitives, range};
 pub use crate::origins::{info_of, is_deserialized, uses_of};
 pub use crate::ranges::{meets, structure_range};
 pub use crate::sizes::{scratch_range, structure_size};
 pub use crate::status::Status;
+pub use crate::usages::{
+    is_private, is_private_at, lacks_input, lacks_scratch, lacks_storage, lacks_structures,
+    lacks_transfer_dst, lacks_transfer_src,
+};

@@ -4,7 +4,7 @@ ghost use Rattle.ray_rules.specs.Ranges.{scratch_range, scratch_size};
 
 use crate::inputs::primitives;
 use ray_cmd::{BuildMode, Info};
-use ray_rules::Range;
+use ray_rules::ByteRange;
 
 /// The size of a structure of so many geometries and primitives, in bytes. (Own: the formula is that
 /// of `sizes_of` of ray_bytes, for numbers beyond the limits too.)
@@ -18,11 +18,11 @@ pub fn structure_size(geometries: usize, primitives: u128) -> u128
 
 /// The scratch memory of an info. (Own: the formulas are those of `sizes_of` of ray_bytes, for
 /// numbers beyond the limits too.)
-pub fn scratch_range(info: &Info) -> Range
+pub fn scratch_range(info: &Info) -> ByteRange
     ensures { result ≡ scratch_range info.now }
 {
     let primitives = primitives(info.geometries.as_slice());
-    Range {
+    ByteRange {
         buffer: info.scratch.buffer,
         from: u128::from(info.scratch.offset),
         size: scratch_size(info.mode, primitives),

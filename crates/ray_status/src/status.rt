@@ -8,7 +8,7 @@ ghost use Rattle.ray_rules.specs.Structures.{overlaps_structure, structure_range
 
 use crate::ranges::{meets, structure_range};
 use ray_cmd::Thing;
-use ray_rules::{Built, LiveBuffer, LiveStructure, Phase, Range};
+use ray_rules::{Built, LiveBuffer, LiveStructure, Phase, ByteRange};
 use std::alloc::{AllocError, Global};
 use std::collections::BTreeMap;
 use std::marker::Model;
@@ -64,7 +64,7 @@ impl Status {
     }
 
     /// Whether a range isn't whole within its buffer. A buffer that isn't live has no bytes.
-    pub fn is_outside(&self, range: Range) -> bool
+    pub fn is_outside(&self, range: ByteRange) -> bool
         ensures { result ≡ is_outside self.now.buffers range }
     {
         let size = self.size_of_buffer(range.buffer);
@@ -127,7 +127,7 @@ impl Status {
     }
 
     /// Whether bytes share one with a live structure.
-    pub fn overlaps_structure(&self, range: Range) -> bool
+    pub fn overlaps_structure(&self, range: ByteRange) -> bool
         ensures { result ≡ overlaps_structure self.now range }
     {
         self.structures
