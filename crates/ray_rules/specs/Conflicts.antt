@@ -1,6 +1,6 @@
 -- Rules on the parts of one command, which have no order among them. (VK_KHR_acceleration_structure:
 -- the valid usage of builds; vkCmdCopyBuffer; own: the same of traces.)
-use Rattle.std.specs.Prelude.{ℕ, ◌+◌, ◌++◌, ◌*◌, List, [], ◌∷◌, Option, Some, None, Bool, true, false, ◌&&◌, ◌||◌, ◌==◌, if◌then◌else◌}
+use Rattle.std.specs.Prelude.{ℕ, ◌+◌, ◌++◌, ◌*◌, List, map, [], ◌∷◌, Option, Some, None, Bool, true, false, ◌&&◌, ◌||◌, ◌==◌, if◌then◌else◌}
 use Rattle.std.specs.List.{list_any}
 use Rattle.std.specs.Option.{option_map_or, option_map}
 use Rattle.ray_cmd.specs.declared.command.Command.{Command}
@@ -10,7 +10,8 @@ use Rattle.ray_cmd.specs.declared.place.Place.{Place}
 use Rattle.ray_cmd.specs.declared.place.Place.TheVariants.{Part}
 use Rattle.ray_cmd.specs.declared.region.Region.{Region}
 use Rattle.ray_cmd.specs.declared.spot.Spot.{Spot}
-use Rattle.ray_rules.specs.declared.byte_range.ByteRange.{ByteRange}
+use Rattle.ray_ranges.specs.declared.range.Range.{Range}
+use Rattle.ray_ranges.specs.First.{first_meeting}
 use Rattle.ray_rules.specs.Places.{whole}
 use Rattle.ray_rules.specs.Ranges.{range, meets, scratch_range}
 use Rattle.ray_rules.specs.Status.{Status}
@@ -39,32 +40,25 @@ first_conflict before k [] = None
 first_conflict before k (info ∷ infos) =
     if list_any (conflict info) before then Some k else first_conflict (before ++ info ∷ []) (k + 1) infos
 
--- what a region reads of a buffer, and what it writes
-abbrev pub region_source : ℕ → Region → ByteRange
-region_source src region = range src region.src_offset region.size
+-- the bytes that a region reads of its source, and those that it writes of its destination
+abbrev pub source_of : Region → Range
+source_of region = record { from = region.src_offset; end = region.src_offset + region.size }
+abbrev pub target_of : Region → Range
+target_of region = record { from = region.dst_offset; end = region.dst_offset + region.size }
 
-abbrev pub region_target : ℕ → Region → ByteRange
-region_target dst region = range dst region.dst_offset region.size
+-- the sources of regions, where they stand in the buffer that is written
+abbrev pub sources_in : ℕ → ℕ → List Region → List Range
+sources_in src dst regions = if src == dst then map source_of regions else []
 
--- whether a region conflicts, given those before it and all of the command: what it writes
--- overlaps what an earlier one writes, or what any one reads
-abbrev pub region_conflicts : ℕ → ℕ → List Region → List Region → Region → Bool
-region_conflicts src dst regions before region =
-    list_any (λ earlier. meets (region_target dst region) (region_target dst earlier)) before
-    || list_any (λ any. meets (region_target dst region) (region_source src any)) regions
-
--- the number of the first region that conflicts. Those before are given, and the first that is left
--- has number k
-abbrev pub first_region_conflict : ℕ → ℕ → List Region → List Region → ℕ → List Region → Option ℕ
-first_region_conflict src dst regions before k [] = None
-first_region_conflict src dst regions before k (region ∷ rest) =
-    if region_conflicts src dst regions before region then Some k
-    else first_region_conflict src dst regions (before ++ region ∷ []) (k + 1) rest
+-- the number of the first region whose destination overlaps that of an earlier one, or the source
+-- of any one
+abbrev pub first_region_conflict : ℕ → ℕ → List Region → Option ℕ
+first_region_conflict src dst regions = first_meeting (map target_of regions) (sources_in src dst regions)
 
 -- V16: pieces of one command conflict
 unfoldable pub v16 : Command → Option Place
 v16 (commands.Build infos) = option_map Part (first_conflict [] 0 infos)
-v16 (commands.Copy src dst regions) = option_map Part (first_region_conflict src dst regions [] 0 regions)
+v16 (commands.Copy src dst regions) = option_map Part (first_region_conflict src dst regions)
 v16 (commands.Trace top rays count hits flags mask script) =
     whole (meets (range rays.buffer rays.offset (40 * count)) (range hits.buffer hits.offset (80 * count)))
 v16 _ = None

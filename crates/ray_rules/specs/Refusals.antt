@@ -24,11 +24,11 @@ Row = ℕ × Option Place
 -- the static rules in rising order, each with the place where a command breaks it
 abbrev pub static_table : List Command → Status → Command → List Row
 static_table rec z c =
-    (1, v1 z c) ∷ (2, v2 z c) ∷ (3, v3 z c) ∷ (4, v4 z c) ∷ (5, v5 z c) ∷ (6, v6 z c) ∷ (7, v7 z c) ∷ (8, v8 z c)
-    ∷ (9, v9 z c) ∷ (10, v10 z c) ∷ (11, v11 z c) ∷ (12, v12 z c) ∷ (13, v13 rec z c) ∷ (14, v14 rec z c)
+    (1, v1 z c) ∷ (2, v2 z c) ∷ (3, v3 z c) ∷ (4, v4 z c) ∷ (5, v5 c) ∷ (6, v6 z c) ∷ (7, v7 z c) ∷ (8, v8 z c)
+    ∷ (9, v9 c) ∷ (10, v10 z c) ∷ (11, v11 z c) ∷ (12, v12 z c) ∷ (13, v13 rec z c) ∷ (14, v14 rec z c)
     ∷ (15, v15 rec z c) ∷ (16, v16 c) ∷ (17, v17 z c) ∷ (18, v18 rec z c) ∷ (19, v19 z c) ∷ (20, v20 z c)
     ∷ (21, v21 rec z c) ∷ (22, v22 c) ∷ (23, v23 c) ∷ (24, v24 c)
-    ∷ (28, v28 z c) ∷ (29, v29 z c) ∷ (30, v30 z c) ∷ (31, v31 z c) ∷ []
+    ∷ (28, v28 z c) ∷ (29, v29 z c) ∷ (30, v30 z c) ∷ (31, v31 c) ∷ []
 
 -- the refusal of command number i by a static rule at a place
 abbrev pub refused : ℕ → ℕ → Place → Refusal

@@ -98,9 +98,9 @@ abbrev pub prefers_both : Info → Bool
 prefers_both info = build_has info.flags PreferFastTrace && build_has info.flags PreferFastBuild
 
 -- V9: both fast flags
-unfoldable pub v9 : Status → Command → Option Place
-v9 z (commands.Build infos) = first_part prefers_both infos
-v9 z _ = None
+unfoldable pub v9 : Command → Option Place
+v9 (commands.Build infos) = first_part prefers_both infos
+v9 _ = None
 
 -- the most primitives of a structure: instances of a top, triangles or boxes of a bottom
 abbrev pub most_primitives : Bool → ℕ

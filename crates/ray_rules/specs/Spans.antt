@@ -92,13 +92,13 @@ abbrev pub info_misses : Info → Bool
 info_misses info = misses 256 info.scratch.offset || list_any input_misses info.geometries
 
 -- V5: an alignment is missed
-unfoldable pub v5 : Status → Command → Option Place
-v5 z (commands.Build infos) = first_part info_misses infos
-v5 z (commands.Serialize src dst) = whole (misses 256 dst.offset)
-v5 z (commands.Deserialize src dst uses) = whole (misses 256 src.offset)
-v5 z (commands.Property what structures dst) = whole (misses 8 dst.offset)
-v5 z (commands.Trace top rays count hits flags mask script) = whole (misses 8 rays.offset || misses 8 hits.offset)
-v5 z _ = None
+unfoldable pub v5 : Command → Option Place
+v5 (commands.Build infos) = first_part info_misses infos
+v5 (commands.Serialize src dst) = whole (misses 256 dst.offset)
+v5 (commands.Deserialize src dst uses) = whole (misses 256 src.offset)
+v5 (commands.Property what structures dst) = whole (misses 8 dst.offset)
+v5 (commands.Trace top rays count hits flags mask script) = whole (misses 8 rays.offset || misses 8 hits.offset)
+v5 _ = None
 
 -- whether the scratch memory of an info isn't whole within its buffer
 abbrev pub scratch_reaches_out : Status → Info → Bool
@@ -130,9 +130,9 @@ is_empty region = region.size == 0
 -- V31: `update`, `fill`: offset or size not a multiple of 4, or size 0; `update` above 65,536
 -- bytes; a region or a `read` of size 0; `read` as `u64` with a size not a multiple of 8, as `hits`
 -- not of 80
-unfoldable pub v31 : Status → Command → Option Place
-v31 z (commands.Read buffer offset size form) = whole (size == 0 || misses (record_size form) size)
-v31 z (commands.Update buffer offset content) = whole (is_no_update offset (length content))
-v31 z (commands.Fill buffer offset size value) = whole (is_no_fill offset size)
-v31 z (commands.Copy src dst regions) = first_part is_empty regions
-v31 z _ = None
+unfoldable pub v31 : Command → Option Place
+v31 (commands.Read buffer offset size form) = whole (size == 0 || misses (record_size form) size)
+v31 (commands.Update buffer offset content) = whole (is_no_update offset (length content))
+v31 (commands.Fill buffer offset size value) = whole (is_no_fill offset size)
+v31 (commands.Copy src dst regions) = first_part is_empty regions
+v31 _ = None
