@@ -1,4 +1,4 @@
-ghost use Rattle.std.specs.Prelude.{◌≡◌, slice_get};
+ghost use Rattle.std.specs.Prelude.{◌≡◌, ◌≤◌, length, slice_get};
 ghost use Rattle.std.specs.Option.{option_copied};
 ghost use Rattle.ray_status.specs.Parts.{uses_if};
 ghost use Rattle.ray_rules.specs.Origins.{info_in, info_of, is_deserialize, is_deserialized, uses_in, uses_of};
@@ -17,9 +17,11 @@ pub fn info_of<'a>(rec: &'a Recording, built: &Built) -> Option<&'a Info>
     }
 }
 
-/// The ids of the structures that the instances of a built structure may refer to. Own.
+/// The ids of the structures that the instances of a built structure may refer to, at most 2^26.
+/// Own.
 pub fn uses_of<'a>(rec: &'a Recording, built: &Built) -> &'a [u32]
-    ensures { result.now ≡ uses_of rec.now built.now }
+    ensures ids { result.now ≡ uses_of rec.now built.now }
+    ensures limit { length result.now ≤ 67108864 }
 {
     match command_at(rec, built.stamp) {
         Some(command) => uses_in(command, built.info),
@@ -60,7 +62,8 @@ fn info_in(command: &Command, k: usize) -> Option<&Info>
 
 // The ids that a command names as those that info number `k` may refer to.
 fn uses_in(command: &Command, k: usize) -> &[u32]
-    ensures { result.now ≡ uses_in k command.now }
+    ensures ids { result.now ≡ uses_in k command.now }
+    ensures limit { length result.now ≤ 67108864 }
 {
     match command {
         Command::Build { infos } => uses_of_info(infos.as_slice().get(k)),
@@ -71,7 +74,8 @@ fn uses_in(command: &Command, k: usize) -> &[u32]
 
 // The ids that an info may refer to, none where there is no info.
 fn uses_of_info(info: Option<&Info>) -> &[u32]
-    ensures { result.now ≡ uses_if (option_copied info.entry) }
+    ensures ids { result.now ≡ uses_if (option_copied info.entry) }
+    ensures limit { length result.now ≤ 67108864 }
 {
     match info {
         Some(info) => info.uses.as_slice(),

@@ -4,4 +4,7 @@
 mod buffers;
 mod names;
 mod place;
+mod shapes;
+mod sources;
 mod spans;
+mod structures;
