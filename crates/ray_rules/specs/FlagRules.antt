@@ -45,15 +45,15 @@ lacks_stage access flag stages support = access_has access flag && not (list_any
 -- `memory_write`
 unfoldable pub is_unsupported : Stages → Access → Bool
 is_unsupported stages access =
-    lacks_stage access TransferRead stages (Transfer ∷ Build ∷ [])
-    || (lacks_stage access TransferWrite stages (Transfer ∷ Build ∷ [])
-    || (lacks_stage access ShaderRead stages (Build ∷ Compute ∷ [])
-    || (lacks_stage access ShaderWrite stages (Compute ∷ [])
-    || (lacks_stage access StructureRead stages (Build ∷ Compute ∷ [])
-    || (lacks_stage access StructureWrite stages (Build ∷ [])
-    || (lacks_stage access HostRead stages (Host ∷ [])
-    || (lacks_stage access HostWrite stages (Host ∷ [])
-    || ((access_has access MemoryRead || access_has access MemoryWrite) && stages.0 == 0))))))))
+    (lacks_stage access TransferRead stages (Transfer ∷ Build ∷ [])
+    || lacks_stage access TransferWrite stages (Transfer ∷ Build ∷ []))
+    || ((lacks_stage access ShaderRead stages (Build ∷ Compute ∷ [])
+    || lacks_stage access ShaderWrite stages (Compute ∷ []))
+    || ((lacks_stage access StructureRead stages (Build ∷ Compute ∷ [])
+    || lacks_stage access StructureWrite stages (Build ∷ []))
+    || ((lacks_stage access HostRead stages (Host ∷ [])
+    || lacks_stage access HostWrite stages (Host ∷ []))
+    || ((access_has access MemoryRead || access_has access MemoryWrite) && stages.0 == 0))))
 
 -- V24: an access that no named stage of its side supports
 unfoldable pub v24 : Command → Option Place

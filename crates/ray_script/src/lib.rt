@@ -26,4 +26,4 @@ pub use crate::raw_choice::RawChoice;
 pub use crate::raw_rule::RawRule;
 pub use crate::reading::raw_rules;
 pub use crate::rule_reader::RuleReader;
-pub use crate::script::{MOST_RULES, Script, script_of};
+pub use crate::script::{MOST_RULES, Script, first_refused, script_of};

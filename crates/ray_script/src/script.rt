@@ -40,7 +40,7 @@ impl Model for Script {
 pub fn script_of(alloc: Global, rules: &[RawRule]) -> Result<Script, BadScript>
     ensures { IsScriptOf rules.now result }
 {
-    match refusal(rules) {
+    match first_refused(rules) {
         Some(number) => Err(BadScript::At(number)),
         None => Ok(Script {
             rules: rules.to_vec(alloc)?,
@@ -48,8 +48,9 @@ pub fn script_of(alloc: Global, rules: &[RawRule]) -> Result<Script, BadScript>
     }
 }
 
-// The least number that is refused.
-fn refusal(rules: &[RawRule]) -> Option<u32>
+/// The number of the first rule that is refused: the first that is out of range, or 4,096 where
+/// there are more rules and none before it is. None where the rules are those of a script. Own.
+pub fn first_refused(rules: &[RawRule]) -> Option<u32>
     ensures { result ≡ refused_at rules.now }
 {
     match first_out_of_range(rules) {

@@ -2,7 +2,9 @@
 #![tactic(auto)]
 
 mod buffers;
+mod flags;
 mod names;
+mod phases;
 mod place;
 mod shapes;
 mod sources;
