@@ -2,6 +2,8 @@
 #![tactic(auto)]
 
 mod buffers;
+mod checking;
+mod conflicts;
 mod flags;
 mod names;
 mod phases;
