@@ -1,4 +1,13 @@
-//! The static rules on a recording, decided.
+//! The static rules on a recording, decided: whether it breaks one of V1 to V24 or V28 to V31, and
+//! by which command, which rule and where.
+//!
+//! The layer above uses [`check_static`], whose one clause says that it answers `static_refusal` of
+//! ray_rules: the refusal of the first command that breaks a rule, by its least. [`refusal_of`] is
+//! the same of one command, and says in relational words too that the rule is the first of the
+//! table that is broken. A function `v1`, `v2` and so on decides each rule, in files by subject.
+//!
+//! It stands on ray_infos (the rules on the infos of a build), ray_status (what stands where),
+//! ray_ranges (which ranges meet) and ray_rules (the definitions).
 #![tactic(auto)]
 
 mod buffers;
@@ -12,3 +21,5 @@ mod shapes;
 mod sources;
 mod spans;
 mod structures;
+
+pub use crate::checking::{check_static, refusal_of};
