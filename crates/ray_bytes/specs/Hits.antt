@@ -14,6 +14,22 @@ hit_words h = h.kind ∷ h.instance ∷ h.custom ∷ h.sbt ∷ h.geometry ∷ h.
 abbrev pub hit_numbers : HitRecord → List ℕ
 hit_numbers h = h.t.0 ∷ h.t.1 ∷ h.u.0 ∷ h.u.1 ∷ h.v.0 ∷ h.v.1 ∷ []
 
+-- the hit that stands for a miss: all zero
+abbrev pub miss : HitRecord
+miss = record {
+  kind = 0;
+  instance = 0;
+  custom = 0;
+  sbt = 0;
+  geometry = 0;
+  primitive = 0;
+  face = 0;
+  spare = 0;
+  t = (0, 0);
+  u = (0, 0);
+  v = (0, 0);
+}
+
 -- the 80 bytes of a hit: eight words, then six 64-bit numbers
 abbrev pub hit_bytes : HitRecord → List ℕ
 hit_bytes h = flat_map (little_bytes 4) (hit_words h) ++ flat_map (little_bytes 8) (hit_numbers h)

@@ -5,3 +5,5 @@ pub mod Fields
 pub mod Views
 pub mod Records
 pub mod Hits
+pub mod InactiveMark
+pub mod References

@@ -1,4 +1,4 @@
-ghost use Rattle.std.specs.Prelude.{◌≡◌, ◌<◌, ◌^◌, length, All};
+ghost use Rattle.std.specs.Prelude.{◌≡◌, ◌<◌, ◌^◌, length, replicate, All};
 
 use crate::fields::{long, word};
 use byteorder::{ByteOrder, LittleEndian};
@@ -32,7 +32,7 @@ pub struct HitRecord {
 }
 
 impl HitRecord {
-    ghost use Rattle.ray_bytes.specs.Hits.{hit_words, hit_numbers, hit_bytes, hit_of_bytes};
+    ghost use Rattle.ray_bytes.specs.Hits.{hit_words, hit_numbers, hit_bytes, hit_of_bytes, miss};
 
     /// How many bytes a record has.
     pub const SIZE: usize = 80;
@@ -57,6 +57,9 @@ impl HitRecord {
         requires { length out.old ≡ 80 }
         ensures written { out.new ≡ hit_bytes self.now }
         ensures reads_back { hit_of_bytes out.new ≡ self.now }
+
+        // A miss is 80 zero bytes.
+        ensures miss { self.now ≡ miss → out.new ≡ replicate 80 0 }
     {
         let words = self.words();
         let numbers = self.numbers();

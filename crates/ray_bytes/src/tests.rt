@@ -1,6 +1,7 @@
 use crate::{
-    BoxView, Format, HitRecord, IndexView, InstanceRecord, InstanceView, Parts, RayRecord, RayView,
-    Sizes, TransformView, VertexView, compacted_of, sizes_of,
+    BoxView, Format, HitRecord, INACTIVE_MARK, IndexView, InstanceRecord, InstanceView, Parts,
+    RayRecord, RayView, Reference, Sizes, TransformView, VertexView, compacted_of,
+    is_inactive_mark, reference_of, sizes_of, structure_of,
 };
 use std::alloc::{AllocError, Global};
 use std::test::Fail;
@@ -363,4 +364,25 @@ fn lays_out_hits(rt: HostRuntime) {
         assert_eq!(rt; bytes, want, "{name}");
         assert_eq!(rt; HitRecord::read(&bytes), record, "{name}");
     }
+}
+
+#[test]
+fn names_structures(rt: HostRuntime) {
+    let rows = [
+        (0, Reference::Inactive),
+        (1, Reference::Unknown),
+        (255, Reference::Unknown),
+        (256, Reference::Structure(0)),
+        (257, Reference::Unknown),
+        (768, Reference::Structure(2)),
+        (0x100_0000_0000, Reference::Structure(u32::MAX)),
+        (0x100_0000_0100, Reference::Unknown),
+        (u64::MAX, Reference::Unknown),
+    ];
+    for (reference, want) in rows {
+        assert_eq!(rt; structure_of(reference), want, "{reference}");
+    }
+    assert_eq!(rt; reference_of(2), 768);
+    assert!(rt; is_inactive_mark(INACTIVE_MARK));
+    assert!(rt; !is_inactive_mark(i32::MAX));
 }
