@@ -1,4 +1,5 @@
 ghost use Rattle.std.specs.Prelude.{◌≤◌, IfOk, IfErr, MatchResult, length};
+ghost use Rattle.ray_state.specs.Run.{HaveMeaning};
 ghost use Rattle.vkray.specs.PathForm.{IsBuilt, IsFirstUnbuilt};
 ghost use Rattle.vkray.specs.Reply.{IsDone};
 ghost use Rattle.vkray.specs.Stops.{IsRunText, IsBuiltText, StopsInput, StopsRun, StopsBelow};
@@ -52,7 +53,8 @@ fn run_all<R: Threads + Sync, G: Gate + Sync>(
     recording: &Recording,
     gate: &G,
 ) -> Result<Vec<u8>, Stop>
-    requires { IsBuilt recording.now }
+    requires built { IsBuilt recording.now }
+    requires meant { HaveMeaning recording.now (length recording.now) }
     ensures { MatchResult result
         (λ text. IsBuiltText recording.now text.items)
         (StopsRun recording.now) }
@@ -73,6 +75,7 @@ fn run_below<R: Threads + Sync, G: Gate + Sync>(
 ) -> Stop
     requires first { IsFirstUnbuilt recording.now command }
     requires within { command ≤ length recording.now }
+    requires meant { HaveMeaning recording.now command }
     ensures { StopsRun recording.now result }
 {
     if let Err(fault) = run_until(rt, alloc, recording, command, gate) {
@@ -89,7 +92,8 @@ fn run_until<R: Threads + Sync, G: Gate + Sync>(
     until: u32,
     gate: &G,
 ) -> Result<Vec<u8>, RunFault>
-    requires { until ≤ length recording.now }
+    requires within { until ≤ length recording.now }
+    requires meant { HaveMeaning recording.now until }
     ensures ok { IfOk result (λ text. IsRunText recording.now until text.items) }
     ensures err { IfErr result (StopsBelow recording.now until) }
 {

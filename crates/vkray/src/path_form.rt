@@ -1,4 +1,5 @@
 ghost use Rattle.std.specs.Prelude.{◌≡◌, ◌≤◌, IfSome, IfNone, length, slice_get, Some};
+ghost use Rattle.ray_state.specs.Run.{HaveMeaning};
 ghost use Rattle.vkray.specs.PathForm.{path_form, agrees, IsBuilt, IsFirstUnbuilt, is_barrier};
 
 use crate::path_buffers::{is_input_buffer, is_plain_buffer, is_ray_buffer};
@@ -19,6 +20,10 @@ pub fn first_unbuilt(rec: &Recording) -> Option<u32>
     ensures unbuilt { IfSome result (IsFirstUnbuilt rec.now) }
     ensures within { IfSome result (λ i. i ≤ length rec.now) }
     ensures built { IfNone result (IsBuilt rec.now) }
+
+    // Every form that runs has a meaning.
+    ensures meant_below { IfSome result (λ i. HaveMeaning rec.now i) }
+    ensures meant { IfNone result (HaveMeaning rec.now (length rec.now)) }
 {
     for i in 0..rec.len() {
         if !has_form(i, rec.command(i)) {

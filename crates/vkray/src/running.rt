@@ -1,15 +1,15 @@
-ghost use Rattle.std.specs.Prelude.{◌≡◌, ◌++◌, ◌<◌, ◌≤◌, length, IfOk, IfErr, OnOk};
+ghost use Rattle.std.specs.Prelude.{◌≡◌, ◌++◌, ◌<◌, ◌≤◌, length, IfOk, IfErr, IsTrue, OnOk};
 ghost use Rattle.ray_state.specs.Memory.{Location, memory_of, nothing_live};
-ghost use Rattle.ray_state.specs.Action.{action_at, device_action_at, pieces_of};
+ghost use Rattle.ray_state.specs.Action.{action_at, device_action_at, has_meaning};
 ghost use Rattle.ray_state.specs.Meaning.{outcome_of, Gives};
-ghost use Rattle.ray_state.specs.Run.{after, shown, text_before, IsClean, IsRefusal};
+ghost use Rattle.ray_state.specs.Run.{after, shown, text_before, HaveMeaning, IsClean, IsRefusal};
 ghost use Rattle.vkray.specs.Stepping.{IsStep, Stops, stop_of};
 
 use crate::gate::Gate;
 use crate::run_fault::RunFault;
 use ray_cmd::{Recording, Refusal, Rule};
 use ray_geom::Steps;
-use ray_state::{FetchFault, Piece, PieceOut, State, fetch, pieces, store};
+use ray_state::{FetchFault, Piece, PieceOut, State, fetch, is_host, store};
 use std::alloc::Global;
 use std::marker::Brand;
 use std::thread::Threads;
@@ -28,6 +28,7 @@ pub fn run_waves<R: Threads + Sync, G: Gate + Sync>(
 ) -> Result<Vec<u8>, RunFault>
     requires new { (l : Location) → memory_of state.old l ≡ nothing_live l }
     requires within { until ≤ length rec.now }
+    requires meant { HaveMeaning rec.now until }
     ensures text { IfOk result (λ text. text.items ≡ text_before rec.now until) }
     ensures clean { OnOk result (IsClean rec.now until) }
     ensures refused { (r : Refusal) → result ≡ Err (RunFault.Refused r) → IsRefusal rec.now until r }
@@ -49,15 +50,17 @@ fn step<R: Threads + Sync, G: Gate + Sync>(
     text: &mut Vec<u8>,
     gate: &G,
 ) -> Result<(), RunFault>
-    requires { command < length rec.now }
+    requires within { command < length rec.now }
+    requires meant { IsTrue (has_meaning (action_at rec.now command)) }
     ensures ok { OnOk result
         (IsStep (action_at rec.now command) (memory_of state.old) (memory_of state.new) text.old.items text.new.items) }
     ensures err { IfErr result (Stops command (outcome_of (action_at rec.now command) (memory_of state.old))) }
 {
-    if pieces(rec, command) == 0 {
+    if is_host(rec, command) {
         state.text(rec, command, text)?;
         state.host(rec, command)?;
     } else {
+        // What has a meaning has one piece so far.
         let out = fetched(rt, alloc, state, rec, Piece { command, part: 0 }, gate)?;
         store(state, rec, out);
     }
@@ -73,7 +76,8 @@ fn fetched<R: Threads + Sync, G: Gate + Sync>(
     piece: Piece,
     gate: &G,
 ) -> Result<PieceOut, RunFault>
-    requires { piece.command < length rec.now }
+    requires within { piece.command < length rec.now }
+    requires meant { IsTrue (has_meaning (device_action_at rec.now piece.command)) }
     ensures piece { IfOk result (λ out. out.piece ≡ piece) }
     ensures output { IfOk result (λ out.
         outcome_of (device_action_at rec.now piece.command) (memory_of state.now) ≡ Gives out.output) }
