@@ -12,7 +12,7 @@ use Rattle.ray_geom.proofs.Fractions.{same_chain, IsLowest-div, IsSameValue-div}
 use Rattle.ray_geom.specs.Gauss.{gcd_exists, same_num, same_den}
 use Rattle.ray_geom.specs.TriangleHit.{num_of, den_of, second_volume, third_volume, IsHit, IsRatio, Tells}
 use Rattle.ray_geom.specs.Decided.{where_so, hit_decided}
-use Rattle.ray_geom.specs.HitValue.{quotient, is_negative, told_of, hit_of, hit_value}
+use Rattle.ray_geom.specs.HitValue.{lowest_terms, quotient, is_negative, told_of, hit_of, hit_value}
 
 where_so-yes : {P X : Type 0} (d : Dec P) (x : X) → P → where_so d x ≡ Some x
 where_so-yes (yes p) x h = refl
@@ -29,14 +29,10 @@ positive_factor (suc a) b h = omega arith
 abs_positive : (z : ℤ) → z ≢ pos 0 → 0 < unsigned_abs z
 abs_positive z h = grind (arith, ints)
 
--- a fraction in lowest terms of the value num / den is the quotient
-pub quotient-IsRatio : (f : Frac) (num den : ℤ) → den ≢ pos 0 → IsRatio f num den → (numerator f, denominator f) ≡ quotient num den
-quotient-IsRatio f num den crosses ratio =
-    let n = unsigned_abs num in
-    let d = unsigned_abs den in
-    let d_positive : 0 < d = abs_positive den crosses in
+-- a fraction of the value n / d has its numbers in lowest terms
+pub lowest_terms-same : (f : Frac) (n d : ℕ) → 0 < d → IsSameValue f.num f.den n d → (numerator f, denominator f) ≡ lowest_terms n d
+lowest_terms-same f n d d_positive value =
     let g = gcd_exists n d in
-    let value : IsSameValue f.num f.den n d = sym (unsigned_abs-mul (pos f.num) den) ∙ (ap unsigned_abs ratio ∙ unsigned_abs-mul num (pos f.den)) in
     let back : d / g.0 * g.0 ≡ d = div-mul_cancel g.0 g.1.1 in
     let positive : 0 < d / g.0 = positive_factor (d / g.0) g.0 (subst (λ x. 0 < x) (sym back) d_positive) in
     let lowest : IsLowest (n / g.0) (d / g.0) = IsLowest-div n d g.0 d_positive g.1 in
@@ -45,6 +41,12 @@ quotient-IsRatio f num den crosses ratio =
     let num_path : f.num ≡ n / g.0 = same_num f.num f.den (n / g.0) (d / g.0) f.limits.den_positive positive f.lowest lowest same in
     let den_path : f.den ≡ d / g.0 = same_den f.num f.den (n / g.0) (d / g.0) f.limits.den_positive positive f.lowest lowest same in
     λ i. (num_path i, den_path i)
+
+-- a fraction in lowest terms of the value num / den is the quotient
+pub quotient-IsRatio : (f : Frac) (num den : ℤ) → den ≢ pos 0 → IsRatio f num den → (numerator f, denominator f) ≡ quotient num den
+quotient-IsRatio f num den crosses ratio =
+    lowest_terms-same f (unsigned_abs num) (unsigned_abs den) (abs_positive den crosses)
+    (sym (unsigned_abs-mul (pos f.num) den) ∙ (ap unsigned_abs ratio ∙ unsigned_abs-mul num (pos f.den)))
 
 pub is_negative-tells : (b : Bool) (z : ℤ) → IsTrue b ↔ (z <ℤ pos 0) → b ≡ is_negative z
 is_negative-tells true (pos n) h = absurd (let below : pos n <ℤ pos 0 = h.0 refl in omega (arith, ints))

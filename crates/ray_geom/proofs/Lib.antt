@@ -14,4 +14,5 @@ pub mod Sizes
 pub mod ObjectRays
 pub mod Slabs
 pub mod Reaches
+pub mod Entries
 pub mod LeastBoxes

@@ -1,6 +1,6 @@
 -- That rays, triangles and hits are decided: each either is one, or isn't. The definitions that give a value where a
 -- fact holds stand on these. (Own.)
-use Rattle.std.specs.Prelude.{ℕ, ℤ, pos, neg_ℤ, ◌≡◌, ◌≤◌, ◌^◌, ◌≤ℤ◌, Option, Some, None, refl}
+use Rattle.std.specs.Prelude.{ℕ, ℤ, pos, neg_ℤ, ◌≡◌, ◌*◌, ◌≤◌, ◌^◌, ◌≤ℤ◌, Option, Some, None, refl}
 use Rattle.std.specs.Ordering.{int_eq}
 use Rattle.std.specs.declared.cmp.Ordering.{Ordering}
 use Rattle.std.specs.declared.cmp.Ordering.TheVariants.{Less, Equal, Greater}
@@ -12,6 +12,10 @@ use Rattle.ray_geom.specs.declared.vec3.Vec3.{Vec3}
 use Rattle.ray_geom.specs.Vector.{IsWithin, IsShort, vec3, sign_of}
 use Rattle.ray_geom.specs.Scene.{RayValue, TriValue, IsRay, IsTri}
 use Rattle.ray_geom.specs.EdgeSide.{side_of}
+use Rattle.ray_geom.specs.Boxes.{BoxValue, IsBox}
+use Rattle.ray_geom.specs.Transform.{MatrixValue, IsMatrix, det_of}
+use Rattle.ray_geom.specs.ObjectRay.{ObjectRayValue}
+use Rattle.ray_geom.specs.BoxSpan.{IsBetween, IsInside}
 use Rattle.ray_geom.specs.TriangleHit.{num_of, den_of, IsFrom, IsTo, IsHit}
 
 -- the value where a fact holds
@@ -95,3 +99,30 @@ hit_decided ray tri = same_as
     (both (same_ordering (side_of ray tri.v2 tri.v0) (sign_of (den_of ray tri)))
     (both (same_ordering (side_of ray tri.v0 tri.v1) (sign_of (den_of ray tri)))
     (both (from_decided ray.tmin (num_of ray tri) (den_of ray tri)) (to_decided ray.tmax (num_of ray tri) (den_of ray tri)))))))
+
+between_decided : (near far o m : ℤ) (n d : ℕ) → Dec (IsBetween near far o m n d)
+between_decided near far o m n d =
+    same_as (λ h. record { above = h.0; below = h.1 }) (λ h. (h.above, h.below)) (both (at_most_int _ _) (at_most_int _ _))
+
+pub inside_decided : (object : ObjectRayValue) (box : BoxValue) (n d : ℕ) → Dec (IsInside object box n d)
+inside_decided object box n d = same_as
+    (λ h. record { x = h.0; y = h.1.0; z = h.1.1.0; from = h.1.1.1.0; to = h.1.1.1.1 })
+    (λ h. (h.x, (h.y, (h.z, (h.from, h.to)))))
+    (both (between_decided _ _ object.origin.x object.dir.x n d)
+    (both (between_decided _ _ object.origin.y object.dir.y n d)
+    (both (between_decided _ _ object.origin.z object.dir.z n d)
+    (both (at_most (object.tmin * d) (65536 * n)) (at_most (65536 * n) (object.tmax * d))))))
+
+pub matrix_decided : (m : MatrixValue) → Dec (IsMatrix m)
+matrix_decided m = same_as
+    (λ h. record { a_short = h.0; b_short = h.1.0; c_short = h.1.1.0; t_short = h.1.1.1.0; det_not_zero = h.1.1.1.1 })
+    (λ h. (h.a_short, (h.b_short, (h.c_short, (h.t_short, h.det_not_zero)))))
+    (both (short_decided (2 ^ 12) m.a) (both (short_decided (2 ^ 12) m.b) (both (short_decided (2 ^ 12) m.c)
+    (both (short_decided (2 ^ 20) m.t) (not_so (same_int (det_of m) (pos 0)))))))
+
+pub box_decided : (box : BoxValue) → Dec (IsBox box)
+box_decided box = same_as
+    (λ h. record { lo_short = h.0; hi_short = h.1.0; x_ordered = h.1.1.0; y_ordered = h.1.1.1.0; z_ordered = h.1.1.1.1 })
+    (λ h. (h.lo_short, (h.hi_short, (h.x_ordered, (h.y_ordered, h.z_ordered)))))
+    (both (short_decided (2 ^ 19) box.lo) (both (short_decided (2 ^ 19) box.hi)
+    (both (at_most_int _ _) (both (at_most_int _ _) (at_most_int _ _)))))

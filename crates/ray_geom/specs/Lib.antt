@@ -20,4 +20,5 @@ pub mod Crossing
 pub mod ObjectRay
 pub mod BoxSpan
 pub mod Slabs
+pub mod BoxReach
 pub mod Equality

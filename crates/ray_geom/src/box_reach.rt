@@ -2,6 +2,7 @@ ghost use Rattle.std.specs.Prelude.{◌≡◌, ℕ, ◌+◌, ◌*◌, ◌^◌, �
 ghost use Rattle.ray_geom.specs.Vector.{IsWithin};
 ghost use Rattle.ray_geom.specs.Fraction.{IsFraction, IsAtMost};
 ghost use Rattle.ray_geom.specs.BoxSpan.{near_end, far_end, IsBetween, IsOnAxis, IsInside, AreFractions, IsReach};
+ghost use Rattle.ray_geom.specs.BoxReach.{IsSameReach, reach_of};
 ghost use Rattle.ray_geom.specs.Slabs.{IsAxis, IsPast, IsBefore, IsInSlab, IsSlab, Covers, Narrows, Never};
 
 use crate::box3::Box3;
@@ -10,14 +11,28 @@ use crate::object::ObjectRay;
 use crate::slab::Slab;
 use crate::reach::Reach;
 
-/// From where to where the ray is inside the box, ends included: from the least to the greatest
-/// distance of the ray's interval at which it is inside on all three axes. None exactly where there
-/// is no such distance. (Own; for the intersection of rays with AABBs in "Ray Traversal" of the
-/// Vulkan specification.)
+/// From where to where the ray is inside the box, ends included, as [`span_box`](crate::span_box) says
+/// it, with ends that aren't in lowest terms. It takes no greatest common divisor, so it costs some
+/// twentieth of it. (Own; for the intersection of rays with AABBs in "Ray Traversal" of the Vulkan
+/// specification.)
 pub fn reach_box(ray: &ObjectRay, b: &Box3) -> Option<Reach>
-    ensures some { IfSome result (λ reach. IsReach ray.now b.now reach) }
-    ensures limits { IfSome result AreFractions }
+    ensures some { IfSome result (IsReach ray.now b.now) }
     ensures none { IfNone result ((n d : ℕ) → 0 < d → ¬ IsInside ray.now b.now n d) }
+
+    // Both ends can be put in lowest terms.
+    ensures limits { IfSome result AreFractions }
+
+    // The same as one function of the ray and the box, by value.
+    ensures value { IsSameReach result (reach_of ray.now b.now) }
+{
+    narrowed(ray, b)
+}
+
+// The interval, narrowed to the box on the three axes.
+fn narrowed(ray: &ObjectRay, b: &Box3) -> Option<Reach>
+    ensures some { IfSome result (IsReach ray.now b.now) }
+    ensures none { IfNone result ((n d : ℕ) → 0 < d → ¬ IsInside ray.now b.now n d) }
+    ensures limits { IfSome result AreFractions }
 {
     let all = interval(ray.tmin, ray.tmax);
     let x = on_axis(all, ray.det, b.lo.x, b.hi.x, ray.origin.x, ray.dir.x)?;

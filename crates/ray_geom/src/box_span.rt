@@ -1,5 +1,6 @@
-ghost use Rattle.std.specs.Prelude.{ℕ, ◌<◌, IfSome, IfNone};
+ghost use Rattle.std.specs.Prelude.{◌≡◌, ℕ, ◌<◌, IfSome, IfNone, option_map};
 ghost use Rattle.ray_geom.specs.BoxSpan.{IsInside, IsSpan};
+ghost use Rattle.ray_geom.specs.BoxReach.{span_of, span_value};
 
 use crate::box_reach::reach_box;
 use crate::box3::Box3;
@@ -12,7 +13,21 @@ use crate::span::Span;
 /// common divisors. (Own; for the intersection of rays with AABBs in "Ray Traversal" of the Vulkan
 /// specification.)
 pub fn span_box(ray: &ObjectRay, b: &Box3) -> Option<Span>
-    ensures some { IfSome result (λ span. IsSpan ray.now b.now span) }
+    ensures some { IfSome result (IsSpan ray.now b.now) }
+    ensures none { IfNone result ((n d : ℕ) → 0 < d → ¬ IsInside ray.now b.now n d) }
+
+    // There is one span of a ray and a box.
+    ensures only { IfSome result (λ span. (other : Span) → IsSpan ray.now b.now other → other ≡ span) }
+
+    // The same as one function of the ray and the box.
+    ensures value { option_map span_value result ≡ span_of ray.now b.now }
+{
+    reduced(ray, b)
+}
+
+// The reach in lowest terms.
+fn reduced(ray: &ObjectRay, b: &Box3) -> Option<Span>
+    ensures some { IfSome result (IsSpan ray.now b.now) }
     ensures none { IfNone result ((n d : ℕ) → 0 < d → ¬ IsInside ray.now b.now n d) }
 {
     match reach_box(ray, b) {

@@ -16,11 +16,12 @@ pub struct Ratio {
 }
 
 impl Ratio {
-    ghost use Rattle.ray_geom.specs.Ratio.{ratio_of};
+    ghost use Rattle.ray_geom.specs.Ratio.{ratio_of, ratio_at};
 
     /// The ratio of a fraction in lowest terms.
     pub fn of(f: Frac) -> Ratio
-        ensures { result ≡ ratio_of f }
+        ensures value { result ≡ ratio_of f }
+        ensures at { result ≡ ratio_at (numerator f) (denominator f) }
     {
         let (num, den) = f.lowest();
         Ratio { num, den }

@@ -1,57 +1,10 @@
-use Rattle.std.proofs.Common.{sym, subst, arith}
-use Rattle.std.specs.Prelude.{IfNone}
-use Rattle.std.proofs.lemmas.Bool.Decides.{nat_tests}
-use Rattle.ray_geom.specs.Boxes.{box_value}
-use Rattle.ray_geom.specs.ObjectRay.{object_value}
-use Rattle.ray_geom.specs.BoxSpan.{IsInside, IsReach}
-use Rattle.ray_geom.specs.Slabs.{Never}
-use Rattle.ray_geom.proofs.Reaches.{at_values, IsNarrowed-held, IsReach-narrowed, Never-narrowed, Never-x, Never-y, Never-z}
+use Rattle.ray_geom.proofs.Entries.{IsSameReach-of, reach_of-some, reach_of-none}
+use Rattle.ray_geom.specs.BoxReach.{reach_of}
 use Rattle.ray_geom.proofs.box_reach.reach_box.Goals as goal
 
-pub returns-in_err-x-clause-none : goal.returns-in_err-x-clause-none
-returns-in_err-x-clause-none c =
-    let ray = object_value c.ray.inside.origin c.ray.inside.dir c.ray.inside.det c.ray.inside.tmin c.ray.inside.tmax in
-    let box = box_value c.b.inside.lo c.b.inside.hi in
-    at_values (λ r b. IfNone c.from_residual.result (Never (IsInside r b))) ray c.args.ray.now box c.args.b.now c.ray.view_is c.b.view_is
-    (subst (λ o. IfNone o (Never (IsInside ray box))) (sym c.from_residual.ensures)
-    (Never-x ray box c.ray.invariant c.b.invariant c.in_err-x.ensures.none))
-
-pub returns-in_err-y-clause-none : goal.returns-in_err-y-clause-none
-returns-in_err-y-clause-none c =
-    let ray = object_value c.ray.inside.origin c.ray.inside.dir c.ray.inside.det c.ray.inside.tmin c.ray.inside.tmax in
-    let box = box_value c.b.inside.lo c.b.inside.hi in
-    at_values (λ r b. IfNone c.from_residual-in_err-y.result (Never (IsInside r b))) ray c.args.ray.now box c.args.b.now c.ray.view_is c.b.view_is
-    (subst (λ o. IfNone o (Never (IsInside ray box))) (sym c.from_residual-in_err-y.ensures)
-    (Never-y ray box c.ray.invariant c.b.invariant c.in_err-y.ensures.none))
-
-pub returns-in_err-z-clause-none : goal.returns-in_err-z-clause-none
-returns-in_err-z-clause-none c =
-    let ray = object_value c.ray.inside.origin c.ray.inside.dir c.ray.inside.det c.ray.inside.tmin c.ray.inside.tmax in
-    let box = box_value c.b.inside.lo c.b.inside.hi in
-    at_values (λ r b. IfNone c.from_residual-in_err-z.result (Never (IsInside r b))) ray c.args.ray.now box c.args.b.now c.ray.view_is c.b.view_is
-    (subst (λ o. IfNone o (Never (IsInside ray box))) (sym c.from_residual-in_err-z.ensures)
-    (Never-z ray box c.ray.invariant c.b.invariant c.in_err-z.ensures.none))
-
-pub returns-then-le-clause-some : goal.returns-then-le-clause-some
-returns-then-le-clause-some c =
-    let ray = object_value c.ray.inside.origin c.ray.inside.dir c.ray.inside.det c.ray.inside.tmin c.ray.inside.tmax in
-    let box = box_value c.b.inside.lo c.b.inside.hi in
-    at_values (λ r b. IsReach r b c.in_ok-z.z) ray c.args.ray.now box c.args.b.now c.ray.view_is c.b.view_is
-    (IsReach-narrowed ray box c.interval-all.result c.in_ok-x.x c.in_ok-y.y c.in_ok-z.z
-    (IsNarrowed-held ray box c.interval-all.result c.in_ok-x.x c.in_ok-y.y c.in_ok-z.z c.ray.invariant c.b.invariant
-    c.interval-all.ensures.covers c.in_ok-x.ensures.some c.in_ok-y.ensures.some c.in_ok-z.ensures.some)
-    (grind (arith, nat_tests)))
-
-pub returns-else-le-clause-none : goal.returns-else-le-clause-none
-returns-else-le-clause-none c =
-    let ray = object_value c.ray.inside.origin c.ray.inside.dir c.ray.inside.det c.ray.inside.tmin c.ray.inside.tmax in
-    let box = box_value c.b.inside.lo c.b.inside.hi in
-    at_values (λ r b. Never (IsInside r b)) ray c.args.ray.now box c.args.b.now c.ray.view_is c.b.view_is
-    (Never-narrowed ray box c.interval-all.result c.in_ok-x.x c.in_ok-y.y c.in_ok-z.z
-    (IsNarrowed-held ray box c.interval-all.result c.in_ok-x.x c.in_ok-y.y c.in_ok-z.z c.ray.invariant c.b.invariant
-    c.interval-all.ensures.covers c.in_ok-x.ensures.some c.in_ok-y.ensures.some c.in_ok-z.ensures.some)
-    (λ le. grind (arith, nat_tests)))
-
-pub returns-then-le-clause-limits : goal.returns-then-le-clause-limits
-returns-then-le-clause-limits c =
-    c.in_ok-z.ensures.limits (c.in_ok-y.ensures.limits (c.in_ok-x.ensures.limits c.interval-all.ensures.limits))
+pub returns-clause-value : goal.returns-clause-value
+returns-clause-value c =
+    let ray = c.args.ray.now in
+    let box = c.args.b.now in
+    IsSameReach-of ray box c.narrowed.result (reach_of ray box) c.narrowed.ensures.some c.narrowed.ensures.none
+    (reach_of-some ray box) (reach_of-none ray box)

@@ -1,7 +1,9 @@
-use Rattle.ray_geom.proofs.Reaches.{IsSpan-reduced}
+use Rattle.ray_geom.proofs.Entries.{IfSome-only, span_of-IsSpan}
 use Rattle.ray_geom.proofs.box_span.span_box.Goals as goal
 
-pub returns-in-Some-clause-some : goal.returns-in-Some-clause-some
-returns-in-Some-clause-some c =
-    IsSpan-reduced c.args.ray.now c.args.b.now c.in-Some.reach c.reduced.result c.reduced-in-Some.result
-    c.in-Some.ensures.some c.reduced.ensures c.reduced-in-Some.ensures
+pub returns-clause-only : goal.returns-clause-only
+returns-clause-only c = IfSome-only c.args.ray.now c.args.b.now c.reduced.result c.reduced.ensures.some
+
+pub returns-clause-value : goal.returns-clause-value
+returns-clause-value c =
+    span_of-IsSpan c.args.ray.now c.args.b.now c.reduced.result c.reduced.ensures.some c.reduced.ensures.none
