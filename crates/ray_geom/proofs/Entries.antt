@@ -1,6 +1,6 @@
 -- The entry and the exit as functions are the reach, where any distance is inside.
 use Rattle.std.proofs.Common.{ℕ, zero, suc, ◌≡◌, ◌*◌, ◌<◌, ◌≤◌, Option, Some, None, option_map, Bool, true, false, cond, nat_le, refl, sym, ◌∙◌, arith}
-use Rattle.std.specs.Prelude.{ℤ, pos, negsuc, ◌-ℤ◌, ◌*ℤ◌, ◌≤ℤ◌, ◌↔◌, unsigned_abs, IfSome, IfNone}
+use Rattle.std.specs.Prelude.{ℤ, pos, negsuc, ◌-ℤ◌, ◌*ℤ◌, ◌≤ℤ◌, ◌↔◌, unsigned_abs, IsSome, IfSome, IfNone}
 use Rattle.std.specs.Cmp.{nat_cmp_is}
 use Rattle.std.specs.Ordering.{nat_cmp}
 use Rattle.std.specs.declared.cmp.Ordering.TheVariants.{Equal}
@@ -317,3 +317,14 @@ ratio_at-positive n (suc d) positive =
 
 pub ratio_at-is : (r : Ratio) (n d : ℕ) → r.num ≡ n → r.den ≡ d → r ≡ ratio_at n d
 ratio_at-is r n d p q = sym (ratio_at-positive r.num r.den r.positive) ∙ (λ i. ratio_at (p i) (q i))
+
+-- where any distance is inside the box is met
+met_by : (object : ObjectRayValue) (box : BoxValue) (n d : ℕ) → 0 < d → IsInside object box n d →
+    (dec : Dec (IsInside object box (entry_of object box).num (entry_of object box).den)) →
+    IsSome (where_so dec (reach_value (entry_of object box) (exit_of object box)))
+met_by object box n d positive i (yes is) = refl
+met_by object box n d positive i (no never) = absurd (never (IsReach-of object box n d positive i).entry)
+
+pub reach_of-met : (object : ObjectRayValue) (box : BoxValue) (n d : ℕ) → 0 < d → IsInside object box n d → IsSome (reach_of object box)
+reach_of-met object box n d positive i =
+    met_by object box n d positive i (inside_decided object box (entry_of object box).num (entry_of object box).den)

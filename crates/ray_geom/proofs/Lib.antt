@@ -15,4 +15,9 @@ pub mod ObjectRays
 pub mod Slabs
 pub mod Reaches
 pub mod Entries
+pub mod Scaling
+pub mod Cramer
+pub mod Inside
+pub mod Corners
+pub mod World
 pub mod LeastBoxes

@@ -13,15 +13,15 @@ use Rattle.ray_geom.proofs.Determinant.{regroup}
 use Rattle.ray_geom.proofs.Triple.{scaled, turn, twice, same_ends}
 use Rattle.ray_geom.proofs.Sizes.{cross_short, dot_within, det_within}
 
-folded : (a b c v : ℤ) → ((a +ℤ b) +ℤ c) *ℤ v ≡ ((a *ℤ v) +ℤ (b *ℤ v)) +ℤ (c *ℤ v)
+pub folded : (a b c v : ℤ) → ((a +ℤ b) +ℤ c) *ℤ v ≡ ((a *ℤ v) +ℤ (b *ℤ v)) +ℤ (c *ℤ v)
 folded a b c v = simp +ℤ-*ℤ
 
 -- the matrix with these three columns
-abbrev columns : Vec3 → Vec3 → Vec3 → Rows
+abbrev pub columns : Vec3 → Vec3 → Vec3 → Rows
 columns p q s = record { a = vec3 p.x q.x s.x; b = vec3 p.y q.y s.y; c = vec3 p.z q.z s.z }
 
 -- a row times a matrix times a vector, column by column
-dot_of-columns : (r p q s v : Vec3) →
+pub dot_of-columns : (r p q s v : Vec3) →
     dot_of r (times_of (columns p q s) v) ≡ ((dot_of r p *ℤ v.x) +ℤ (dot_of r q *ℤ v.y)) +ℤ (dot_of r s *ℤ v.z)
 dot_of-columns r p q s v =
     rw (scaled r.x (vec3 p.x q.x s.x) v, scaled r.y (vec3 p.y q.y s.y) v, scaled r.z (vec3 p.z q.z s.z) v)
@@ -54,7 +54,7 @@ only_third p q r x y z p_zero q_zero =
     omega (arith, ints)
 
 -- M adj(M) v = det v
-MapsTo-adjugate : (m : MatrixValue) (v : Vec3) → MapsTo m (adjugate_times m v) (det_of m) v
+pub MapsTo-adjugate : (m : MatrixValue) (v : Vec3) → MapsTo m (adjugate_times m v) (det_of m) v
 MapsTo-adjugate m v =
     let p = cross_of m.b m.c in
     let q = cross_of m.c m.a in

@@ -21,15 +21,15 @@ dot_of-neg d m n p q r =
     rw (p, q, r, *ℤ-neg_ℤ d.x n.x, *ℤ-neg_ℤ d.y n.y, *ℤ-neg_ℤ d.z n.z) (omega (arith, ints))
 
 -- a product of three, turned
-turn_product : (a b c : ℤ) → a *ℤ (b *ℤ c) ≡ b *ℤ (c *ℤ a)
+pub turn_product : (a b c : ℤ) → a *ℤ (b *ℤ c) ≡ b *ℤ (c *ℤ a)
 turn_product a b c = *ℤ_comm a (b *ℤ c) ∙ sym (*ℤ_assoc b c a)
 
 -- a product of three, with the first two exchanged
-swap_product : (a b c : ℤ) → a *ℤ (b *ℤ c) ≡ b *ℤ (a *ℤ c)
+pub swap_product : (a b c : ℤ) → a *ℤ (b *ℤ c) ≡ b *ℤ (a *ℤ c)
 swap_product a b c = turn_product a b c ∙ ap (λ x. b *ℤ x) (*ℤ_comm c a)
 
 -- the triple product as six products of three
-six : (x y z : Vec3) →
+pub six : (x y z : Vec3) →
     dot_of x (cross_of y z) ≡
     (((x.x *ℤ (y.y *ℤ z.z)) -ℤ (x.x *ℤ (y.z *ℤ z.y))) +ℤ ((x.y *ℤ (y.z *ℤ z.x)) -ℤ (x.y *ℤ (y.x *ℤ z.z)))) +ℤ
     ((x.z *ℤ (y.x *ℤ z.y)) -ℤ (x.z *ℤ (y.y *ℤ z.x)))

@@ -41,7 +41,7 @@ pub not_zero_by_sign : (v den : ℤ) → sign_of v ≡ sign_of den → den ≢ p
 not_zero_by_sign v den h den_not_zero zero_v = grind (arith, ints)
 
 -- the sign times the number is its absolute value
-signum-self : (den : ℤ) → int_signum den *ℤ den ≡ pos (unsigned_abs den)
+pub signum-self : (den : ℤ) → int_signum den *ℤ den ≡ pos (unsigned_abs den)
 signum-self (pos zero) = refl
 signum-self (pos (suc n)) = grind (arith, ints)
 signum-self (negsuc n) = grind (arith, ints)
@@ -50,7 +50,7 @@ swap : (a b c : ℤ) → a *ℤ (b *ℤ c) ≡ b *ℤ (a *ℤ c)
 swap a b c = *ℤ_assoc a b c ∙ (ap (λ x. x *ℤ c) (*ℤ_comm a b) ∙ sym (*ℤ_assoc b a c))
 
 -- k den = s num, with both multiplied by the sign of den
-over_size-weighed : (k s : ℕ) (num den : ℤ) → pos k *ℤ den ≡ pos s *ℤ num →
+pub over_size-weighed : (k s : ℕ) (num den : ℤ) → pos k *ℤ den ≡ pos s *ℤ num →
     pos k *ℤ pos (unsigned_abs den) ≡ pos s *ℤ over_size num den
 over_size-weighed k s num den h =
     ap (λ x. pos k *ℤ x) (sym (signum-self den)) ∙

@@ -21,4 +21,5 @@ pub mod ObjectRay
 pub mod BoxSpan
 pub mod Slabs
 pub mod BoxReach
+pub mod Pruning
 pub mod Equality

@@ -33,6 +33,7 @@ mod matrix;
 mod measured;
 mod object;
 mod owner;
+mod pruning;
 mod ratio;
 mod ray;
 mod reach;
@@ -57,6 +58,9 @@ pub use crate::hit::hit_tri;
 pub use crate::matrix::Matrix;
 pub use crate::object::{ObjectRay, object_ray};
 pub use crate::owner::Owner;
+pub use crate::pruning::{
+    hit_is_inside, image_is_held, inside_in_world, inside_is_met, part_is_later, reach_law,
+};
 pub use crate::ratio::Ratio;
 pub use crate::ray::Ray;
 pub use crate::reach::Reach;
