@@ -71,7 +71,7 @@ cramer a b c d =
     subst (λ v. MapsTo m v (dot_of a (cross_of b c)) d) turned columned
 
 -- a factor, out of a scalar product
-pulled : (r : Vec3) (n : ℤ) (d : Vec3) → dot_of r (vec3 (n *ℤ d.x) (n *ℤ d.y) (n *ℤ d.z)) ≡ n *ℤ dot_of r d
+pub pulled : (r : Vec3) (n : ℤ) (d : Vec3) → dot_of r (vec3 (n *ℤ d.x) (n *ℤ d.y) (n *ℤ d.z)) ≡ n *ℤ dot_of r d
 pulled r n d =
     omega (arith, ints, swap_product r.x n d.x, swap_product r.y n d.y, swap_product r.z n d.z,
       *ℤ-+ℤ n ((r.x *ℤ d.x) +ℤ (r.y *ℤ d.y)) (r.z *ℤ d.z), *ℤ-+ℤ n (r.x *ℤ d.x) (r.y *ℤ d.y))
@@ -132,7 +132,7 @@ back_z m p =
     (dot_of-comm p e ∙ unit_z p)
 
 -- a scalar product with a difference
-dot_of-minus : (r u v w : Vec3) → u.x ≡ v.x -ℤ w.x → u.y ≡ v.y -ℤ w.y → u.z ≡ v.z -ℤ w.z →
+pub dot_of-minus : (r u v w : Vec3) → u.x ≡ v.x -ℤ w.x → u.y ≡ v.y -ℤ w.y → u.z ≡ v.z -ℤ w.z →
     dot_of r u ≡ dot_of r v -ℤ dot_of r w
 dot_of-minus r u v w p q s =
     rw (p, q, s, *ℤ--ℤ r.x v.x w.x, *ℤ--ℤ r.y v.y w.y, *ℤ--ℤ r.z v.z w.z) (omega (arith, ints))

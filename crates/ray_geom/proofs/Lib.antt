@@ -20,4 +20,5 @@ pub mod Cramer
 pub mod Inside
 pub mod Corners
 pub mod World
+pub mod Faces
 pub mod LeastBoxes

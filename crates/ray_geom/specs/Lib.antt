@@ -22,4 +22,5 @@ pub mod BoxSpan
 pub mod Slabs
 pub mod BoxReach
 pub mod Pruning
+pub mod Facing
 pub mod Equality
