@@ -4,7 +4,7 @@ use Rattle.std.specs.Prelude.{ℕ, ◌≡◌, ◌==◌, ◌&&◌, ◌↔◌, Boo
 use Rattle.std.specs.Bool.{Decides}
 use Rattle.std.specs.Cmp.{IsEquivalence, IsPartialEquivalence, decided, partial_equiv_from_equiv}
 use Rattle.std.specs.Ordering.{int_eq}
-use Rattle.std.proofs.Common.{ap, sym, ◌∙◌}
+use Rattle.std.proofs.Common.{ap}
 use Rattle.std.proofs.lemmas.Bool.Decides.{Decides-int_eq, Decides-eqb, Decides-and}
 use Rattle.ray_geom.specs.declared.vec3.Vec3.{Vec3}
 use Rattle.ray_geom.specs.Vector.{vec3}
@@ -94,18 +94,17 @@ matrix_eq-equivalence = decided matrix_eq matrix_eq-Decides
 pub matrix_eq-laws : IsPartialEquivalence matrix_eq
 matrix_eq-laws = partial_equiv_from_equiv matrix_eq-equivalence
 
--- what the answer of a test says
-tells : {P : Type 0} (r s : Bool) → r ≡ s → Decides s P → IsTrue r ↔ P
-tells r s e d = (λ h. d.0 (sym e ∙ h), λ p. e ∙ d.1 p)
+-- two values that `==` holds of are identical, for callers: `using(ray_geom::specs::Equality::identical)`
+pub ray_eq-identical : (a b : RayValue) → IsTrue (ray_eq a b) ↔ (a ≡ b)
+ray_eq-identical a b = ray_eq-Decides a b
 
-pub ray_eq-tells : (a b : RayValue) (r : Bool) → r ≡ ray_eq a b → IsTrue r ↔ (a ≡ b)
-ray_eq-tells a b r e = tells r (ray_eq a b) e (ray_eq-Decides a b)
+pub tri_eq-identical : (a b : TriValue) → IsTrue (tri_eq a b) ↔ (a ≡ b)
+tri_eq-identical a b = tri_eq-Decides a b
 
-pub tri_eq-tells : (a b : TriValue) (r : Bool) → r ≡ tri_eq a b → IsTrue r ↔ (a ≡ b)
-tri_eq-tells a b r e = tells r (tri_eq a b) e (tri_eq-Decides a b)
+pub box_eq-identical : (a b : BoxValue) → IsTrue (box_eq a b) ↔ (a ≡ b)
+box_eq-identical a b = box_eq-Decides a b
 
-pub box_eq-tells : (a b : BoxValue) (r : Bool) → r ≡ box_eq a b → IsTrue r ↔ (a ≡ b)
-box_eq-tells a b r e = tells r (box_eq a b) e (box_eq-Decides a b)
+pub matrix_eq-identical : (m n : MatrixValue) → IsTrue (matrix_eq m n) ↔ (m ≡ n)
+matrix_eq-identical m n = matrix_eq-Decides m n
 
-pub matrix_eq-tells : (m n : MatrixValue) (r : Bool) → r ≡ matrix_eq m n → IsTrue r ↔ (m ≡ n)
-matrix_eq-tells m n r e = tells r (matrix_eq m n) e (matrix_eq-Decides m n)
+pub ruleset identical = (ray_eq-identical, tri_eq-identical, box_eq-identical, matrix_eq-identical)

