@@ -8,6 +8,7 @@ use Rattle.std.proofs.lemmas.Int.{ints, unsigned_abs-mul}
 use Rattle.std.proofs.Math.Nat.{mul-le-mul}
 use Rattle.ray_geom.specs.declared.vec3.Vec3.{Vec3}
 use Rattle.ray_geom.specs.Vector.{IsWithin, IsShort, minor_of, dot_of}
+use Rattle.ray_geom.specs.Fits.{DotFits, MinusFits}
 
 IsWithin-abs : (m : ℕ) (z : ℤ) → IsWithin m z → unsigned_abs z ≤ m
 IsWithin-abs m z h = omega (arith, ints)
@@ -36,15 +37,7 @@ minor_fits a b c d p q r s =
     let right : IsWithin (2 ^ 20 * 2 ^ 20) (b *ℤ c) = IsWithin-mul (2 ^ 20) (2 ^ 20) b c q r in
     omega (arith, ints)
 
--- each number on the way to a scalar product fits, and the product is at most 3 * 2^61
-pub record DotFits (a b : Vec3) : Type 0 where
-  pub x : FitsSigned w64 (a.x *ℤ b.x)
-  pub y : FitsSigned w64 (a.y *ℤ b.y)
-  pub z : FitsSigned w64 (a.z *ℤ b.z)
-  pub xy : FitsSigned w64 ((a.x *ℤ b.x) +ℤ (a.y *ℤ b.y))
-  pub all : FitsSigned w64 (dot_of a b)
-  pub within : IsWithin (3 * 2 ^ 61) (dot_of a b)
-
+-- a scalar product of a difference and a cross product, and of others that are no larger
 pub dot_fits : (a b : Vec3) → IsShort (2 ^ 20) a → IsShort (2 ^ 41) b → DotFits a b
 dot_fits a b p q =
     let x : IsWithin (2 ^ 20 * 2 ^ 41) (a.x *ℤ b.x) =
@@ -66,12 +59,14 @@ weigh_fits a b p q =
     IsWithin-mul (2 ^ 25) (2 ^ 19 + 2 ^ 20) a.z b.z p.z_within q.z_within in
     omega (arith, ints)
 
--- the difference of two points fits
-pub record MinusFits (a b : Vec3) : Type 0 where
-  pub x : FitsSigned w64 (a.x -ℤ b.x)
-  pub y : FitsSigned w64 (a.y -ℤ b.y)
-  pub z : FitsSigned w64 (a.z -ℤ b.z)
+-- and for a row of a transform with a point, or with a cross product
+pub row_fits : (a b : Vec3) → IsShort (2 ^ 12) a → IsShort (2 ^ 41) b → DotFits a b
+row_fits a b p q = dot_fits a b (omega (arith, ints)) q
 
+pub point_fits : (a b : Vec3) → IsShort (2 ^ 12) a → IsShort (2 ^ 19) b → DotFits a b
+point_fits a b p q = dot_fits a b (omega (arith, ints)) (omega (arith, ints))
+
+-- the difference of two points
 pub minus_fits : (a b : Vec3) → IsShort (2 ^ 19) a → IsShort (2 ^ 19) b → MinusFits a b
 minus_fits a b p q = omega (arith, ints)
 

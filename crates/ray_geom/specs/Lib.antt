@@ -24,3 +24,4 @@ pub mod BoxReach
 pub mod Pruning
 pub mod Facing
 pub mod Equality
+pub mod Fits

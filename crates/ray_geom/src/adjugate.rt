@@ -1,9 +1,9 @@
 ghost use Rattle.std.specs.Prelude.{◌≡◌, ◌+◌, ◌^◌};
-ghost use Rattle.ray_geom.specs.Vector.{IsShort, dot_of};
+ghost use Rattle.ray_geom.specs.Vector.{IsShort};
 ghost use Rattle.ray_geom.specs.Transform.{times_of, adjugate_of};
 
 use crate::matrix::Matrix;
-use crate::vec3::{Vec3, cross};
+use crate::vec3::{Vec3, cross, dot};
 use std::marker::Model;
 
 // The adjugate of a transform's matrix, by its rows.
@@ -59,18 +59,9 @@ impl Adjugate {
         ensures { result ≡ times_of self.now v }
     {
         Vec3 {
-            x: weigh(self.a, v),
-            y: weigh(self.b, v),
-            z: weigh(self.c, v),
+            x: dot(self.a, v),
+            y: dot(self.b, v),
+            z: dot(self.c, v),
         }
     }
-}
-
-// A row of the adjugate times v.
-fn weigh(row: Vec3, v: Vec3) -> i64
-    requires row_short { IsShort (2 ^ 25) row }
-    requires v_short { IsShort (2 ^ 19 + 2 ^ 20) v }
-    ensures { result ≡ dot_of row v }
-{
-    row.x * v.x + row.y * v.y + row.z * v.z
 }

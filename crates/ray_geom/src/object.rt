@@ -1,11 +1,10 @@
-ghost use Rattle.std.specs.Prelude.{◌≡◌, ◌+◌, ◌^◌};
-ghost use Rattle.ray_geom.specs.Vector.{IsShort, minus_of};
+ghost use Rattle.std.specs.Prelude.{◌≡◌};
 ghost use Rattle.ray_geom.specs.ObjectRay.{IsObjectRay, object_of, LeadsBack};
 
 use crate::adjugate::Adjugate;
 use crate::matrix::Matrix;
 use crate::ray::Ray;
-use crate::vec3::Vec3;
+use crate::vec3::{Vec3, minus};
 use std::marker::Model;
 
 /// A ray in the space of an instance's object: at the distance t it is at (origin + t * dir) / det
@@ -82,24 +81,10 @@ pub fn object_ray(ray: &Ray, m: &Matrix) -> ObjectRay
 {
     let adjugate = Adjugate::of(m);
     ObjectRay {
-        origin: adjugate.times(seen_from(ray.origin, m.t)),
+        origin: adjugate.times(minus(ray.origin, m.t)),
         dir: adjugate.times(ray.dir),
         det: m.det(),
         tmin: ray.tmin,
         tmax: ray.tmax,
-    }
-}
-
-// The way from t to o.
-fn seen_from(o: Vec3, t: Vec3) -> Vec3
-    requires o_short { IsShort (2 ^ 19) o }
-    requires t_short { IsShort (2 ^ 20) t }
-    ensures value { result ≡ minus_of o t }
-    ensures short { IsShort (2 ^ 19 + 2 ^ 20) result }
-{
-    Vec3 {
-        x: o.x - t.x,
-        y: o.y - t.y,
-        z: o.z - t.z,
     }
 }

@@ -1,5 +1,6 @@
 ghost use Rattle.std.specs.Prelude.{◌≡◌, ◌+◌, ◌*◌, ◌^◌, ◌↔◌, IsTrue};
 ghost use Rattle.ray_geom.specs.Vector.{IsWithin, IsShort, point_of, minus_of, minor_of, cross_of, dot_of};
+ghost use Rattle.ray_geom.specs.Fits.{DotFits, MinusFits};
 
 /// A point, or a direction, with whole coordinates. The derived order is the lexicographic one: by
 /// x, then by y, then by z. (Own.)
@@ -33,10 +34,10 @@ pub fn is_short(v: Vec3, limit: u64) -> bool
 
 // The way from b to a.
 pub(crate) fn minus(a: Vec3, b: Vec3) -> Vec3
-    requires a_short { IsShort (2 ^ 19) a }
-    requires b_short { IsShort (2 ^ 19) b }
+    requires { MinusFits a b }
     ensures value { result ≡ minus_of a b }
-    ensures short { IsShort (2 ^ 20) result }
+    ensures short { IsShort (2 ^ 19) a → IsShort (2 ^ 19) b → IsShort (2 ^ 20) result }
+    ensures seen { IsShort (2 ^ 19) a → IsShort (2 ^ 20) b → IsShort (2 ^ 19 + 2 ^ 20) result }
 {
     Vec3 {
         x: a.x - b.x,
@@ -73,8 +74,7 @@ pub(crate) fn cross(a: Vec3, b: Vec3) -> Vec3
 
 // The scalar product.
 pub(crate) fn dot(a: Vec3, b: Vec3) -> i64
-    requires a_short { IsShort (2 ^ 20) a }
-    requires b_short { IsShort (2 ^ 41) b }
+    requires { DotFits a b }
     ensures value { result ≡ dot_of a b }
     ensures short { IsWithin (3 * 2 ^ 61) result }
 {

@@ -1,7 +1,11 @@
 use Rattle.std.proofs.Common.{rules}
 use Rattle.std.proofs.lemmas.Int.{to_z-of_z}
+use Rattle.ray_geom.proofs.Bounds.{row_fits}
 use Rattle.ray_geom.proofs.Sizes.{det_within}
 use Rattle.ray_geom.proofs.matrix.determinant.Goals as goal
+
+pub dot-requires : goal.dot-requires
+dot-requires c = row_fits _ _ (search (rules, to_z-of_z)) (search (rules, to_z-of_z))
 
 pub returns-clause-short : goal.returns-clause-short
 returns-clause-short c =
