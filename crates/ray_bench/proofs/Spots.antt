@@ -1,9 +1,8 @@
 -- What a spot adds to those that are met.
-use Rattle.std.proofs.Common.{◌≡◌, ℕ, ◌+◌, ◌%◌, length, get_or, Option, Some, None, is_some, refl, inl, inr, subst, ap, ◌∙◌, true, false, add-one, arith}
-use Rattle.std.specs.Prelude.{List, MatchOption}
+use Rattle.std.proofs.Common.{◌≡◌, ℕ, ◌+◌, ◌%◌, length, get_or, refl, inl, inr, subst, ap, ◌∙◌, add-one, arith}
+use Rattle.std.specs.Prelude.{List}
 use Rattle.std.proofs.Math.Nat.{mod-lt}
 use Rattle.std.proofs.lemmas.List.FromFn.{length-map-range_with_len, get_or-map-range_with_len}
-use Rattle.ray_geom.specs.declared.span.Span.{Span}
 use Rattle.ray_bench.specs.declared.spot.Spot.{Spot}
 use Rattle.ray_bench.specs.Spots.{spot_of, all_spots, IsMet, AreMet}
 
@@ -22,29 +21,14 @@ AreMet-met k met this so_far = rw add-one (inl (this, (met, so_far, refl)))
 AreMet-missed : (k met : ℕ) → (IsMet (spot_of (k % 128)) → ⊥) → AreMet k met → AreMet (k + 1) met
 AreMet-missed k met this so_far = rw add-one (inr (this, so_far))
 
-answer-met : (spot : Spot) (answer : Option Span) →
-    MatchOption answer (IsMet spot → ⊥) (λ _. IsMet spot) → is_some answer ≡ true → IsMet spot
-answer-met spot None told some = absurd (cc)
-answer-met spot (Some span) told some = told
-
-answer-missed : (spot : Spot) (answer : Option Span) →
-    MatchOption answer (IsMet spot → ⊥) (λ _. IsMet spot) → is_some answer ≡ false → IsMet spot → ⊥
-answer-missed spot None told none = told
-answer-missed spot (Some span) told none = absurd (cc)
-
 -- one spot more, that is met
-pub AreMet-some : (spots : List Spot) (k met : ℕ) (spot : Spot) (answer : Option Span) → spots ≡ all_spots →
-    spot ≡ get_or spots (k % length spots) spot →
-    MatchOption answer (IsMet spot → ⊥) (λ _. IsMet spot) → is_some answer ≡ true →
-    AreMet k met → AreMet (k + 1) (met + 1)
-AreMet-some spots k met spot answer same at told some so_far =
-    AreMet-met k met (subst (λ s. IsMet s) (spot_of-get_or spots k spot same at) (answer-met spot answer told some)) so_far
+pub AreMet-some : (spots : List Spot) (k met : ℕ) (spot : Spot) → spots ≡ all_spots →
+    spot ≡ get_or spots (k % length spots) spot → IsMet spot → AreMet k met → AreMet (k + 1) (met + 1)
+AreMet-some spots k met spot same at is so_far =
+    AreMet-met k met (subst (λ s. IsMet s) (spot_of-get_or spots k spot same at) is) so_far
 
 -- or that isn't
-pub AreMet-none : (spots : List Spot) (k met : ℕ) (spot : Spot) (answer : Option Span) → spots ≡ all_spots →
-    spot ≡ get_or spots (k % length spots) spot →
-    MatchOption answer (IsMet spot → ⊥) (λ _. IsMet spot) → is_some answer ≡ false →
-    AreMet k met → AreMet (k + 1) met
-AreMet-none spots k met spot answer same at told none so_far =
-    AreMet-missed k met
-    (subst (λ s. IsMet s → ⊥) (spot_of-get_or spots k spot same at) (answer-missed spot answer told none)) so_far
+pub AreMet-none : (spots : List Spot) (k met : ℕ) (spot : Spot) → spots ≡ all_spots →
+    spot ≡ get_or spots (k % length spots) spot → (IsMet spot → ⊥) → AreMet k met → AreMet (k + 1) met
+AreMet-none spots k met spot same at never so_far =
+    AreMet-missed k met (subst (λ s. IsMet s → ⊥) (spot_of-get_or spots k spot same at) never) so_far

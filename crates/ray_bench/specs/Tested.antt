@@ -6,7 +6,7 @@ use Rattle.ray_geom.specs.Scene.{RayValue, TriValue}
 use Rattle.ray_geom.specs.HitValue.{hit_of}
 use Rattle.ray_bench.specs.declared.pair.Pair.{Pair}
 use Rattle.ray_bench.specs.declared.work.Work.{Work}
-use Rattle.ray_bench.specs.declared.work.Work.TheVariants.{Pairs, Hits, BoxSpans}
+use Rattle.ray_bench.specs.declared.work.Work.TheVariants.{Pairs, Hits, BoxSpans, BoxReaches}
 use Rattle.ray_bench.specs.Field.{triangle_of, triangles}
 use Rattle.ray_bench.specs.Rays.{aimed_of, rays}
 use Rattle.ray_bench.specs.Spots.{AreMet}
@@ -53,3 +53,4 @@ abbrev pub AreHits : Work → ℕ → ℕ → Type 0
 AreHits Pairs n hits = hits ≡ hits_of_rays rays triangles n
 AreHits Hits n hits = hits ≡ hits_of_pairs pairs n
 AreHits BoxSpans n hits = AreMet n hits
+AreHits BoxReaches n hits = AreMet n hits

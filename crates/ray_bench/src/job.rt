@@ -50,6 +50,12 @@ impl Job {
         number: 300,
     };
 
+    /// A little of the work `box-reaches`, on the same spots.
+    pub const LITTLE_BOX_REACHES: Job = Job {
+        work: Work::BoxReaches,
+        number: 300,
+    };
+
     /// The job of two words: the name of a work, and a number in decimal digits, with or without a
     /// plus in front. The only error is `BadWords`.
     pub fn parse(work: &str, number: &str) -> Result<Job, BenchError>

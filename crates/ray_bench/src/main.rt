@@ -1,8 +1,9 @@
 //! The program `ray_bench`: does a named piece of work a given number of times, by its words, so
 //! that it can be timed from outside. `ray_bench pairs 20000000` tests that many pairs of a ray and
 //! a triangle, of which few are hits, `ray_bench hits 20000000` that many that are all hits, and
-//! `ray_bench box-spans 20000000` that many pairs of a ray and a box, of which half are met. Each
-//! prints the number of pairs and of hits. Without words it does a little of each.
+//! `ray_bench box-spans 20000000` that many pairs of a ray and a box, of which half are met, and
+//! `ray_bench box-reaches 20000000` the same without a greatest common divisor. Each prints the number
+//! of pairs and of hits. Without words it does a little of each.
 //!
 //! `ray_bench json`, `ray_bench hex` and `ray_bench recording` read standard input, of at most 2^26
 //! bytes, as a JSON value, as that with the hexadecimal digits of its items' members `data`, and as a
@@ -63,7 +64,8 @@ fn run<R: Env + AllocGlobal + Print + Input>(rt: &R) -> Result<(), BenchError> {
         [] => {
             report(rt, Job::LITTLE_PAIRS)?;
             report(rt, Job::LITTLE_HITS)?;
-            report(rt, Job::LITTLE_BOX_SPANS)
+            report(rt, Job::LITTLE_BOX_SPANS)?;
+            report(rt, Job::LITTLE_BOX_REACHES)
         }
         [word] => {
             let reading = Reading::named(word.as_str()).ok_or(BenchError::BadWords)?;

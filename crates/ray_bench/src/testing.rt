@@ -1,4 +1,4 @@
-ghost use Rattle.std.specs.Prelude.{◌≡◌, ◌+◌, ◌*◌, ◌<◌, length, count_by, option_map, IfOk, MatchOption};
+ghost use Rattle.std.specs.Prelude.{◌≡◌, ◌+◌, ◌*◌, ◌<◌, length, count_by, option_map, IfOk, IsTrue, MatchOption};
 ghost use Rattle.ray_geom.specs.HitValue.{hit_of, hit_value};
 ghost use Rattle.ray_bench.specs.Field.{triangles};
 ghost use Rattle.ray_bench.specs.Rays.{rays};
@@ -11,7 +11,7 @@ use crate::pair::{Pair, aimed_pair};
 use crate::rays::{RAYS, ray};
 use crate::spot::{Spot, aimed_spot};
 use crate::work::Work;
-use ray_geom::{Ray, Span, Tri, TriHit, hit_tri, span_box};
+use ray_geom::{Ray, Reach, Span, Tri, TriHit, hit_tri, reach_box, span_box};
 use std::alloc::{AllocError, Global};
 
 /// How many of the job's pairs are hits. Rays, triangles and boxes are made once, and then tested. The
@@ -31,7 +31,11 @@ pub fn count_hits(alloc: Global, job: Job) -> Result<usize, AllocError>
         }
         Work::BoxSpans => {
             let spots = made_spots(alloc)?;
-            Ok(count_of_spots(&spots, job.number))
+            Ok(count_of_spots(&spots, job.number, true))
+        }
+        Work::BoxReaches => {
+            let spots = made_spots(alloc)?;
+            Ok(count_of_spots(&spots, job.number, false))
         }
     }
 }
@@ -116,18 +120,30 @@ fn hit(ray: &Ray, tri: &Tri) -> Option<TriHit>
     hit_tri(ray, tri)
 }
 
-// How many are met of the first so many spots, which begin anew at their end.
-fn count_of_spots(spots: &[Spot], number: usize) -> usize
+// How many are met of the first so many spots, which begin anew at their end: by spans, or by reaches.
+fn count_of_spots(spots: &[Spot], number: usize, by_spans: bool) -> usize
     requires { spots.now ≡ all_spots }
     ensures { AreMet number result }
 {
     let mut met = 0;
     for k in 0..number {
-        if span(&spots[k % spots.len()]).is_some() {
+        if is_met(&spots[k % spots.len()], by_spans) {
             met += 1;
         }
     }
     met
+}
+
+// Whether the spot is met: by its span, or by its reach.
+fn is_met(spot: &Spot, by_span: bool) -> bool
+    ensures met { IsTrue result → IsMet spot.now }
+    ensures only { IsMet spot.now → IsTrue result }
+{
+    if by_span {
+        span(spot).is_some()
+    } else {
+        reach(spot).is_some()
+    }
 }
 
 // The span of a ray and a box, kept apart from its caller for the same reason.
@@ -136,4 +152,12 @@ fn span(spot: &Spot) -> Option<Span>
     ensures { MatchOption result (¬ IsMet spot.now) (λ _. IsMet spot.now) }
 {
     span_box(&spot.ray, &spot.box3)
+}
+
+// And their reach.
+#[inline(never)]
+fn reach(spot: &Spot) -> Option<Reach>
+    ensures { MatchOption result (¬ IsMet spot.now) (λ _. IsMet spot.now) }
+{
+    reach_box(&spot.ray, &spot.box3)
 }

@@ -68,6 +68,7 @@ fn counts_hits(rt: HostRuntime) -> Result<(), BenchError> {
         ("and one that is not", box_spans(2), 1),
         ("each box", box_spans(128), 64),
         ("these anew", Job::LITTLE_BOX_SPANS, 150),
+        ("and by reaches", Job::LITTLE_BOX_REACHES, 150),
     ];
     for (name, job, count) in cases {
         assert_eq!(rt; count_hits(rt.alloc(), job)?, count, "{name}");

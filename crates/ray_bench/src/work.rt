@@ -13,6 +13,8 @@ pub enum Work {
     Hits,
     /// Boxes of an instance against rays, of which half meet theirs.
     BoxSpans,
+    /// The same, with ends that aren't in lowest terms.
+    BoxReaches,
 }
 
 impl Work {
@@ -25,6 +27,7 @@ impl Work {
             "pairs" => Some(Work::Pairs),
             "hits" => Some(Work::Hits),
             "box-spans" => Some(Work::BoxSpans),
+            "box-reaches" => Some(Work::BoxReaches),
             _ => None,
         }
     }
@@ -36,6 +39,7 @@ impl fmt::Display for Work {
             Work::Pairs => write!(f, "pairs"),
             Work::Hits => write!(f, "hits"),
             Work::BoxSpans => write!(f, "box-spans"),
+            Work::BoxReaches => write!(f, "box-reaches"),
         }
     }
 }

@@ -73,8 +73,15 @@ cramer a b c d =
 -- a factor, out of a scalar product
 pub pulled : (r : Vec3) (n : ℤ) (d : Vec3) → dot_of r (vec3 (n *ℤ d.x) (n *ℤ d.y) (n *ℤ d.z)) ≡ n *ℤ dot_of r d
 pulled r n d =
-    omega (arith, ints, swap_product r.x n d.x, swap_product r.y n d.y, swap_product r.z n d.z,
-      *ℤ-+ℤ n ((r.x *ℤ d.x) +ℤ (r.y *ℤ d.y)) (r.z *ℤ d.z), *ℤ-+ℤ n (r.x *ℤ d.x) (r.y *ℤ d.y))
+    omega (
+      arith,
+      ints,
+      swap_product r.x n d.x,
+      swap_product r.y n d.y,
+      swap_product r.z n d.z,
+      *ℤ-+ℤ n ((r.x *ℤ d.x) +ℤ (r.y *ℤ d.y)) (r.z *ℤ d.z),
+      *ℤ-+ℤ n (r.x *ℤ d.x) (r.y *ℤ d.y),
+    )
 
 -- and along any direction
 along : (r a b c d : Vec3) →
@@ -155,8 +162,21 @@ gathered : (q0 q1 q2 o u v w whole : ℤ) →
     (((q0 -ℤ o) *ℤ u) +ℤ ((q1 -ℤ o) *ℤ v)) +ℤ ((q2 -ℤ o) *ℤ w) ≡ whole →
     ((u *ℤ q0) +ℤ (v *ℤ q1)) +ℤ (w *ℤ q2) ≡ (((u +ℤ v) +ℤ w) *ℤ o) +ℤ whole
 gathered q0 q1 q2 o u v w whole h =
-    omega (arith, ints, sub_ℤ-*ℤ q0 o u, sub_ℤ-*ℤ q1 o v, sub_ℤ-*ℤ q2 o w, *ℤ_comm q0 u, *ℤ_comm q1 v, *ℤ_comm q2 w,
-      *ℤ_comm o u, *ℤ_comm o v, *ℤ_comm o w, +ℤ-*ℤ (u +ℤ v) w o, +ℤ-*ℤ u v o)
+    omega (
+      arith,
+      ints,
+      sub_ℤ-*ℤ q0 o u,
+      sub_ℤ-*ℤ q1 o v,
+      sub_ℤ-*ℤ q2 o w,
+      *ℤ_comm q0 u,
+      *ℤ_comm q1 v,
+      *ℤ_comm q2 w,
+      *ℤ_comm o u,
+      *ℤ_comm o v,
+      *ℤ_comm o w,
+      +ℤ-*ℤ (u +ℤ v) w o,
+      +ℤ-*ℤ u v o,
+    )
 
 -- on one axis of the object's space: the weights of the vertices give den o' + num d'
 pub axis_point : (m : MatrixValue) (ray : RayValue) (tri : TriValue) (r : Vec3) (at : Vec3 → ℤ) →

@@ -177,28 +177,28 @@ IsReach-of object box n d positive i =
     let entry = entry_of object box in
     let exit = exit_of object box in
     let least = λ (k e : ℕ) (e_positive : 0 < e) (j : IsInside object box k e).
-        (four_later t ex ey ez k e).1 (
-          start object.tmin k e j.from,
-          axis_least object.det box.lo.x box.hi.x object.origin.x object.dir.x k e j.x,
-          axis_least object.det box.lo.y box.hi.y object.origin.y object.dir.y k e j.y,
-          axis_least object.det box.lo.z box.hi.z object.origin.z object.dir.z k e j.z,
-        ) in
+    (four_later t ex ey ez k e).1 (
+      start object.tmin k e j.from,
+      axis_least object.det box.lo.x box.hi.x object.origin.x object.dir.x k e j.x,
+      axis_least object.det box.lo.y box.hi.y object.origin.y object.dir.y k e j.y,
+      axis_least object.det box.lo.z box.hi.z object.origin.z object.dir.z k e j.z,
+    ) in
     let greatest = λ (k e : ℕ) (e_positive : 0 < e) (j : IsInside object box k e).
-        let to = stop object.tmax k e j.to in
-        (four_earlier most xx xy xz k e).1 (
-          to,
-          axis_greatest most object.det box.lo.x box.hi.x object.origin.x object.dir.x k e e_positive to j.x,
-          axis_greatest most object.det box.lo.y box.hi.y object.origin.y object.dir.y k e e_positive to j.y,
-          axis_greatest most object.det box.lo.z box.hi.z object.origin.z object.dir.z k e e_positive to j.z,
-        ) in
+    let to = stop object.tmax k e j.to in
+    (four_earlier most xx xy xz k e).1 (
+      to,
+      axis_greatest most object.det box.lo.x box.hi.x object.origin.x object.dir.x k e e_positive to j.x,
+      axis_greatest most object.det box.lo.y box.hi.y object.origin.y object.dir.y k e e_positive to j.y,
+      axis_greatest most object.det box.lo.z box.hi.z object.origin.z object.dir.z k e e_positive to j.z,
+    ) in
     let between = λ (k e : ℕ) (e_positive : 0 < e) (from : IsAtMost entry.num entry.den k e) (to : IsAtMost k e exit.num exit.den).
-        let later = (four_later t ex ey ez k e).0 from in
-        let earlier = (four_earlier most xx xy xz k e).0 to in
-        inside_from object box k e
-        (axis_between most object.det box.lo.x box.hi.x object.origin.x object.dir.x n d k e positive i.x later.1 earlier.1)
-        (axis_between most object.det box.lo.y box.hi.y object.origin.y object.dir.y n d k e positive i.y later.2 earlier.2)
-        (axis_between most object.det box.lo.z box.hi.z object.origin.z object.dir.z n d k e positive i.z later.3 earlier.3)
-        (started object.tmin k e later.0) (stopped object.tmax k e earlier.0) in
+    let later = (four_later t ex ey ez k e).0 from in
+    let earlier = (four_earlier most xx xy xz k e).0 to in
+    inside_from object box k e
+    (axis_between most object.det box.lo.x box.hi.x object.origin.x object.dir.x n d k e positive i.x later.1 earlier.1)
+    (axis_between most object.det box.lo.y box.hi.y object.origin.y object.dir.y n d k e positive i.y later.2 earlier.2)
+    (axis_between most object.det box.lo.z box.hi.z object.origin.z object.dir.z n d k e positive i.z later.3 earlier.3)
+    (started object.tmin k e later.0) (stopped object.tmax k e earlier.0) in
     let ordered : IsAtMost entry.num entry.den exit.num exit.den =
     at_most_chain entry.num entry.den n d exit.num exit.den positive (least n d positive i) (greatest n d positive i) in
     record {
@@ -257,9 +257,9 @@ IsSameReach-of object box None (Some b) some none some' none' = none b.entry.num
 IsSameReach-of object box (Some a) None some none some' none' = none' a.entry.num a.entry.den a.entry.positive some.entry
 IsSameReach-of object box (Some a) (Some b) some none some' none' = (
   same_by_le a.entry b.entry (some.least b.entry.num b.entry.den b.entry.positive some'.entry)
-  (some'.least a.entry.num a.entry.den a.entry.positive some.entry),
+      (some'.least a.entry.num a.entry.den a.entry.positive some.entry),
   same_by_le a.exit b.exit (some'.greatest a.exit.num a.exit.den a.exit.positive some.exit)
-  (some.greatest b.exit.num b.exit.den b.exit.positive some'.exit),
+      (some.greatest b.exit.num b.exit.den b.exit.positive some'.exit),
 )
 
 -- two spans of one ray and box are identical

@@ -53,17 +53,17 @@ lagrange : (b c e f : Vec3) →
     (dot_of b e *ℤ dot_of c f) -ℤ (dot_of c e *ℤ dot_of b f) ≡ dot_of (cross_of b c) (cross_of e f)
 lagrange b c e f =
     let first : dot_of b e *ℤ dot_of c f ≡
-        (((((b.x *ℤ c.x) *ℤ (e.x *ℤ f.x)) +ℤ ((b.x *ℤ c.y) *ℤ (e.x *ℤ f.y))) +ℤ ((b.x *ℤ c.z) *ℤ (e.x *ℤ f.z))) +ℤ
-        ((((b.y *ℤ c.x) *ℤ (e.y *ℤ f.x)) +ℤ ((b.y *ℤ c.y) *ℤ (e.y *ℤ f.y))) +ℤ ((b.y *ℤ c.z) *ℤ (e.y *ℤ f.z)))) +ℤ
-        ((((b.z *ℤ c.x) *ℤ (e.z *ℤ f.x)) +ℤ ((b.z *ℤ c.y) *ℤ (e.z *ℤ f.y))) +ℤ ((b.z *ℤ c.z) *ℤ (e.z *ℤ f.z))) =
+    (((((b.x *ℤ c.x) *ℤ (e.x *ℤ f.x)) +ℤ ((b.x *ℤ c.y) *ℤ (e.x *ℤ f.y))) +ℤ ((b.x *ℤ c.z) *ℤ (e.x *ℤ f.z))) +ℤ
+    ((((b.y *ℤ c.x) *ℤ (e.y *ℤ f.x)) +ℤ ((b.y *ℤ c.y) *ℤ (e.y *ℤ f.y))) +ℤ ((b.y *ℤ c.z) *ℤ (e.y *ℤ f.z)))) +ℤ
+    ((((b.z *ℤ c.x) *ℤ (e.z *ℤ f.x)) +ℤ ((b.z *ℤ c.y) *ℤ (e.z *ℤ f.y))) +ℤ ((b.z *ℤ c.z) *ℤ (e.z *ℤ f.z))) =
     nine (b.x *ℤ e.x) (b.y *ℤ e.y) (b.z *ℤ e.z) (c.x *ℤ f.x) (c.y *ℤ f.y) (c.z *ℤ f.z) ∙
     (λ i. (((mix b.x e.x c.x f.x i +ℤ mix b.x e.x c.y f.y i) +ℤ mix b.x e.x c.z f.z i) +ℤ
     ((mix b.y e.y c.x f.x i +ℤ mix b.y e.y c.y f.y i) +ℤ mix b.y e.y c.z f.z i)) +ℤ
     ((mix b.z e.z c.x f.x i +ℤ mix b.z e.z c.y f.y i) +ℤ mix b.z e.z c.z f.z i)) in
     let second : dot_of c e *ℤ dot_of b f ≡
-        (((((b.x *ℤ c.x) *ℤ (e.x *ℤ f.x)) +ℤ ((b.y *ℤ c.x) *ℤ (e.x *ℤ f.y))) +ℤ ((b.z *ℤ c.x) *ℤ (e.x *ℤ f.z))) +ℤ
-        ((((b.x *ℤ c.y) *ℤ (e.y *ℤ f.x)) +ℤ ((b.y *ℤ c.y) *ℤ (e.y *ℤ f.y))) +ℤ ((b.z *ℤ c.y) *ℤ (e.y *ℤ f.z)))) +ℤ
-        ((((b.x *ℤ c.z) *ℤ (e.z *ℤ f.x)) +ℤ ((b.y *ℤ c.z) *ℤ (e.z *ℤ f.y))) +ℤ ((b.z *ℤ c.z) *ℤ (e.z *ℤ f.z))) =
+    (((((b.x *ℤ c.x) *ℤ (e.x *ℤ f.x)) +ℤ ((b.y *ℤ c.x) *ℤ (e.x *ℤ f.y))) +ℤ ((b.z *ℤ c.x) *ℤ (e.x *ℤ f.z))) +ℤ
+    ((((b.x *ℤ c.y) *ℤ (e.y *ℤ f.x)) +ℤ ((b.y *ℤ c.y) *ℤ (e.y *ℤ f.y))) +ℤ ((b.z *ℤ c.y) *ℤ (e.y *ℤ f.z)))) +ℤ
+    ((((b.x *ℤ c.z) *ℤ (e.z *ℤ f.x)) +ℤ ((b.y *ℤ c.z) *ℤ (e.z *ℤ f.y))) +ℤ ((b.z *ℤ c.z) *ℤ (e.z *ℤ f.z))) =
     nine (c.x *ℤ e.x) (c.y *ℤ e.y) (c.z *ℤ e.z) (b.x *ℤ f.x) (b.y *ℤ f.y) (b.z *ℤ f.z) ∙
     (λ i. (((mix_turned c.x e.x b.x f.x i +ℤ mix_turned c.x e.x b.y f.y i) +ℤ mix_turned c.x e.x b.z f.z i) +ℤ
     ((mix_turned c.y e.y b.x f.x i +ℤ mix_turned c.y e.y b.y f.y i) +ℤ mix_turned c.y e.y b.z f.z i)) +ℤ

@@ -97,8 +97,19 @@ signed_equation : (g u v w den num q0 q1 q2 o m : ℤ) →
     ((u *ℤ q0) +ℤ (v *ℤ q1)) +ℤ (w *ℤ q2) ≡ (den *ℤ o) +ℤ (num *ℤ m) →
     (((g *ℤ u) *ℤ q0) +ℤ ((g *ℤ v) *ℤ q1)) +ℤ ((g *ℤ w) *ℤ q2) ≡ ((g *ℤ den) *ℤ o) +ℤ ((g *ℤ num) *ℤ m)
 signed_equation g u v w den num q0 q1 q2 o m h =
-    omega (arith, ints, ap (λ x. g *ℤ x) h, *ℤ-+ℤ g ((u *ℤ q0) +ℤ (v *ℤ q1)) (w *ℤ q2), *ℤ-+ℤ g (u *ℤ q0) (v *ℤ q1),
-      *ℤ-+ℤ g (den *ℤ o) (num *ℤ m), *ℤ_assoc g u q0, *ℤ_assoc g v q1, *ℤ_assoc g w q2, *ℤ_assoc g den o, *ℤ_assoc g num m)
+    omega (
+      arith,
+      ints,
+      ap (λ x. g *ℤ x) h,
+      *ℤ-+ℤ g ((u *ℤ q0) +ℤ (v *ℤ q1)) (w *ℤ q2),
+      *ℤ-+ℤ g (u *ℤ q0) (v *ℤ q1),
+      *ℤ-+ℤ g (den *ℤ o) (num *ℤ m),
+      *ℤ_assoc g u q0,
+      *ℤ_assoc g v q1,
+      *ℤ_assoc g w q2,
+      *ℤ_assoc g den o,
+      *ℤ_assoc g num m,
+    )
 
 natural_equation : (u v w num den q0 q1 q2 o m : ℤ) (h : AreNatural u v w num den) →
     ((u *ℤ q0) +ℤ (v *ℤ q1)) +ℤ (w *ℤ q2) ≡ (den *ℤ o) +ℤ (num *ℤ m) →
@@ -140,8 +151,14 @@ moved_out k d n e o m h =
     let left : pos d *ℤ (pos e *ℤ m) ≡ pos (d * e) *ℤ m = *ℤ_assoc (pos d) (pos e) m in
     let right : pos k *ℤ (pos n *ℤ m) ≡ pos (k * n) *ℤ m = *ℤ_assoc (pos k) (pos n) m in
     let same : pos (d * e) *ℤ m ≡ pos (k * n) *ℤ m = ap (λ x. pos x *ℤ m) (omega arith) in
-    omega (arith, ints, *ℤ-+ℤ (pos d) (pos k *ℤ o) (pos e *ℤ m), *ℤ-+ℤ (pos k) (o *ℤ pos d) (pos n *ℤ m),
-      swap_product (pos d) (pos k) o, ap (λ x. pos k *ℤ x) (*ℤ_comm (pos d) o))
+    omega (
+      arith,
+      ints,
+      *ℤ-+ℤ (pos d) (pos k *ℤ o) (pos e *ℤ m),
+      *ℤ-+ℤ (pos k) (o *ℤ pos d) (pos n *ℤ m),
+      swap_product (pos d) (pos k) o,
+      ap (λ x. pos k *ℤ x) (*ℤ_comm (pos d) o),
+    )
 
 moved_end : (k d : ℕ) (end : ℤ) → pos d *ℤ (pos k *ℤ end) ≡ pos k *ℤ (end *ℤ pos d)
 moved_end k d end = swap_product (pos d) (pos k) end ∙ ap (λ x. pos k *ℤ x) (*ℤ_comm (pos d) end)

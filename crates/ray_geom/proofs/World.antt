@@ -31,12 +31,23 @@ dot_of-point : (r o m : Vec3) (n d : ℕ) →
     dot_of r (vec3 ((o.x *ℤ pos d) +ℤ (pos n *ℤ m.x)) ((o.y *ℤ pos d) +ℤ (pos n *ℤ m.y)) ((o.z *ℤ pos d) +ℤ (pos n *ℤ m.z))) ≡
     (dot_of r o *ℤ pos d) +ℤ (pos n *ℤ dot_of r m)
 dot_of-point r o m n d =
-    omega (arith, ints,
-      *ℤ-+ℤ r.x (o.x *ℤ pos d) (pos n *ℤ m.x), *ℤ-+ℤ r.y (o.y *ℤ pos d) (pos n *ℤ m.y), *ℤ-+ℤ r.z (o.z *ℤ pos d) (pos n *ℤ m.z),
-      *ℤ_assoc r.x o.x (pos d), *ℤ_assoc r.y o.y (pos d), *ℤ_assoc r.z o.z (pos d),
-      swap_product r.x (pos n) m.x, swap_product r.y (pos n) m.y, swap_product r.z (pos n) m.z,
-      +ℤ-*ℤ ((r.x *ℤ o.x) +ℤ (r.y *ℤ o.y)) (r.z *ℤ o.z) (pos d), +ℤ-*ℤ (r.x *ℤ o.x) (r.y *ℤ o.y) (pos d),
-      *ℤ-+ℤ (pos n) ((r.x *ℤ m.x) +ℤ (r.y *ℤ m.y)) (r.z *ℤ m.z), *ℤ-+ℤ (pos n) (r.x *ℤ m.x) (r.y *ℤ m.y))
+    omega (
+      arith,
+      ints,
+      *ℤ-+ℤ r.x (o.x *ℤ pos d) (pos n *ℤ m.x),
+      *ℤ-+ℤ r.y (o.y *ℤ pos d) (pos n *ℤ m.y),
+      *ℤ-+ℤ r.z (o.z *ℤ pos d) (pos n *ℤ m.z),
+      *ℤ_assoc r.x o.x (pos d),
+      *ℤ_assoc r.y o.y (pos d),
+      *ℤ_assoc r.z o.z (pos d),
+      swap_product r.x (pos n) m.x,
+      swap_product r.y (pos n) m.y,
+      swap_product r.z (pos n) m.z,
+      +ℤ-*ℤ ((r.x *ℤ o.x) +ℤ (r.y *ℤ o.y)) (r.z *ℤ o.z) (pos d),
+      +ℤ-*ℤ (r.x *ℤ o.x) (r.y *ℤ o.y) (pos d),
+      *ℤ-+ℤ (pos n) ((r.x *ℤ m.x) +ℤ (r.y *ℤ m.y)) (r.z *ℤ m.z),
+      *ℤ-+ℤ (pos n) (r.x *ℤ m.x) (r.y *ℤ m.y),
+    )
 
 -- a factor out of both parts
 factored : (k a b : ℤ) (n d : ℕ) → ((k *ℤ a) *ℤ pos d) +ℤ (pos n *ℤ (k *ℤ b)) ≡ k *ℤ ((a *ℤ pos d) +ℤ (pos n *ℤ b))
@@ -56,18 +67,36 @@ world_above : (s d n : ℕ) (lo o t m row : ℤ) → row ≡ pos (suc s) *ℤ ((
 world_above s d n lo o t m row is h =
     let k = pos (suc s) in
     times_back s (lo *ℤ pos d) ((o *ℤ pos d) +ℤ (pos n *ℤ m))
-    (omega (arith, ints, sym (*ℤ_assoc k (pos d) lo), sym (*ℤ_assoc k (pos d) t), ap (λ x. k *ℤ x) (*ℤ_comm (pos d) lo),
-      ap (λ x. k *ℤ x) (*ℤ_comm (pos d) t), ap (λ x. k *ℤ x) (sub_ℤ-*ℤ o t (pos d)), *ℤ--ℤ k (o *ℤ pos d) (t *ℤ pos d),
-      *ℤ-+ℤ k ((o -ℤ t) *ℤ pos d) (pos n *ℤ m), *ℤ-+ℤ k (o *ℤ pos d) (pos n *ℤ m)))
+    (omega (
+      arith,
+      ints,
+      sym (*ℤ_assoc k (pos d) lo),
+      sym (*ℤ_assoc k (pos d) t),
+      ap (λ x. k *ℤ x) (*ℤ_comm (pos d) lo),
+      ap (λ x. k *ℤ x) (*ℤ_comm (pos d) t),
+      ap (λ x. k *ℤ x) (sub_ℤ-*ℤ o t (pos d)),
+      *ℤ--ℤ k (o *ℤ pos d) (t *ℤ pos d),
+      *ℤ-+ℤ k ((o -ℤ t) *ℤ pos d) (pos n *ℤ m),
+      *ℤ-+ℤ k (o *ℤ pos d) (pos n *ℤ m),
+    ))
 
 world_below : (s d n : ℕ) (hi o t m row : ℤ) → row ≡ pos (suc s) *ℤ (((o -ℤ t) *ℤ pos d) +ℤ (pos n *ℤ m)) →
     (row +ℤ (pos (suc s * d) *ℤ t)) ≤ℤ (pos (suc s * d) *ℤ hi) → ((o *ℤ pos d) +ℤ (pos n *ℤ m)) ≤ℤ (hi *ℤ pos d)
 world_below s d n hi o t m row is h =
     let k = pos (suc s) in
     times_back s ((o *ℤ pos d) +ℤ (pos n *ℤ m)) (hi *ℤ pos d)
-    (omega (arith, ints, sym (*ℤ_assoc k (pos d) hi), sym (*ℤ_assoc k (pos d) t), ap (λ x. k *ℤ x) (*ℤ_comm (pos d) hi),
-      ap (λ x. k *ℤ x) (*ℤ_comm (pos d) t), ap (λ x. k *ℤ x) (sub_ℤ-*ℤ o t (pos d)), *ℤ--ℤ k (o *ℤ pos d) (t *ℤ pos d),
-      *ℤ-+ℤ k ((o -ℤ t) *ℤ pos d) (pos n *ℤ m), *ℤ-+ℤ k (o *ℤ pos d) (pos n *ℤ m)))
+    (omega (
+      arith,
+      ints,
+      sym (*ℤ_assoc k (pos d) hi),
+      sym (*ℤ_assoc k (pos d) t),
+      ap (λ x. k *ℤ x) (*ℤ_comm (pos d) hi),
+      ap (λ x. k *ℤ x) (*ℤ_comm (pos d) t),
+      ap (λ x. k *ℤ x) (sub_ℤ-*ℤ o t (pos d)),
+      *ℤ--ℤ k (o *ℤ pos d) (t *ℤ pos d),
+      *ℤ-+ℤ k ((o -ℤ t) *ℤ pos d) (pos n *ℤ m),
+      *ℤ-+ℤ k (o *ℤ pos d) (pos n *ℤ m),
+    ))
 
 -- what is known on one axis of the object's space
 pub record IsOver (s d : ℕ) (lo hi q : ℤ) : Type 0 where
@@ -185,7 +214,7 @@ inside_by m ray box world n d h (pos zero) is crosses i = absurd (crosses refl)
 inside_by m ray box world n d h (pos (suc s)) is crosses i =
     let object = object_of ray m in
     let axis = λ (lo hi o v : ℤ) (j : IsOnAxis (det_of m) lo hi o v n d).
-        over_positive s d lo hi o v n (subst (λ k. IsOnAxis k lo hi o v n d) is j) in
+    over_positive s d lo hi o v n (subst (λ k. IsOnAxis k lo hi o v n d) is j) in
     inside_world m ray box world s n d (point_at object n d) h
     (axis box.lo.x box.hi.x object.origin.x object.dir.x i.x) (axis box.lo.y box.hi.y object.origin.y object.dir.y i.y)
     (axis box.lo.z box.hi.z object.origin.z object.dir.z i.z)
@@ -199,7 +228,7 @@ inside_by m ray box world n d h (negsuc s) is crosses i =
     let object = object_of ray m in
     let p = point_at object n d in
     let axis = λ (lo hi o v : ℤ) (j : IsOnAxis (det_of m) lo hi o v n d).
-        over_negative s d lo hi o v n (subst (λ k. IsOnAxis k lo hi o v n d) is j) in
+    over_negative s d lo hi o v n (subst (λ k. IsOnAxis k lo hi o v n d) is j) in
     inside_world m ray box world s n d (negated p) h
     (axis box.lo.x box.hi.x object.origin.x object.dir.x i.x) (axis box.lo.y box.hi.y object.origin.y object.dir.y i.y)
     (axis box.lo.z box.hi.z object.origin.z object.dir.z i.z)

@@ -6,10 +6,10 @@ ghost use Rattle.ray_geom.specs.BoxReach.{IsSameReach, reach_of};
 ghost use Rattle.ray_geom.specs.Slabs.{IsAxis, IsPast, IsBefore, IsInSlab, IsSlab, Covers, Narrows, Never};
 
 use crate::box3::Box3;
-use crate::ratio::Ratio;
 use crate::object::ObjectRay;
-use crate::slab::Slab;
+use crate::ratio::Ratio;
 use crate::reach::Reach;
+use crate::slab::Slab;
 
 /// From where to where the ray is inside the box, ends included, as [`span_box`](crate::span_box) says
 /// it, with ends that aren't in lowest terms. It takes no greatest common divisor, so it costs some

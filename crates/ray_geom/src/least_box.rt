@@ -62,14 +62,46 @@ impl Box3 {
     {
         let (lo, hi) = (self.lo, self.hi);
         [
-            Vec3 { x: lo.x, y: lo.y, z: lo.z },
-            Vec3 { x: lo.x, y: lo.y, z: hi.z },
-            Vec3 { x: lo.x, y: hi.y, z: lo.z },
-            Vec3 { x: lo.x, y: hi.y, z: hi.z },
-            Vec3 { x: hi.x, y: lo.y, z: lo.z },
-            Vec3 { x: hi.x, y: lo.y, z: hi.z },
-            Vec3 { x: hi.x, y: hi.y, z: lo.z },
-            Vec3 { x: hi.x, y: hi.y, z: hi.z },
+            Vec3 {
+                x: lo.x,
+                y: lo.y,
+                z: lo.z,
+            },
+            Vec3 {
+                x: lo.x,
+                y: lo.y,
+                z: hi.z,
+            },
+            Vec3 {
+                x: lo.x,
+                y: hi.y,
+                z: lo.z,
+            },
+            Vec3 {
+                x: lo.x,
+                y: hi.y,
+                z: hi.z,
+            },
+            Vec3 {
+                x: hi.x,
+                y: lo.y,
+                z: lo.z,
+            },
+            Vec3 {
+                x: hi.x,
+                y: lo.y,
+                z: hi.z,
+            },
+            Vec3 {
+                x: hi.x,
+                y: hi.y,
+                z: lo.z,
+            },
+            Vec3 {
+                x: hi.x,
+                y: hi.y,
+                z: hi.z,
+            },
         ]
     }
 }

@@ -24,6 +24,8 @@ mod box3;
 mod box_laws;
 mod box_reach;
 mod box_span;
+#[cfg(test)]
+mod box_tests;
 mod count;
 mod edge;
 mod facing;
