@@ -1,7 +1,8 @@
-ghost use Rattle.std.specs.Prelude.{◌≡◌, ◌<◌, ◌&&◌, ◌||◌, ℕ, [], ◌∷◌, false, true, not, OnOk, OnErr, IfSome, IfNone, length, Some, is_some, List};
+ghost use Rattle.std.specs.Prelude.{◌≡◌, ◌<◌, [], ◌∷◌, false, true, length};
+ghost use Rattle.std.specs.Prelude.{OnOk, OnErr, IfSome, IfNone, Some, is_some};
 ghost use Rattle.std.specs.List.{find};
 ghost use Rattle.ray_ranges.specs.Apart.{HaveTheSame, begins_at, without};
-ghost use Rattle.ray_ranges.specs.Meeting.{has, meets, meets_any, covers};
+ghost use Rattle.ray_ranges.specs.Meeting.{meets, meets_any, HasAlso, HasNoMore};
 
 use crate::range::Range;
 use std::alloc::{AllocError, Global};
@@ -47,7 +48,8 @@ impl DisjointRanges {
     // The last range of the set that begins below the end of this one, where the two meet.
     fn met(&self, range: Range) -> Option<Range>
         ensures any { is_some result ≡ meets_any self.now range }
-        ensures found { IfSome result (λ r. (meets range r ≡ true) × (find (begins_at r.from) self.now ≡ Some r)) }
+        ensures met { IfSome result (λ r. meets range r ≡ true) }
+        ensures found { IfSome result (λ r. find (begins_at r.from) self.now ≡ Some r) }
     {
         let (from, end) = self.ends.range(..range.end).next_back()?;
         let last = Range {
@@ -71,7 +73,7 @@ impl DisjointRanges {
     // Puts the numbers of a range that meets none into the set: none, where it is empty.
     pub(crate) fn put(&mut self, range: Range) -> Result<(), AllocError>
         requires { meets_any self.old range ≡ false }
-        ensures { OnOk result ((n : ℕ) → covers self.new n ≡ (has n range || covers self.old n)) }
+        ensures { OnOk result (HasAlso range self.old self.new) }
     {
         if range.from < range.end {
             self.add(range)
@@ -83,7 +85,7 @@ impl DisjointRanges {
     // Puts the numbers of the range into the set: those ranges that it meets become one with it. After
     // an error some of these are gone.
     pub(crate) fn cover(&mut self, range: Range) -> Result<(), AllocError>
-        ensures { OnOk result ((n : ℕ) → covers self.new n ≡ (has n range || covers self.old n)) }
+        ensures { OnOk result (HasAlso range self.old self.new) }
     {
         if range.end <= range.from {
             return Ok(());
@@ -99,7 +101,7 @@ impl DisjointRanges {
     fn take_met(&mut self, range: Range) -> Option<Range>
         ensures none { IfNone result ((self.new ≡ self.old) × (meets_any self.old range ≡ false)) }
         ensures met { IfSome result (λ r. meets range r ≡ true) }
-        ensures numbers { IfSome result (λ r. (n : ℕ) → covers self.old n ≡ (has n r || covers self.new n)) }
+        ensures numbers { IfSome result (λ r. HasAlso r self.new self.old) }
         ensures fewer { IfSome result (λ _. length self.new < length self.old) }
     {
         let met = self.met(range)?;
@@ -111,7 +113,7 @@ impl DisjointRanges {
     pub fn remove(&mut self, from: u128) -> Option<Range>
         ensures removed { result ≡ find (begins_at from) self.old }
         ensures left { self.new ≡ without from self.old }
-        ensures numbers { IfSome result (λ r. (n : ℕ) → covers self.new n ≡ (covers self.old n && not (has n r))) }
+        ensures numbers { IfSome result (λ r. HasNoMore r self.old self.new) }
         ensures fewer { IfSome result (λ _. length self.new < length self.old) }
     {
         let end = self.ends.remove(&from)?;

@@ -1,10 +1,14 @@
+ghost use Rattle.std.specs.Prelude.{◌≡◌};
+
 use crate::{
     DisjointRanges, Place, Placed, Range, first_meeting, first_meeting_any, first_meeting_earlier,
 };
 use std::alloc::AllocError;
 
 // The range from one number to another.
-fn range(from: u128, end: u128) -> Range {
+fn range(from: u128, end: u128) -> Range
+    ensures { result ≡ record { from = from; end = end } }
+{
     Range { from, end }
 }
 

@@ -19,12 +19,13 @@ returns-then-meets-clause-any c =
     ∙ (sym (last_below c.self.inside.ends c.args.range c.range.result c.next_back.new.self (c.in_ok-from.from.now, c.in_ok-from.end.now) (c.range.ensures.in_range tt) c.in_ok-from.ensures.steps c.self.invariant).decides
     ∙ ap (λ (rs : List Range). meets_any rs c.args.range) c.self.view_is)
 
+pub returns-then-meets-clause-met : goal.returns-then-meets-clause-met
+returns-then-meets-clause-met c = sym c.if-meets.ensures.value
+
 pub returns-then-meets-clause-found : goal.returns-then-meets-clause-found
-returns-then-meets-clause-found c = (
-  sym c.if-meets.ensures.value,
-  subst (λ (rs : List Range). find (begins_at c.in_ok-from.from.now) rs ≡ Some (record { from = c.in_ok-from.from.now; end = c.in_ok-from.end.now })) c.self.view_is
-      (last_below c.self.inside.ends c.args.range c.range.result c.next_back.new.self (c.in_ok-from.from.now, c.in_ok-from.end.now) (c.range.ensures.in_range tt) c.in_ok-from.ensures.steps c.self.invariant).found,
-)
+returns-then-meets-clause-found c =
+    subst (λ (rs : List Range). find (begins_at c.in_ok-from.from.now) rs ≡ Some (record { from = c.in_ok-from.from.now; end = c.in_ok-from.end.now })) c.self.view_is
+    (last_below c.self.inside.ends c.args.range c.range.result c.next_back.new.self (c.in_ok-from.from.now, c.in_ok-from.end.now) (c.range.ensures.in_range tt) c.in_ok-from.ensures.steps c.self.invariant).found
 
 pub returns-else-meets-clause-any : goal.returns-else-meets-clause-any
 returns-else-meets-clause-any c =
