@@ -1,0 +1,6 @@
+pub mod Course
+pub mod Places
+pub mod Permitted
+pub mod Turns
+pub mod Waving
+pub mod Below

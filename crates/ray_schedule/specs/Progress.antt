@@ -1,0 +1,66 @@
+-- How far a run has come: for proofs, and for the invariants of loops that run a device in waves. (Own.)
+use Rattle.std.specs.Prelude.{◌≡◌, ◌<◌, ◌≤◌, ℕ, Bool, true, false, Some}
+use Rattle.ray_schedule.specs.Units.{Device, Work, Memory, put, memory_before, outcome_at, is_faulty}
+use Rattle.ray_schedule.specs.Conflicts.{Conflict}
+use Rattle.ray_schedule.specs.Events.{Moment}
+
+module _ {Location : Type 0} {Held : Location → Type 0} {Outcome : Type 0} (d : Device Held Outcome) (start : Memory Held) where
+  -- a memory in which some units are stored: where those that write a location are the ones below a
+  -- number, the location holds what it holds before the unit of that number in recording order
+  abbrev pub IsSound : (ℕ → Type 0) → Memory Held → Type 0
+  IsSound Stored memory =
+      (l : Location) (k : ℕ)
+      → ((q : ℕ) → q < k → d.writes q l ≡ true → Stored q)
+      → ((q : ℕ) → k ≤ q → d.writes q l ≡ true → Stored q → ⊥)
+      → memory l ≡ memory_before d start k l
+
+  -- a moment at which some units are fetched and some stored: what is kept is as in recording order
+  pub record IsOnCourse (Fetched Stored : ℕ → Type 0) (moment : Moment Held Outcome) : Type 0 where
+    pub kept : (p : ℕ) → Fetched p → moment.kept p ≡ Some (outcome_at d start p)
+    pub sound : IsSound Stored moment.memory
+
+module _ {Location : Type 0} {Held : Location → Type 0} {Outcome : Type 0} (d : Device Held Outcome) where
+  -- a unit may be fetched: of the units that write what it reads, the earlier ones are stored and the
+  -- later ones, and itself, are not
+  pub record MayFetch (Stored : ℕ → Type 0) (p : ℕ) : Type 0 where
+    pub earlier : (l : Location) (q : ℕ) → d.reads p l ≡ true → q < p → d.writes q l ≡ true → Stored q
+    pub later : (l : Location) (q : ℕ) → d.reads p l ≡ true → p ≤ q → d.writes q l ≡ true → Stored q → ⊥
+
+  -- a unit may be stored: it isn't yet, and of the later units that write what it writes none is
+  pub record MayStore (Stored : ℕ → Type 0) (p : ℕ) : Type 0 where
+    pub fresh : Stored p → ⊥
+    pub over : (l : Location) (q : ℕ) → d.writes p l ≡ true → p < q → d.writes q l ≡ true → Stored q → ⊥
+
+module _ {Location : Type 0} {Held : Location → Type 0} {Outcome : Type 0} (d : Device Held Outcome) (number : ℕ → ℕ) where
+  -- the numbers of waves rise along conflicts of the first n units
+  abbrev pub AreRising : ℕ → Type 0
+  AreRising n = (p q : ℕ) (l : Location) → p < q → q < n → Conflict d p q l → number p < number q
+
+  -- what the fetches of wave v below a bound show, all from one memory: the least faulty unit, which
+  -- is the new bound, or none, and then the bound stays
+  pub record IsNewBound (v bound : ℕ) (memory : Memory Held) (new : ℕ) : Type 0 where
+    pub within : new ≤ bound
+    pub none_below : (p : ℕ) → p < new → number p ≡ v → d.is_fault (d.outcome p memory) ≡ false
+    pub in_wave : new < bound → number new ≡ v
+    pub here : new < bound → d.is_fault (d.outcome new memory) ≡ true
+
+  -- the memory once what was fetched of wave v below a bound is stored, in any order
+  pub record IsAfterWave (v bound : ℕ) (memory later : Memory Held) : Type 0 where
+    pub changed :
+        (p : ℕ) (l : Location) → p < bound → number p ≡ v → d.writes p l ≡ true
+        → later l ≡ put d p (d.outcome p memory) memory l
+    pub same :
+        (l : Location) → ((p : ℕ) → p < bound → number p ≡ v → d.writes p l ≡ true → ⊥)
+        → later l ≡ memory l
+
+module _ {Location : Type 0} {Held : Location → Type 0} {Outcome : Type 0} (work : Work Held Outcome) (number : ℕ → ℕ) where
+  -- the waves below number v are done, of the units below a bound, which is the least faulty unit among
+  -- these waves, or the count of units
+  pub record IsDoneTo (v bound : ℕ) (memory : Memory Held) : Type 0 where
+    pub stored : ℕ → Bool
+    pub all : (q : ℕ) → q < bound → number q < v → stored q ≡ true
+    pub only : (q : ℕ) → stored q ≡ true → (q < work.count) × (number q < v)
+    pub sound : IsSound work.device work.start (λ q. stored q ≡ true) memory
+    pub within : bound ≤ work.count
+    pub none_below : (q : ℕ) → q < bound → number q < v → is_faulty work.device work.start q ≡ false
+    pub here : bound < work.count → is_faulty work.device work.start bound ≡ true
