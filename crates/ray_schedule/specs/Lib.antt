@@ -6,3 +6,4 @@ pub mod Waves
 pub mod Faults
 pub mod Progress
 pub mod Laws
+pub mod ThreeCells

@@ -16,6 +16,8 @@
 
 mod laws;
 mod recorded;
+#[cfg(test)]
+mod tests;
 
 pub use laws::{every_schedule, first_commands, permitted_schedules, runs_in_waves};
 pub use recorded::Recorded;
