@@ -4,3 +4,4 @@ pub mod Permitted
 pub mod Turns
 pub mod Waving
 pub mod Below
+pub mod Whole

@@ -60,6 +60,14 @@ module _ {Location : Type 0} {Held : Location → Type 0} {Outcome : Type 0} (wo
       → IsFirstFault (is_found_faulty work.device (after es)) work.count b
       ↔ IsFirstFault is_at_fault work.count b
 
+  -- the law of schedules
+  pub record EverySchedule : Type 0 where
+    pub outcomes : OutcomesAreSame
+    pub memory : MemoryIsSame
+    pub fetches : FetchesReadTheSame
+    pub stores : StoresFindTheSame
+    pub fault : FirstFaultIsSame
+
   -- ---- which schedules are permitted
 
   -- recording order is
@@ -71,6 +79,11 @@ module _ {Location : Type 0} {Held : Location → Type 0} {Outcome : Type 0} (wo
   WavesArePermitted =
       (number : ℕ → ℕ) (waves : List Wave) → RisesAlong work.device work.before number work.count
       → AreWaves work.device number work.count 0 waves → MayRun (events_of work.device waves)
+
+  -- recording order and waves
+  pub record ArePermitted : Type 0 where
+    pub recording_order : RecordingOrderIsPermitted
+    pub waves : WavesArePermitted
 
   -- an order of the commands below a number permits the same of their units, where it is the same
   -- among these commands
@@ -140,6 +153,15 @@ module _ {Location : Type 0} {Held : Location → Type 0} {Outcome : Type 0} (wo
       → IsDoneTo work number v bound memory
       → IsFirstFault is_at_fault work.count bound
       × (bound ≡ work.count → (l : Location) → memory l ≡ before_unit work.count l)
+
+  -- a run in waves, from its beginning to its end
+  pub record WavesRun : Type 0 where
+    pub rise : WavesRise
+    pub free : WavesAreFree
+    pub begin : WavesBegin
+    pub fetches : WavesFetchTheSame
+    pub go_on : WavesGoOn
+    pub end : WavesEnd
 
 -- what holds of the work of a device holds of that of its first units
 abbrev pub HoldsBelow :

@@ -1,8 +1,8 @@
 -- A device of three cells, for the tests: units 0 and 1 write a number each into the cell of their
 -- own number, and unit 2 the sum of these into the third. Above 100 the sum is a fault. The order puts
 -- the commands 0 and 1 before command 2.
-use Rattle.std.specs.Prelude.{ℕ, zero, suc, ◌+◌, ◌==◌, ◌&&◌, nat_lt, Bool, true, false, List, [], ◌∷◌}
-use Rattle.ray_schedule.specs.Units.{Memory, Device, Work}
+use Rattle.std.specs.Prelude.{ℕ, zero, suc, ◌+◌, ◌==◌, ◌&&◌, nat_lt, Bool, false, List, [], ◌∷◌}
+use Rattle.ray_schedule.specs.Units.{Memory, Work}
 use Rattle.ray_schedule.specs.Events.{Event, Fetch, Store}
 use Rattle.ray_schedule.specs.Waves.{Wave}
 

@@ -1,10 +1,6 @@
 ghost use Rattle.ray_schedule.specs.Conflicts.{AreOrdered, IsForward, IsLocal};
-ghost use Rattle.ray_schedule.specs.Laws.{OutcomesAreSame, MemoryIsSame, FirstFaultIsSame};
-ghost use Rattle.ray_schedule.specs.Laws.{FetchesReadTheSame, StoresFindTheSame};
-ghost use Rattle.ray_schedule.specs.Laws.{RecordingOrderIsPermitted, WavesArePermitted};
+ghost use Rattle.ray_schedule.specs.Laws.{EverySchedule, ArePermitted, WavesRun};
 ghost use Rattle.ray_schedule.specs.Laws.{HoldsBelow, PartsArePermitted, FirstFaultBelow};
-ghost use Rattle.ray_schedule.specs.Laws.{WavesRise, WavesAreFree, WavesBegin};
-ghost use Rattle.ray_schedule.specs.Laws.{WavesFetchTheSame, WavesGoOn, WavesEnd};
 
 use crate::recorded::Recorded;
 
@@ -14,32 +10,14 @@ use crate::recorded::Recorded;
 pub fn every_schedule<R: Recorded>(recorded: &R)
     requires local { IsLocal (R.work recorded.now).device }
     requires ordered { let w = R.work recorded.now in AreOrdered w.device w.before w.count }
-    ensures outcomes { OutcomesAreSame (R.work recorded.now) }
-    ensures memory { MemoryIsSame (R.work recorded.now) }
-    ensures fetches { FetchesReadTheSame (R.work recorded.now) }
-    ensures stores { StoresFindTheSame (R.work recorded.now) }
-    ensures fault { FirstFaultIsSame (R.work recorded.now) }
+    ensures { EverySchedule (R.work recorded.now) }
 {}
 
 /// Which schedules are permitted: waves are, one after the other, whose numbers rise along the order;
 /// and recording order is, where the order goes with it. So the law of schedules isn't empty.
 pub fn permitted_schedules<R: Recorded>(recorded: &R)
     requires { let w = R.work recorded.now in IsForward w.device w.before w.count }
-    ensures recording_order { RecordingOrderIsPermitted (R.work recorded.now) }
-    ensures waves { WavesArePermitted (R.work recorded.now) }
-{}
-
-/// The commands below a number: the law of schedules holds of their units alone, an order of these
-/// commands alone permits the same, and the first fault is that of all where it is one of theirs.
-pub fn first_commands<R: Recorded>(recorded: &R)
-    requires local { IsLocal (R.work recorded.now).device }
-    requires ordered { let w = R.work recorded.now in AreOrdered w.device w.before w.count }
-    ensures outcomes { HoldsBelow OutcomesAreSame (R.work recorded.now) }
-    ensures memory { HoldsBelow MemoryIsSame (R.work recorded.now) }
-    ensures fetches { HoldsBelow FetchesReadTheSame (R.work recorded.now) }
-    ensures fault { HoldsBelow FirstFaultIsSame (R.work recorded.now) }
-    ensures parts { PartsArePermitted (R.work recorded.now) }
-    ensures first { FirstFaultBelow (R.work recorded.now) }
+    ensures { ArePermitted (R.work recorded.now) }
 {}
 
 /// A run in waves whose numbers rise along conflicts. Of each wave the units below a bound are fetched,
@@ -47,10 +25,18 @@ pub fn first_commands<R: Recorded>(recorded: &R)
 /// the first fault of recording order, whatever the waves met first.
 pub fn runs_in_waves<R: Recorded>(recorded: &R)
     requires { IsLocal (R.work recorded.now).device }
-    ensures rise { WavesRise (R.work recorded.now) }
-    ensures free { WavesAreFree (R.work recorded.now) }
-    ensures begin { WavesBegin (R.work recorded.now) }
-    ensures fetches { WavesFetchTheSame (R.work recorded.now) }
-    ensures go_on { WavesGoOn (R.work recorded.now) }
-    ensures end { WavesEnd (R.work recorded.now) }
+    ensures { WavesRun (R.work recorded.now) }
+{}
+
+/// The commands below a number. All of this holds of their units alone, an order of these commands
+/// alone permits the same, and the first fault is that of all where it is one of theirs.
+pub fn first_commands<R: Recorded>(recorded: &R)
+    requires local { IsLocal (R.work recorded.now).device }
+    requires ordered { let w = R.work recorded.now in AreOrdered w.device w.before w.count }
+    requires forward { let w = R.work recorded.now in IsForward w.device w.before w.count }
+    ensures schedules { HoldsBelow EverySchedule (R.work recorded.now) }
+    ensures permitted { HoldsBelow ArePermitted (R.work recorded.now) }
+    ensures waves { HoldsBelow WavesRun (R.work recorded.now) }
+    ensures parts { PartsArePermitted (R.work recorded.now) }
+    ensures fault { FirstFaultBelow (R.work recorded.now) }
 {}

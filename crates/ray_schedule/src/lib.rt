@@ -6,12 +6,11 @@
 //! `specs/Conflicts`, and runs in waves in `specs/Waves`. A crate that runs a device tells by
 //! [`Recorded`] what its units are, and has these laws of it, each the contract of a function:
 //! [`every_schedule`] (outcomes, memory, reads and the first fault are those of recording order),
-//! [`permitted_schedules`] (recording order is permitted, and so are waves), [`first_commands`] (the
-//! same of the commands below a number) and [`runs_in_waves`] (up to the first fault).
+//! [`permitted_schedules`] (recording order is permitted, and so are waves), [`runs_in_waves`] (up to
+//! the first fault) and [`first_commands`] (all this of the commands below a number).
 //!
-//! The layer above uses the clauses of these, at its own device; their proofs stand in
-//! `proofs/Permitted`, `proofs/Turns`, `proofs/Below` and `proofs/Waving`, by the same words. It stands
-//! on nothing.
+//! The layer above uses the clauses of these, at its own device, or the lemmas of `proofs/Whole` that
+//! they stand on, by the same words. It stands on nothing.
 #![tactic(auto)]
 
 mod laws;

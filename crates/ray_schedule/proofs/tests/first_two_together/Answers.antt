@@ -48,22 +48,24 @@ last p (inr none) = absurd none
 
 waves : AreWaves three_cells.device wave_of 3 0 two_waves
 waves = (
+  record {
+    begins = λ p. (of_first p, λ is. first_of p is.1);
+    begins_once = ((λ q a. elim a [ inl same ↦ λ e. absurd (omega arith) | inr none ↦ absurd none ]), ((λ q none. absurd none), tt));
+    stores = λ p. (
+      λ a. let of = of_first p (in_turn p a) in (of.0, of.1, refl),
+      λ is. elim (early p is.1) [ inl e ↦ inl e | inr e ↦ inr (inl e) ],
+    );
+    stores_once = ((λ q a. elim a [ inl same ↦ λ e. absurd (omega arith) | inr none ↦ absurd none ]), ((λ q none. absurd none), tt));
+  },
+  (
     record {
-      begins = λ p. (of_first p, λ is. first_of p is.1);
-      begins_once = ((λ q a. elim a [ inl same ↦ λ e. absurd (omega arith) | inr none ↦ absurd none ]), ((λ q none. absurd none), tt));
-      stores = λ p. (
-        λ a. let of = of_first p (in_turn p a) in (of.0, of.1, refl),
-        λ is. elim (early p is.1) [ inl e ↦ inl e | inr e ↦ inr (inl e) ],
-      );
-      stores_once = ((λ q a. elim a [ inl same ↦ λ e. absurd (omega arith) | inr none ↦ absurd none ]), ((λ q none. absurd none), tt));
-    },
-    (record {
       begins = λ p. (last p, λ is. inl (late p is.0 is.1));
       begins_once = ((λ q none. absurd none), tt);
       stores = λ p. (λ a. let of = last p a in (of.0, of.1, refl), λ is. inl (late p is.0 is.1));
       stores_once = ((λ q none. absurd none), tt);
     },
-    past),
+    past,
+  ),
 )
   where
     past : (p : ℕ) → p < 3 → wave_of p < 2
