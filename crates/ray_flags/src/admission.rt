@@ -70,13 +70,22 @@ fn culled_by_opacity(opaque: bool, ray: RayFlags) -> bool
     }
 }
 
+/// Whether a triangle shows its front once its instance has flipped it, or not: the face that is
+/// culled and reported. `front` says so of the triangle before. (Vulkan, "Ray Traversal": ray
+/// culling.)
+pub fn shows_front(front: bool, instance: InstanceFlags) -> bool
+    ensures { result ≡ shows_front front instance }
+{
+    front ^ instance.contains(InstanceFlags::TRIANGLE_FLIP_FACING)
+}
+
 // Whether the ray culls a primitive for the face that it shows.
 fn culled_by_face(kind: Kind, front: bool, instance: InstanceFlags, ray: RayFlags) -> bool
     ensures { result ≡ is_culled_by_face kind front instance ray }
 {
     match kind {
         Kind::Triangle => {
-            let shown = front ^ instance.contains(InstanceFlags::TRIANGLE_FLIP_FACING);
+            let shown = shows_front(front, instance);
             let disabled = instance.contains(InstanceFlags::TRIANGLE_FACING_CULL_DISABLE);
             !disabled && face_culled(shown, ray)
         }

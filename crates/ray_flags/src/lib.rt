@@ -9,7 +9,7 @@
 //!
 //! The layer above uses [`effective`], the opacity of a primitive, and [`culled`], whose clauses
 //! say by `opacity_of` and `IsCulled` of `specs/Admission` which primitives a ray passes over for
-//! their kind, their opacity or their face.
+//! their kind, their opacity or their face. [`shows_front`] is the face that it sees.
 //!
 //! It stands on `bitflags` alone. No call takes memory.
 #![tactic(auto)]
@@ -27,7 +27,7 @@ mod usage;
 mod words;
 
 pub use access::Access;
-pub use admission::{culled, effective};
+pub use admission::{culled, effective, shows_front};
 pub use build_flags::BuildFlags;
 pub use instance_flags::InstanceFlags;
 pub use kind::Kind;

@@ -1,13 +1,11 @@
 -- What the output of an action is: computed from the memory at one moment. (Vulkan: acceleration structure builds, ray
 -- traversal, ray queries; own: the records, the limits, exact numbers.)
-use Rattle.std.specs.Prelude.{◌≡◌, Result, Ok, Err, ℕ, ℤ, pos, negsuc, slice_index_or, take, drop, ◌+◌, ◌*◌, ◌/◌, ◌%◌, ◌-◌, ◌^◌, ◌==◌, ◌&&◌, nat_lt, Bool, not, List, Option, Some, None, option_and_then, option_map, unwrap_or, bit_and, if◌then◌else◌}
-use Rattle.std.specs.Ordering.{int_eq}
-use Rattle.std.specs.Bool.{beq}
+use Rattle.std.specs.Prelude.{◌≡◌, Result, Ok, Err, ℕ, ℤ, pos, slice_index_or, take, drop, ◌*◌, ◌==◌, ◌&&◌, Bool, true, not, List, Option, Some, None, option_and_then, unwrap_or, if◌then◌else◌}
 use Rattle.ray_geom.specs.Scene.{RayValue, TriValue, ray_value, tri_value}
 use Rattle.ray_geom.specs.Decided.{where_so, ray_decided, tri_decided}
 use Rattle.ray_geom.specs.HitValue.{HitValue, hit_of}
 use Rattle.ray_bytes.specs.declared.data_rule.DataRule.{DataRule}
-use Rattle.ray_bytes.specs.declared.data_rule.DataRule.TheVariants.{X2, X11}
+use Rattle.ray_bytes.specs.declared.data_rule.DataRule.TheVariants.{X2, X5, X11}
 use Rattle.ray_cmd.specs.declared.place.Place.{Place}
 use Rattle.ray_cmd.specs.declared.place.Place.TheVariants.{Part, Element}
 use Rattle.ray_bytes.specs.declared.data_fault.DataFault.{DataFault}
@@ -23,22 +21,30 @@ use Rattle.ray_state.specs.DataPlace.{place_of}
 use Rattle.ray_bytes.specs.declared.format.Format.TheVariants.{S32x3}
 use Rattle.ray_bytes.specs.declared.instance_record.InstanceRecord.{InstanceRecord}
 use Rattle.ray_bytes.specs.declared.ray_record.RayRecord.{RayRecord}
-use Rattle.ray_bytes.specs.Hits.{hit_of_bytes}
+use Rattle.ray_bytes.specs.declared.reference.Reference.{Reference}
+use Rattle.ray_bytes.specs.declared.reference.Reference.TheVariants.{Inactive, Structure, Unknown}
+use Rattle.ray_bytes.specs.References.{structure_of}
+use Rattle.ray_bytes.specs.InactiveMark.{is_inactive_mark}
+use Rattle.ray_bytes.specs.Hits.{hit_of_bytes, miss}
+use Rattle.ray_flags.specs.declared.kind.Kind.TheVariants.{Triangle}
+use Rattle.ray_flags.specs.declared.ray_flags.RayFlags.{RayFlags}
+use Rattle.ray_flags.specs.Admission.{opacity_of, is_culled, shows_front}
 use Rattle.ray_bytes.specs.Records.{vertex_of, instance_of, ray_of}
 use Rattle.ray_geom.specs.declared.vec3.Vec3.{Vec3}
 use Rattle.ray_geom.specs.Vector.{vec3}
 use Rattle.ray_state.specs.Memory.{Memory, StructureAt, bytes_at}
-use Rattle.ray_state.specs.Action.{Action, MakeBuffer, MakeStructure, BuildBottom, BuildTop, TraceRay, ShowHit, Rest}
+use Rattle.ray_state.specs.Action.{Action, MakeBuffer, MakeStructure, BuildBottom, BuildTop, TraceRay, ShowHit, Rest, Unbuilt}
 
 -- a data rule that an action's inputs break, and where
 pub record Fault : Type 0 where
   pub rule : DataRule
   pub place : Place
 
--- what an action gives: an output, or the first data rule that its inputs break
+-- what an action gives: an output, or the first data rule that its inputs break; what an action without a meaning gives is undefined
 pub data Outcome : Type 0 where
   Gives : (output : Output) → Outcome
   Breaks : (fault : Fault) → Outcome
+  Undefined : Outcome
 
 -- a build's result is an outcome: its contents are given, or its fault is the broken rule
 abbrev pub IsBuilt : Outcome → Result Contents DataFault → Type 0
@@ -84,9 +90,9 @@ ray_within bytes = where_so (ray_decided (recorded_ray (ray_of bytes))) (recorde
 abbrev pub triangle_within : List ℕ → Option TriValue
 triangle_within bytes = where_so (tri_decided (triangle_of bytes)) (triangle_of bytes)
 
--- whether the first vertex's x marks a triangle as inactive: it is -2^31 (own)
+-- whether the first vertex's x marks a triangle as inactive
 abbrev pub is_inactive : List ℕ → Bool
-is_inactive bytes = int_eq (vertex_in bytes 0).x (negsuc (2 ^ 31 - 1))
+is_inactive bytes = is_inactive_mark (vertex_in bytes 0).x
 
 -- what a build of a triangle within the limits gives, or of one beyond them
 abbrev pub bottom_with : Option TriValue → Outcome
@@ -99,23 +105,29 @@ bottom_of bytes =
     if is_inactive bytes then Gives (Built (Bottom None))
     else bottom_with (triangle_within bytes)
 
--- the id of the structure that a reference names, if it names one: the reference is 256 times one more than the id; that
--- of the path form names structure 0 (own)
-abbrev pub structure_id_of : ℕ → Option ℕ
-structure_id_of reference =
-    if (reference % 256 == 0) && (nat_lt 0 reference && nat_lt (reference / 256) (2 ^ 32 + 1))
-    then Some (reference / 256 - 1)
-    else None
-
--- the instance of a record, active where its reference names a structure (Vulkan: VkAccelerationStructureInstanceKHR)
-abbrev pub active_instance : InstanceRecord → Option Instance
-active_instance r = option_map (λ id. record {
+-- the instance of a record that refers to the structure of an id (Vulkan: VkAccelerationStructureInstanceKHR)
+abbrev pub instance_with : InstanceRecord → ℕ → Instance
+instance_with r id = record {
   custom = r.custom;
   mask = r.mask;
   sbt = r.sbt;
-  flags = r.flags;
+  flags = record { 0 = r.flags };
   id = id;
-}) (structure_id_of r.reference)
+}
+
+-- what a build of the one instance of a record gives: it is inactive, refers to a structure, or to none
+abbrev pub top_with : InstanceRecord → Reference → Outcome
+top_with r Inactive = Gives (Built (Top None))
+top_with r (Structure id) = Gives (Built (Top (Some (instance_with r id))))
+top_with r Unknown = Breaks (record { rule = X5; place = Element 0 0 0 })
+
+-- what a build of the one instance of a record gives
+abbrev pub top_of_record : InstanceRecord → Outcome
+top_of_record r = top_with r (structure_of r.reference)
+
+-- what a build of the one instance of 64 bytes gives
+abbrev pub top_of : List ℕ → Outcome
+top_of bytes = top_of_record (instance_of bytes)
 
 -- what the structure of an id holds, where it is live and built
 abbrev pub contents_at : Memory → ℕ → Option Contents
@@ -131,14 +143,21 @@ abbrev pub triangle_in : Contents → Option TriValue
 triangle_in (Top instance) = None
 triangle_in (Bottom triangle) = triangle
 
--- admission of an opaque triangle, to a ray with cull mask 255 and no flags: its instance's mask isn't 0, and the instance
--- doesn't force it to be not opaque, since what isn't opaque is offered to a script without rules and ignored
-abbrev pub admits : Instance → Bool
-admits instance = not (instance.mask == 0) && (bit_and instance.flags 8 == 0)
+-- the flags of a ray that has none
+abbrev pub no_flags : RayFlags
+no_flags = record { 0 = 0 }
 
--- the face: the front where the determinant in the direction is negative, turned by the instance's flag 2
+-- admission of an opaque triangle that shows this face, to a ray with cull mask 255 and no flags: the mask of its instance
+-- isn't 0, it counts as opaque, since what doesn't is offered to a script without rules and ignored, and it isn't culled
+abbrev pub admits : Instance → Bool → Bool
+admits instance front =
+    not (instance.mask == 0)
+    && (opacity_of true instance.flags no_flags && not (is_culled Triangle true front instance.flags no_flags))
+
+-- the face: 1 where the triangle shows its front, which it does where the determinant in the direction is negative and the
+-- instance doesn't turn it, else 2
 abbrev pub face_of : Instance → Bool → ℕ
-face_of instance den_negative = if not (beq den_negative (not (bit_and instance.flags 2 == 0))) then 1 else 2
+face_of instance den_negative = if shows_front den_negative instance.flags then 1 else 2
 
 -- the record of a hit of the one triangle of the one instance
 abbrev pub record_of : Instance → HitValue → HitRecord
@@ -156,32 +175,15 @@ record_of instance hit = record {
   v = hit.v;
 }
 
--- the record of a miss
-abbrev pub miss : HitRecord
-miss = record {
-  kind = 0;
-  instance = 0;
-  custom = 0;
-  sbt = 0;
-  geometry = 0;
-  primitive = 0;
-  face = 0;
-  spare = 0;
-  t = (0, 0);
-  u = (0, 0);
-  v = (0, 0);
-}
-
--- what the ray hits of a triangle of an instance
-abbrev pub hit_of_triangle : RayValue → Instance → TriValue → Option HitRecord
-hit_of_triangle ray instance triangle = option_map (record_of instance) (hit_of ray triangle)
+-- the record of a hit, where its triangle is admitted
+abbrev pub admitted : Instance → HitValue → Option HitRecord
+admitted instance hit = if admits instance hit.den_negative then Some (record_of instance hit) else None
 
 -- what the ray hits of an instance
 abbrev pub hit_of_instance : Memory → RayValue → Instance → Option HitRecord
 hit_of_instance memory ray instance =
-    if admits instance
-    then option_and_then (hit_of_triangle ray instance) (option_and_then triangle_in (contents_at memory instance.id))
-    else None
+    option_and_then (admitted instance)
+    (option_and_then (hit_of ray) (option_and_then triangle_in (contents_at memory instance.id)))
 
 -- what the ray hits of a top structure: each primitive is tested
 abbrev pub hit_through : Memory → ℕ → RayValue → HitRecord
@@ -202,7 +204,8 @@ abbrev pub outcome_of : Action → Memory → Outcome
 outcome_of (MakeBuffer id size content) memory = Gives Nothing
 outcome_of (MakeStructure id kind) memory = Gives Nothing
 outcome_of (BuildBottom structure vertices) memory = bottom_of (bytes_at memory vertices 36)
-outcome_of (BuildTop structure instance) memory = Gives (Built (Top (active_instance (instance_of (bytes_at memory instance 64)))))
+outcome_of (BuildTop structure instance) memory = top_of (bytes_at memory instance 64)
 outcome_of (TraceRay top ray hit) memory = trace_of memory top (bytes_at memory ray 40)
 outcome_of (ShowHit hit) memory = Gives (Hit (hit_of_bytes (bytes_at memory hit 80)))
 outcome_of Rest memory = Gives Nothing
+outcome_of Unbuilt memory = Undefined

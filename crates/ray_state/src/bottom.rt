@@ -1,11 +1,13 @@
-ghost use Rattle.std.specs.Prelude.{◌≡◌, ◌+◌, ◌<◌, ◌≤◌, length};
+ghost use Rattle.std.specs.Prelude.{◌≡◌, ◌+◌, ◌*◌, ◌<◌, ◌≤◌, length, take, drop};
+ghost use Rattle.ray_bytes.specs.declared.format.Format.TheVariants.{S32x3};
+ghost use Rattle.ray_bytes.specs.Records.{vertex_of};
 ghost use Rattle.ray_state.specs.Memory.{memory_of, bytes_at};
 ghost use Rattle.ray_state.specs.Meaning.{IsBuilt, bottom_of, bottom_with, is_inactive, triangle_within, vertex_in};
 
 use crate::contents::Contents;
 use crate::point::point;
 use crate::state::State;
-use ray_bytes::{DataFault, DataRule, Format, VertexView};
+use ray_bytes::{DataFault, DataRule, Format, VertexView, is_inactive_mark};
 use ray_cmd::Spot;
 use ray_geom::{Steps, Tri, Vec3};
 use std::sync::ledger::Ledger;
@@ -44,7 +46,8 @@ fn has_mark(bytes: &[u8]) -> bool
     requires { length bytes.now ≡ 36 }
     ensures { result ≡ is_inactive bytes.now }
 {
-    vertex(bytes, 0).x == i64::from(i32::MIN)
+    let [x, _, _] = corner(bytes, 0);
+    is_inactive_mark(x)
 }
 
 // The contents of a bottom structure of an active triangle, where it keeps the limits.
@@ -69,12 +72,21 @@ fn triangle(bytes: &[u8]) -> Option<Tri>
     Tri::new(vertex(bytes, 0), vertex(bytes, 1), vertex(bytes, 2))
 }
 
-// Vertex number `k` of 36 bytes.
+// Vertex number `k` of 36 bytes, as a point.
 fn vertex(bytes: &[u8], k: u64) -> Vec3
     requires whole { length bytes.now ≡ 36 }
     requires there { k < 3 }
     ensures { result ≡ vertex_in bytes.now k }
 {
+    point(corner(bytes, k))
+}
+
+// Vertex number `k` of 36 bytes.
+fn corner(bytes: &[u8], k: u64) -> [i32; 3]
+    requires whole { length bytes.now ≡ 36 }
+    requires there { k < 3 }
+    ensures { result ≡ vertex_of S32x3 (take 12 (drop (k * 12) bytes.now)) }
+{
     let vertices = VertexView::new(bytes, 0, 12, Format::S32x3);
-    point(vertices.get(k).unwrap())
+    vertices.get(k).unwrap()
 }

@@ -1,6 +1,6 @@
-ghost use Rattle.std.specs.Prelude.{◌≡◌, ◌+◌, ◌<◌, ◌≤◌, length, IfOk, IfErr};
+ghost use Rattle.std.specs.Prelude.{◌≡◌, ◌+◌, ◌<◌, ◌≤◌, length, IfOk, IfErr, IsTrue};
 ghost use Rattle.ray_state.specs.Memory.{memory_of, bytes_at};
-ghost use Rattle.ray_state.specs.Action.{TraceRay, device_action_of, device_action_at, pieces_of};
+ghost use Rattle.ray_state.specs.Action.{TraceRay, device_action_of, device_action_at, command_at, has_meaning, is_host, pieces_of};
 ghost use Rattle.ray_state.specs.Tasks.{task_action};
 ghost use Rattle.ray_state.specs.Meaning.{outcome_of, Gives, Causes, IsFetched, IsTraced};
 
@@ -20,22 +20,45 @@ use std::alloc::Global;
 use std::sync::ledger::Ledger;
 use std::thread::Threads;
 
-/// How many pieces command number `i` has: none where it is a host command, else one.
+/// Whether command number `i` is the host's, which is done at once.
+pub fn is_host(rec: &Recording, i: u32) -> bool
+    requires { i < length rec.now }
+    ensures { result ≡ is_host (command_at rec.now i) }
+{
+    match rec.command(i) {
+        Command::Buffer { .. }
+        | Command::Structure { .. }
+        | Command::Destroy { .. }
+        | Command::Sizes { .. }
+        | Command::Begin
+        | Command::End
+        | Command::Submit
+        | Command::Wait
+        | Command::Read { .. } => true,
+        _ => false,
+    }
+}
+
+// How many rays a piece of a trace has at most.
+const RAYS_A_PIECE: u32 = 64;
+
+/// How many pieces command number `i` has: none where it is a host command, one an info of a build,
+/// a region of a copy or a run of 64 rays of a trace, and else one.
 pub fn pieces(rec: &Recording, i: u32) -> u32
     requires { i < length rec.now }
     ensures { result ≡ pieces_of rec.now i }
 {
     match rec.command(i) {
+        Command::Copy { regions, .. } => regions.as_slice().len() as u32,
+        Command::Build { infos } => infos.as_slice().len() as u32,
+        Command::Trace { count, .. } => count.div_ceil(RAYS_A_PIECE),
         Command::Update { .. }
         | Command::Fill { .. }
-        | Command::Copy { .. }
-        | Command::Build { .. }
         | Command::CopyStructure { .. }
         | Command::Serialize { .. }
         | Command::Deserialize { .. }
         | Command::Property { .. }
-        | Command::Barrier { .. }
-        | Command::Trace { .. } => 1,
+        | Command::Barrier { .. } => 1,
         _ => 0,
     }
 }
@@ -55,7 +78,10 @@ pub fn fetch<R: Threads + Sync, L: Ledger>(
     piece: Piece,
     steps: &mut Steps<L>,
 ) -> Result<PieceOut, FetchFault>
-    requires { piece.command < length rec.now }
+    requires within { piece.command < length rec.now }
+
+    // The form of its command is built.
+    requires meant { IsTrue (has_meaning (device_action_at rec.now piece.command)) }
 
     // The output is that of the memory as it is, and so is the fault.
     ensures piece { IfOk result (λ out. out.piece ≡ piece) }
@@ -74,15 +100,17 @@ pub fn fetch<R: Threads + Sync, L: Ledger>(
 
 // The output of a piece.
 fn output<L: Ledger>(state: &State, task: Task, steps: &mut Steps<L>) -> Result<Output, FetchFault>
+    requires { IsTrue (has_meaning (task_action task)) }
     ensures value { IsFetched (outcome_of (task_action task) (memory_of state.now)) result }
     ensures rising { steps.old ≤ steps.new }
     ensures cost { steps.new ≤ steps.old + 1 }
 {
     match task {
         Task::BuildBottom { vertices, .. } => Ok(Output::Built(bottom(state, vertices, steps)?)),
-        Task::BuildTop { instance, .. } => Ok(Output::Built(top(state, instance))),
+        Task::BuildTop { instance, .. } => Ok(Output::Built(top(state, instance)?)),
         Task::TraceRay { top, ray, hit } => Ok(Output::Hit(traced(state, top, ray, hit, steps)?)),
         Task::Rest => Ok(Output::Nothing),
+        Task::Unbuilt => unreachable!("the form of the command is built"),
     }
 }
 

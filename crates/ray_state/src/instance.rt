@@ -1,3 +1,5 @@
+use ray_flags::InstanceFlags;
+
 /// An active instance of a bottom structure, as a build of a top structure reads it. (Vulkan:
 /// VkAccelerationStructureInstanceKHR.) The path form fixes its matrix to the identity, so none is
 /// kept yet.
@@ -9,8 +11,8 @@ pub struct Instance {
     pub mask: u8,
     /// The binding-table offset, below 2^24.
     pub sbt: u32,
-    /// The flags: 1 disables facing culls, 2 flips facing, 4 forces opaque, 8 forces no opaque.
-    pub flags: u8,
+    /// The flags: what becomes of its triangles' faces and of their opacity.
+    pub flags: InstanceFlags,
     /// The id of its bottom structure.
     pub id: u32,
 }

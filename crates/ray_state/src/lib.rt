@@ -10,9 +10,11 @@
 //! `put` of `specs/Action` what the memory is afterwards. `specs/Run` makes of both the run of a
 //! recording in order.
 //!
-//! A form of a command that isn't built has no meaning here yet, and no run comes to one.
+//! A command whose form isn't built has the action `Unbuilt`, which has no meaning: no piece of one
+//! is fetched.
 //!
-//! It stands on ray_cmd (the commands), ray_geom (the intersection) and ray_bytes (the records).
+//! It stands on ray_cmd (the commands), ray_geom (the intersection), ray_bytes (the records) and
+//! ray_flags (admission).
 #![tactic(auto)]
 
 mod bottom;
@@ -36,7 +38,7 @@ mod trace;
 
 pub use contents::Contents;
 pub use fetch_fault::FetchFault;
-pub use fetching::{fetch, pieces};
+pub use fetching::{fetch, is_host, pieces};
 pub use instance::Instance;
 pub use output::Output;
 pub use piece::Piece;

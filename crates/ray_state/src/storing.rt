@@ -20,7 +20,7 @@ pub fn store(state: &mut State, rec: &Recording, out: PieceOut)
             store_contents(state, structure, &out.output)
         }
         Task::TraceRay { hit, .. } => store_hit(state, hit, &out.output),
-        Task::Rest => {}
+        Task::Rest | Task::Unbuilt => {}
     }
 }
 

@@ -1,3 +1,7 @@
+ghost use Rattle.std.specs.Prelude.{◌<◌, length, IsTrue};
+ghost use Rattle.ray_state.specs.Action.{device_action_at, has_meaning};
+
+use crate::task::Task;
 use crate::{FetchFault, Output, Piece, PieceOut, State, fetch, pieces, store};
 use ray_bytes::{DataRule, HitRecord};
 use ray_cmd::{Place, Recording, read_recording};
@@ -82,6 +86,17 @@ fn counts_pieces(rt: HostRuntime) -> Result<(), Fail> {
     Ok(())
 }
 
+// Whether the pieces of a command have a meaning.
+fn is_meant(rec: &Recording, i: u32) -> bool
+    requires { i < length rec.now }
+    ensures { IsTrue result → IsTrue (has_meaning (device_action_at rec.now i)) }
+{
+    match Task::of(rec.command(i)) {
+        Task::Unbuilt => false,
+        _ => true,
+    }
+}
+
 // The text of a recording whose commands run in order, or the first fault with its command.
 fn run<R: Threads + Sync>(
     rt: &R,
@@ -94,6 +109,9 @@ fn run<R: Threads + Sync>(
     for command in 0..rec.len() {
         let no_memory = (command, FetchFault::NoMemory);
         state.host(rec, command).map_err(|_| no_memory)?;
+        if !is_meant(rec, command) {
+            return Err(no_memory);
+        }
         for part in 0..pieces(rec, command) {
             let piece = Piece { command, part };
             let out = fetch(rt, alloc, &state, rec, piece, &mut steps).map_err(|fault| (

@@ -3,18 +3,18 @@ ghost use Rattle.ray_state.specs.Text.{hit_line, kind_word, place_text, numbers_
 
 use crate::state::State;
 use ray_bytes::HitRecord;
-use ray_cmd::{Command, Recording, Spot};
+use ray_cmd::{Command, ReadForm, Recording, Spot};
 use std::alloc::{AllocError, Global};
 
 impl State {
     ghost use Rattle.ray_state.specs.Memory.{memory_of, bytes_at};
     ghost use Rattle.ray_bytes.specs.Hits.{hit_of_bytes};
-    ghost use Rattle.ray_state.specs.Action.{action_at};
+    ghost use Rattle.ray_state.specs.Action.{action_at, read_of};
     ghost use Rattle.ray_state.specs.Meaning.{outcome_of};
     ghost use Rattle.ray_state.specs.Run.{shown};
 
     /// Appends the text of command number `i` to `out`, from the bytes as they are now. Only a
-    /// `read` has text. After a want of memory `out` is as before.
+    /// `read` of one hit has text so far. After a want of memory `out` is as before.
     pub fn text(&self, rec: &Recording, i: u32, out: &mut Vec<u8>) -> Result<(), AllocError>
         requires { i < length rec.now }
         ensures ok { OnOk result (out.new.items ≡ out.old.items
@@ -22,15 +22,37 @@ impl State {
         ensures err { OnErr result (out.new.items ≡ out.old.items) }
     {
         match rec.command(i) {
-            Command::Read { buffer, offset, .. } => {
-                let hit = Spot {
+            Command::Read {
+                buffer,
+                offset,
+                size,
+                form,
+            } => {
+                let from = Spot {
                     buffer: *buffer,
                     offset: *offset,
                 };
-                let line = self.hit_text(hit)?;
+                let line = self.read_text(from, *size, *form)?;
                 out.extend_from_slice(line.as_bytes())
             }
             _ => Ok(()),
+        }
+    }
+
+    // The text of a read from a spot: of one hit, so far.
+    fn read_text(&self, from: Spot, size: u64, form: ReadForm) -> Result<String, AllocError>
+        ensures { IfOk result (λ text. string_bytes text ≡ shown (read_of from size form)
+            (outcome_of (read_of from size form) (memory_of self.now))) }
+    {
+        match form {
+            ReadForm::Hits => {
+                if size == 80 {
+                    self.hit_text(from)
+                } else {
+                    Ok(String::new(self.allocator()))
+                }
+            }
+            ReadForm::Hex | ReadForm::U64 => Ok(String::new(self.allocator())),
         }
     }
 

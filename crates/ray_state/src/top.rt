@@ -1,23 +1,22 @@
 ghost use Rattle.std.specs.Prelude.{◌≡◌, length};
 ghost use Rattle.ray_bytes.specs.Records.{instance_of};
-ghost use Rattle.ray_state.specs.declared.contents.Contents.TheVariants.{Top};
 ghost use Rattle.ray_state.specs.Memory.{memory_of, bytes_at};
-ghost use Rattle.ray_state.specs.Meaning.{active_instance, structure_id_of};
+ghost use Rattle.ray_state.specs.Meaning.{IsBuilt, instance_with, top_of, top_of_record};
 
 use crate::contents::Contents;
 use crate::instance::Instance;
 use crate::state::State;
-use ray_bytes::{InstanceRecord, InstanceView};
+use ray_bytes::{DataFault, DataRule, InstanceRecord, InstanceView, Reference, structure_of};
 use ray_cmd::Spot;
+use ray_flags::InstanceFlags;
 
-// The contents of a top structure of the one instance that stands at the spot. It is inactive
-// where its reference names no structure.
-pub(crate) fn top(state: &State, instance: Spot) -> Contents
-    ensures { result ≡ Top (active_instance (instance_of (bytes_at (memory_of state.now) instance 64))) }
+// The contents of a top structure of the one instance that stands at the spot.
+pub(crate) fn top(state: &State, instance: Spot) -> Result<Contents, DataFault>
+    ensures { IsBuilt (top_of (bytes_at (memory_of state.now) instance 64)) result }
 {
     let mut bytes = [0u8; 64];
     state.copy_out(instance, &mut bytes);
-    Contents::Top(active(&record_in(&bytes)))
+    of_record(&record_in(&bytes))
 }
 
 // The record of 64 bytes.
@@ -28,28 +27,31 @@ fn record_in(bytes: &[u8]) -> InstanceRecord
     InstanceView::new(bytes, 0).get(0).unwrap()
 }
 
-// The instance of a record, where it is active.
-fn active(instance: &InstanceRecord) -> Option<Instance>
-    ensures { result ≡ active_instance instance.now }
+// The contents of a top structure of the one instance of a record, unless its reference names no
+// structure.
+fn of_record(record: &InstanceRecord) -> Result<Contents, DataFault>
+    ensures { IsBuilt (top_of_record record.now) result }
 {
-    let id = structure_id(instance.reference)?;
-    Some(Instance {
-        custom: instance.custom,
-        mask: instance.mask,
-        sbt: instance.sbt,
-        flags: instance.flags,
-        id,
-    })
+    match structure_of(record.reference) {
+        Reference::Inactive => Ok(Contents::Top(None)),
+        Reference::Structure(id) => Ok(Contents::Top(Some(instance(record, id)))),
+        Reference::Unknown => Err(DataFault {
+            rule: DataRule::X5,
+            geometry: 0,
+            element: Some(0),
+        }),
+    }
 }
 
-// The id of the structure that a reference names: the reference is 256 times one more than the id.
-fn structure_id(reference: u64) -> Option<u32>
-    ensures { result ≡ structure_id_of reference }
+// The instance of a record that refers to the structure of an id.
+fn instance(record: &InstanceRecord, id: u32) -> Instance
+    ensures { result ≡ instance_with record.now id }
 {
-    let number = reference / 256;
-    if reference % 256 == 0 && 0 < reference && number <= 1 << 32 {
-        Some((number - 1) as u32)
-    } else {
-        None
+    Instance {
+        custom: record.custom,
+        mask: record.mask,
+        sbt: record.sbt,
+        flags: InstanceFlags(record.flags),
+        id,
     }
 }

@@ -1,17 +1,23 @@
-ghost use Rattle.std.specs.Prelude.{◌≡◌, ◌+◌, ◌≤◌, length, option_and_then};
+ghost use Rattle.std.specs.Prelude.{◌≡◌, ◌+◌, ◌≤◌, length, option_and_then, true};
 ghost use Rattle.ray_geom.specs.HitValue.{hit_value};
+ghost use Rattle.ray_flags.specs.Admission.{opacity_of};
 ghost use Rattle.ray_state.specs.Memory.{memory_of, bytes_at};
 ghost use Rattle.ray_bytes.specs.Records.{ray_of};
-ghost use Rattle.ray_state.specs.Meaning.{ray_within, contents_at, instance_in, triangle_in, hit_of_instance, hit_through, admits, record_of};
+ghost use Rattle.ray_state.specs.Meaning.{ray_within, contents_at, instance_in, triangle_in, hit_of_instance, hit_through, admits, admitted, no_flags, record_of};
 
 use crate::contents::Contents;
 use crate::instance::Instance;
 use crate::point::point;
 use crate::state::State;
+use bitflags::Flags;
 use ray_bytes::{HitRecord, RayRecord, RayView};
 use ray_cmd::Spot;
+use ray_flags::{InstanceFlags, Kind, RayFlags, culled, effective, shows_front};
 use ray_geom::{Ray, Steps, Tri, TriHit, hit_tri};
 use std::sync::ledger::Ledger;
+
+// The flags of a ray that has none.
+const NO_FLAGS: RayFlags = RayFlags(0);
 
 // The ray that stands at the spot. None where it breaks the limits.
 pub(crate) fn ray(state: &State, spot: Spot) -> Option<Ray>
@@ -62,13 +68,9 @@ fn hit_in<L: Ledger>(
     ensures rising { steps.old ≤ steps.new }
     ensures cost { steps.new ≤ steps.old + 1 }
 {
-    if !is_admitted(instance) {
-        return None;
-    }
     let triangle = triangle(state, instance.id)?;
     steps.tick();
-    let hit = hit_tri(ray, &triangle)?;
-    Some(record(instance, &hit))
+    admitted(instance, &hit_tri(ray, &triangle)?)
 }
 
 // The active instance of the top structure of this id.
@@ -91,20 +93,43 @@ fn triangle(state: &State, bottom: u32) -> Option<Tri>
     }
 }
 
-// Whether the ray may meet the instance's triangle: the mask isn't 0, and the instance doesn't
-// force the triangle to be not opaque.
-fn is_admitted(instance: &Instance) -> bool
-    ensures { result ≡ admits instance.now }
+// The record of a hit, where its triangle is admitted.
+fn admitted(instance: &Instance, hit: &TriHit) -> Option<HitRecord>
+    ensures { result ≡ admitted instance.now (hit_value hit.now) }
 {
-    instance.mask != 0 && instance.flags & 8 == 0
+    if admits(instance, hit.den_negative) {
+        Some(record(instance, hit))
+    } else {
+        None
+    }
+}
+
+// Whether an opaque triangle that shows this face is admitted to a ray with cull mask 255 and no
+// flags.
+fn admits(instance: &Instance, front: bool) -> bool
+    ensures { result ≡ admits instance.now front }
+{
+    instance.mask != 0
+        && is_opaque(instance.flags)
+        && !culled(Kind::Triangle, true, front, instance.flags, NO_FLAGS)
+}
+
+// Whether an opaque geometry counts as opaque. Where both force bits are set, the one that forces
+// it to be opaque counts.
+fn is_opaque(instance: InstanceFlags) -> bool
+    ensures { result ≡ opacity_of true instance no_flags }
+{
+    let forces_both = instance.contains(InstanceFlags::FORCE_OPAQUE)
+        && instance.contains(InstanceFlags::FORCE_NO_OPAQUE);
+    forces_both || effective(true, instance, NO_FLAGS)
 }
 
 // The record of a hit. The face is the front where the determinant in the direction is negative,
-// and the instance's flag 2 turns it.
+// unless the instance flips it.
 fn record(instance: &Instance, hit: &TriHit) -> HitRecord
     ensures { result ≡ record_of instance.now (hit_value hit.now) }
 {
-    let flips = instance.flags & 2 != 0;
+    let front = shows_front(hit.den_negative, instance.flags);
     HitRecord {
         kind: 1,
         instance: 0,
@@ -112,7 +137,7 @@ fn record(instance: &Instance, hit: &TriHit) -> HitRecord
         sbt: instance.sbt,
         geometry: 0,
         primitive: 0,
-        face: if hit.den_negative == flips { 2 } else { 1 },
+        face: if front { 1 } else { 2 },
         spare: 0,
         t: hit.t.lowest(),
         u: hit.u.lowest(),
