@@ -29,12 +29,12 @@ fn record_in(bytes: &[u8]) -> InstanceRecord
 
 // The contents of a top structure of the one instance of a record, unless its reference names no
 // structure.
-fn of_record(record: &InstanceRecord) -> Result<Contents, DataFault>
-    ensures { IsBuilt (top_of_record record.now) result }
+fn of_record(read: &InstanceRecord) -> Result<Contents, DataFault>
+    ensures { IsBuilt (top_of_record read.now) result }
 {
-    match structure_of(record.reference) {
+    match structure_of(read.reference) {
         Reference::Inactive => Ok(Contents::Top(None)),
-        Reference::Structure(id) => Ok(Contents::Top(Some(instance(record, id)))),
+        Reference::Structure(id) => Ok(Contents::Top(Some(instance(read, id)))),
         Reference::Unknown => Err(DataFault {
             rule: DataRule::X5,
             geometry: 0,
@@ -44,14 +44,14 @@ fn of_record(record: &InstanceRecord) -> Result<Contents, DataFault>
 }
 
 // The instance of a record that refers to the structure of an id.
-fn instance(record: &InstanceRecord, id: u32) -> Instance
-    ensures { result ≡ instance_with record.now id }
+fn instance(read: &InstanceRecord, id: u32) -> Instance
+    ensures { result ≡ instance_with read.now id }
 {
     Instance {
-        custom: record.custom,
-        mask: record.mask,
-        sbt: record.sbt,
-        flags: InstanceFlags(record.flags),
+        custom: read.custom,
+        mask: read.mask,
+        sbt: read.sbt,
+        flags: InstanceFlags(read.flags),
         id,
     }
 }

@@ -15,7 +15,7 @@ pub reply_of_stop : (words : List (String Global)) (reading : Reading) (stop : S
 reply_of_stop words reading BadWords status text h line =
     subst (λ (s : Status). IsReply words reading s text) (sym line.status_is) (h.0, h.1, line.text_is)
 reply_of_stop words reading ReadFault status text h line =
-    subst (λ (s : Status). IsReply words reading s text) (sym line.status_is) (h.0, h.1, h.2, line.text_is)
+    subst (λ (s : Status). IsReply words reading s text) (sym line.status_is) (h.0, h.1, h.2, h.3, line.text_is)
 reply_of_stop words reading TooLong status text h line =
     subst (λ (s : Status). IsReply words reading s text) (sym line.status_is) (h.0, h.1, line.text_is)
 reply_of_stop words reading NotJson status text h line =

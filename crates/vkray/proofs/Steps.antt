@@ -1,6 +1,5 @@
 -- A device command that was fetched and stored is done.
-use Rattle.std.proofs.Common.{◌≡◌, ℕ, Bool, true, false, List, [], ◌++◌, sym, ap, subst, ◌∙◌, append-nil}
-use Rattle.std.specs.Prelude.{if◌then◌else◌}
+use Rattle.std.proofs.Common.{◌≡◌, ℕ, true, false, List, [], ◌++◌, sym, ap, subst, ◌∙◌, append-nil}
 use Rattle.std.proofs.lemmas.Bool.{cond-false}
 use Rattle.ray_cmd.specs.declared.command.Command.{Command}
 use Rattle.ray_state.specs.declared.output.Output.{Output}

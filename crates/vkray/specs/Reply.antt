@@ -2,6 +2,7 @@
 use Rattle.std.specs.Prelude.{◌≡◌, ◌≤◌, ◌<◌, ◌+◌, ◌^◌, ℕ, List, [], ◌++◌, length, take, drop, Option, Some, Ok, Err, IfSome, codes, ◌⊎◌, String}
 use Rattle.std.specs.declared.alloc.Global.{Global}
 use Rattle.ray_io.specs.Faults.{HasRisen}
+use Rattle.ray_io.specs.ReadAll.{LeavesAllBut}
 use Rattle.ray_cmd.specs.declared.command.Command.{Command}
 use Rattle.ray_cmd.specs.declared.fault.RecordingFault.TheVariants.{NotJson, BadShape}
 use Rattle.ray_cmd.specs.Recordings.{recording_of}
@@ -110,6 +111,10 @@ IsTooLong reading = IfSome reading.before (λ bytes. (most_bytes < length bytes)
 abbrev pub TakesTooMany : Reading → Type 0
 TakesTooMany reading = (bytes : List ℕ) × (reading.before ≡ Some bytes) × (most_bytes < length bytes) × (reading.after ≡ Some (drop (most_bytes + 1) bytes))
 
+-- a prefix of what was left was taken of a source that tells it, of at most 2^26 + 1 bytes
+abbrev pub TakesPrefix : Reading → Type 0
+TakesPrefix reading = IfSome reading.before (λ bytes. LeavesAllBut (most_bytes + 1) bytes reading.after)
+
 -- the text was written, all of it and nothing else
 abbrev pub IsWritten : Writing → List ℕ → Type 0
 IsWritten writing text = IfSome writing.before (λ bytes. writing.after ≡ Some (bytes ++ text))
@@ -131,7 +136,7 @@ pub record IsOfInput (P : List ℕ → List ℕ → Type 0) (reading : Reading) 
 -- why a status comes, and with which text: words, reading, recording and rules, in this order
 abbrev pub IsReply : List (String Global) → Reading → Status → List ℕ → Type 0
 IsReply words reading statuses.BadWords text = (¬ IsRun words) × (reading.after ≡ reading.before) × (text ≡ codes "bad-words\n")
-IsReply words reading statuses.ReadFault text = IsRun words × HasRisen reading.faults_before reading.faults_after × (¬ TakesTooMany reading) × (text ≡ codes "read-fault\n")
+IsReply words reading statuses.ReadFault text = IsRun words × HasRisen reading.faults_before reading.faults_after × (¬ TakesTooMany reading) × TakesPrefix reading × (text ≡ codes "read-fault\n")
 IsReply words reading statuses.TooLong text = IsRun words × IsTooLong reading × (text ≡ codes "too-long\n")
 IsReply words reading statuses.BadRecording text = IsRun words × IsOfInput IsBadRecording reading text
 IsReply words reading statuses.Unbuilt text = IsRun words × IsOfInput IsUnbuiltAt reading text
@@ -154,11 +159,11 @@ pub record IsCutShort (words : List (String Global)) (reading : Reading) (writin
   pub cut : IsCut writing text
   pub failed : HasFailed writing
 
--- how the program ends: with the text of its status; or with a part of it, for a write failed; or with nothing written
--- for want of memory
+-- how the program ends: with the text of its status; or with a part of it, for a write failed; or with nothing written and
+-- a prefix taken of the source, for want of memory
 abbrev pub Answers : List (String Global) → Reading → Writing → Status → Type 0
 Answers words reading writing statuses.WriteFault = IsCutShort words reading writing
-Answers words reading writing statuses.NoMemory = writing.after ≡ writing.before
+Answers words reading writing statuses.NoMemory = (writing.after ≡ writing.before) × TakesPrefix reading
 Answers words reading writing statuses.Done = IsAnswered words reading writing statuses.Done
 Answers words reading writing statuses.Refused = IsAnswered words reading writing statuses.Refused
 Answers words reading writing statuses.BadRecording = IsAnswered words reading writing statuses.BadRecording

@@ -15,7 +15,7 @@ use Rattle.vkray.specs.declared.run_fault.RunFault.TheVariants as runs
 use Rattle.vkray.specs.declared.stop.Stop.{Stop}
 use Rattle.vkray.specs.declared.stop.Stop.TheVariants.{BadWords, ReadFault, TooLong, NotJson, BadShape, Unbuilt, Refused, NoMemory}
 use Rattle.vkray.specs.Words.{IsRun}
-use Rattle.vkray.specs.Reply.{Reading, IsRead, IsTooLong, TakesTooMany, IsOfInput, IsDone}
+use Rattle.vkray.specs.Reply.{Reading, IsRead, IsTooLong, TakesTooMany, TakesPrefix, IsOfInput, IsDone}
 use Rattle.vkray.specs.Lines.{refusal_line, unbuilt_line, bad_shape_line}
 use Rattle.vkray.specs.PathForm.{IsBuilt, IsFirstUnbuilt, IsUntil}
 use Rattle.vkray.specs.declared.status.Status.{Status}
@@ -98,7 +98,7 @@ pub record StopsRead (reading : Reading) (stop : Stop) : Type 0 where
 -- why the words and the source have no text
 abbrev pub StopsCall : List (String Global) → Reading → Stop → Type 0
 StopsCall words reading BadWords = (¬ IsRun words) × (reading.after ≡ reading.before)
-StopsCall words reading ReadFault = IsRun words × HasRisen reading.faults_before reading.faults_after × (¬ TakesTooMany reading)
+StopsCall words reading ReadFault = IsRun words × HasRisen reading.faults_before reading.faults_after × (¬ TakesTooMany reading) × TakesPrefix reading
 StopsCall words reading TooLong = IsRun words × IsTooLong reading
 StopsCall words reading NotJson = IsRun words × StopsRead reading NotJson
 StopsCall words reading (BadShape command) = IsRun words × StopsRead reading (BadShape command)

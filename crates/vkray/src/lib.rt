@@ -12,7 +12,6 @@
 //! each command does).
 #![tactic(auto)]
 
-mod device;
 mod executing;
 mod gate;
 mod line;
@@ -25,10 +24,11 @@ mod run_fault;
 mod running;
 mod status;
 mod stop;
+mod top_call;
 
-pub use device::{MOST_BYTES, vkray};
 pub use gate::{Gate, NoGate};
 pub use path_form::first_unbuilt;
 pub use run_fault::RunFault;
 pub use running::run_waves;
 pub use status::Status;
+pub use top_call::{MOST_BYTES, vkray};

@@ -1,4 +1,4 @@
-use Rattle.std.proofs.Common.{◌≡◌, ◌<◌, ◌≤◌, List, length, false, sym, subst, arith}
+use Rattle.std.proofs.Common.{◌≡◌, ◌<◌, List, length, false, sym, subst, arith}
 use Rattle.ray_cmd.specs.declared.command.Command.{Command}
 use Rattle.vkray.specs.PathForm.{agrees_at}
 use Rattle.vkray.proofs.Forms.{differs_at_end, is_built}

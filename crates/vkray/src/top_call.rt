@@ -1,7 +1,7 @@
 ghost use Rattle.std.specs.Prelude.{◌≡◌, ◌↔◌, ℕ, List, IfOk, IsTrue};
 ghost use Rattle.ray_cmd.specs.declared.command.Command.{Command};
 ghost use Rattle.vkray.specs.Words.{IsRun};
-ghost use Rattle.vkray.specs.Reply.{reading, writing, Answers, IsReply, IsSent, IsGoodCall, IsCompleted};
+ghost use Rattle.vkray.specs.Reply.{reading, writing, Answers, IsReply, IsSent, IsGoodCall, IsCompleted, TakesPrefix};
 ghost use Rattle.vkray.specs.Stops.{IsCalled};
 
 use crate::executing::execute;
@@ -18,7 +18,8 @@ pub const MOST_BYTES: u32 = 1 << 26;
 
 /// The program. `words` are those after the program's name: `run` reads a recording from the
 /// source, runs it and writes its text to the sink; all others are bad. Whatever ends the run
-/// before its text, one line says why. The whole text is made before the first write.
+/// before its text, one line says why. The whole text is made before the first write. After a read
+/// fault, or for want of memory, the source may have given a prefix of what it had left.
 pub fn vkray<R: Threads + Sync, S: Source, K: Sink, G: Gate + Sync>(
     rt: &R,
     alloc: Global,
@@ -43,33 +44,14 @@ pub fn vkray<R: Threads + Sync, S: Source, K: Sink, G: Gate + Sync>(
     ensures unread { ¬ IsRun words.now → source.new ≡ source.old }
     ensures unwritten { result ≡ Status.NoMemory → sink.new ≡ sink.old }
 {
-    answer(rt, alloc, words, source, sink, gate)
-}
-
-// Makes the reply, and then writes it.
-fn answer<R: Threads + Sync, S: Source, K: Sink, G: Gate + Sync>(
-    rt: &R,
-    alloc: Global,
-    words: &[String],
-    source: &mut S,
-    sink: &mut K,
-    gate: &G,
-) -> Status
-    ensures answer { Answers words.now
-        (reading S.left S.faults source.old source.new)
-        (writing K.taken K.faults K.zero_writes sink.old sink.new)
-        result }
-    ensures unread { ¬ IsRun words.now → source.new ≡ source.old }
-    ensures unwritten { result ≡ Status.NoMemory → sink.new ≡ sink.old }
-{
     match reply(rt, alloc, words, source, gate) {
-        Ok(reply) => send(sink, &reply),
+        Ok(reply) => write_reply(sink, &reply),
         Err(_) => Status::NoMemory,
     }
 }
 
 // Writes the text, and gives its status, or that it could not be written.
-fn send<K: Sink>(sink: &mut K, reply: &Reply) -> Status
+fn write_reply<K: Sink>(sink: &mut K, reply: &Reply) -> Status
     ensures { IsSent reply.now.status reply.now.text.items
         (writing K.taken K.faults K.zero_writes sink.old sink.new)
         result }
@@ -91,9 +73,10 @@ fn reply<R: Threads + Sync, S: Source, G: Gate + Sync>(
     ensures replies { IfOk result (λ reply. IsReply words.now
         (reading S.left S.faults source.old source.new)
         reply.status reply.text.items) }
+    ensures prefix { TakesPrefix (reading S.left S.faults source.old source.new) }
     ensures unread { ¬ IsRun words.now → source.new ≡ source.old }
 {
-    match text(rt, alloc, words, source, gate) {
+    match read_and_run(rt, alloc, words, source, gate) {
         Ok(text) => Ok(Reply {
             status: Status::Done,
             text,
@@ -102,8 +85,8 @@ fn reply<R: Threads + Sync, S: Source, G: Gate + Sync>(
     }
 }
 
-// The text of the run.
-fn text<R: Threads + Sync, S: Source, G: Gate + Sync>(
+// Reads the recording and runs it: its text, or why there is none.
+fn read_and_run<R: Threads + Sync, S: Source, G: Gate + Sync>(
     rt: &R,
     alloc: Global,
     words: &[String],
@@ -112,6 +95,7 @@ fn text<R: Threads + Sync, S: Source, G: Gate + Sync>(
 ) -> Result<Vec<u8>, Stop>
     ensures called { IsCalled words.now
         (reading S.left S.faults source.old source.new) result }
+    ensures prefix { TakesPrefix (reading S.left S.faults source.old source.new) }
     ensures unread { ¬ IsRun words.now → source.new ≡ source.old }
 {
     if !is_run(words) {
