@@ -44,5 +44,6 @@ pub use output::Output;
 pub use piece::Piece;
 pub use piece_out::PieceOut;
 pub use state::State;
+pub use std::alloc::AllocError as NoMemory;
 pub use storing::store;
 pub use structure::Structure;

@@ -5,7 +5,7 @@ ghost use Rattle.ray_state.specs.declared.output.Output.TheVariants.{Nothing};
 use crate::contents::Contents;
 use crate::structure::Structure;
 use ray_cmd::{Bytes, Command, Recording, Spot, StructureKind};
-use std::alloc::{AllocError, Global};
+use std::alloc::{AllocError as NoMemory, Global};
 use std::collections::BTreeMap;
 
 /// The device's memory at one moment: the live buffers with their bytes, and the live structures
@@ -35,7 +35,7 @@ impl State {
 
     /// Does command number `i` of the recording where it makes a buffer or a structure; any other
     /// command leaves the state as it is. After a want of memory the state is as before.
-    pub fn host(&mut self, rec: &Recording, i: u32) -> Result<(), AllocError>
+    pub fn host(&mut self, rec: &Recording, i: u32) -> Result<(), NoMemory>
         requires { i < length rec.now }
         ensures ok { OnOk result ((l : Location)
             → memory_of self.new l ≡ put (host_action_at rec.now i) Nothing (memory_of self.old) l) }
@@ -54,7 +54,7 @@ impl State {
     }
 
     // A buffer of `size` bytes: the content, and then zeros.
-    fn make_buffer(&mut self, id: u32, size: usize, content: &[u8]) -> Result<(), AllocError>
+    fn make_buffer(&mut self, id: u32, size: usize, content: &[u8]) -> Result<(), NoMemory>
         ensures ok { OnOk result ((l : Location)
             → memory_of self.new l ≡ put (MakeBuffer id size content.now) Nothing (memory_of self.old) l) }
         ensures err { OnErr result ((l : Location) → memory_of self.new l ≡ memory_of self.old l) }
@@ -65,7 +65,7 @@ impl State {
     }
 
     // A structure that isn't built.
-    fn make_structure(&mut self, id: u32, kind: StructureKind) -> Result<(), AllocError>
+    fn make_structure(&mut self, id: u32, kind: StructureKind) -> Result<(), NoMemory>
         ensures ok { OnOk result ((l : Location)
             → memory_of self.new l ≡ put (MakeStructure id kind) Nothing (memory_of self.old) l) }
         ensures err { OnErr result ((l : Location) → memory_of self.new l ≡ memory_of self.old l) }
@@ -156,7 +156,7 @@ fn overwrite(bytes: &mut [u8], offset: usize, from: &[u8])
 }
 
 // The content, cut or filled up with zeros to `size` bytes.
-fn fresh_bytes(alloc: Global, size: usize, content: &[u8]) -> Result<Vec<u8>, AllocError>
+fn fresh_bytes(alloc: Global, size: usize, content: &[u8]) -> Result<Vec<u8>, NoMemory>
     ensures { IfOk result (λ bytes. IsFresh size content.now bytes.items) }
 {
     let mut bytes = Vec::with_capacity(alloc, size)?;

@@ -4,7 +4,7 @@ ghost use Rattle.ray_state.specs.Text.{hit_line, kind_word, place_text, numbers_
 use crate::state::State;
 use ray_bytes::HitRecord;
 use ray_cmd::{Command, ReadForm, Recording, Spot};
-use std::alloc::{AllocError, Global};
+use std::alloc::{AllocError as NoMemory, Global};
 
 impl State {
     ghost use Rattle.ray_state.specs.Memory.{memory_of, bytes_at};
@@ -15,7 +15,7 @@ impl State {
 
     /// Appends the text of command number `i` to `out`, from the bytes as they are now. Only a
     /// `read` of one hit has text so far. After a want of memory `out` is as before.
-    pub fn text(&self, rec: &Recording, i: u32, out: &mut Vec<u8>) -> Result<(), AllocError>
+    pub fn text(&self, rec: &Recording, i: u32, out: &mut Vec<u8>) -> Result<(), NoMemory>
         requires { i < length rec.now }
         ensures ok { OnOk result (out.new.items ≡ out.old.items
             ++ shown (action_at rec.now i) (outcome_of (action_at rec.now i) (memory_of self.now))) }
@@ -40,7 +40,7 @@ impl State {
     }
 
     // The text of a read from a spot: of one hit, so far.
-    fn read_text(&self, from: Spot, size: u64, form: ReadForm) -> Result<String, AllocError>
+    fn read_text(&self, from: Spot, size: u64, form: ReadForm) -> Result<String, NoMemory>
         ensures { IfOk result (λ text. string_bytes text ≡ shown (read_of from size form)
             (outcome_of (read_of from size form) (memory_of self.now))) }
     {
@@ -57,7 +57,7 @@ impl State {
     }
 
     // The line of the hit that stands at a spot.
-    fn hit_text(&self, hit: Spot) -> Result<String, AllocError>
+    fn hit_text(&self, hit: Spot) -> Result<String, NoMemory>
         ensures { IfOk result (λ line. string_bytes line
             ≡ hit_line 0 (hit_of_bytes (bytes_at (memory_of self.now) hit 80))) }
     {
@@ -68,7 +68,7 @@ impl State {
 }
 
 // The line of hit number `k`.
-fn line(alloc: Global, k: u32, hit: &HitRecord) -> Result<String, AllocError>
+fn line(alloc: Global, k: u32, hit: &HitRecord) -> Result<String, NoMemory>
     ensures { IfOk result (λ line. string_bytes line ≡ hit_line k hit.now) }
 {
     if hit.kind == 0 {
@@ -92,7 +92,7 @@ fn kind_name(kind: u32) -> &'static str
 }
 
 // Where the hit is.
-fn place(alloc: Global, hit: &HitRecord) -> Result<String, AllocError>
+fn place(alloc: Global, hit: &HitRecord) -> Result<String, NoMemory>
     ensures { IfOk result (λ text. string_bytes text ≡ place_text hit.now) }
 {
     let HitRecord {
@@ -110,7 +110,7 @@ fn place(alloc: Global, hit: &HitRecord) -> Result<String, AllocError>
 }
 
 // How far it is, and where in the primitive.
-fn numbers(alloc: Global, hit: &HitRecord) -> Result<String, AllocError>
+fn numbers(alloc: Global, hit: &HitRecord) -> Result<String, NoMemory>
     ensures { IfOk result (λ text. string_bytes text ≡ numbers_text hit.now) }
 {
     let (t, t_den) = hit.t;
