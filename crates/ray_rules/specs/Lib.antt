@@ -1,3 +1,4 @@
+pub mod Access
 pub mod Buffers
 pub mod Conflicts
 pub mod FlagRules

@@ -11,14 +11,22 @@
 //! ray_script (the rules of a script).
 #![tactic(auto)]
 
+mod access_type;
 mod built;
 mod byte_range;
 mod live_buffer;
 mod live_structure;
 mod phase;
+mod reach;
+mod stage;
+mod touch;
 
+pub use crate::access_type::AccessType;
 pub use crate::built::Built;
 pub use crate::byte_range::ByteRange;
 pub use crate::live_buffer::LiveBuffer;
 pub use crate::live_structure::LiveStructure;
 pub use crate::phase::Phase;
+pub use crate::reach::Reach;
+pub use crate::stage::Stage;
+pub use crate::touch::Touch;
