@@ -2,8 +2,10 @@ pub mod Access
 pub mod Buffers
 pub mod Conflicts
 pub mod FlagRules
+pub mod Hazards
 pub mod Ids
 pub mod Names
+pub mod Order
 pub mod Origins
 pub mod Phases
 pub mod Places
