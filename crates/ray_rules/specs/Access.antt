@@ -1,6 +1,6 @@
 -- What each command and each of its pieces reads and writes: at which stage, with which access, and
 -- what it reaches. (Vulkan: synchronization scopes of the commands; own: the ranges.)
-use Rattle.std.specs.Prelude.{ℕ, ◌+◌, ◌-◌, ◌*◌, ◌++◌, List, [], ◌∷◌, Option, Some, None, Bool, true, false, length, map, min, option_map, slice_get, if◌then◌else◌, ◌==◌}
+use Rattle.std.specs.Prelude.{ℕ, ◌+◌, ◌-◌, ◌*◌, ◌++◌, List, [], ◌∷◌, Option, Some, None, length, map, min, slice_get}
 use Rattle.std.specs.List.{flat_map}
 use Rattle.std.specs.Option.{option_map_or, option_to_list}
 use Rattle.ray_cmd.specs.declared.command.Command.{Command}
@@ -9,16 +9,13 @@ use Rattle.ray_cmd.specs.declared.geometry.Geometry.{Geometry}
 use Rattle.ray_cmd.specs.declared.info.Info.{Info}
 use Rattle.ray_cmd.specs.declared.region.Region.{Region}
 use Rattle.ray_cmd.specs.declared.spot.Spot.{Spot}
-use Rattle.ray_cmd.specs.declared.stretch.Stretch.{Stretch}
 use Rattle.ray_rules.specs.declared.access_type.AccessType.{AccessType}
 use Rattle.ray_rules.specs.declared.access_type.AccessType.TheVariants.{TransferRead, TransferWrite, ShaderRead, ShaderWrite, StructureRead, StructureWrite, HostRead}
-use Rattle.ray_rules.specs.declared.built.Built.{Built}
 use Rattle.ray_rules.specs.declared.byte_range.ByteRange.{ByteRange}
 use Rattle.ray_rules.specs.declared.live_buffer.LiveBuffer.{LiveBuffer}
-use Rattle.ray_rules.specs.declared.reach.Reach.{Reach}
 use Rattle.ray_rules.specs.declared.reach.Reach.TheVariants.{Bytes, Structure, Scratch}
 use Rattle.ray_rules.specs.declared.stage.Stage.{Stage}
-use Rattle.ray_rules.specs.declared.stage.Stage.TheVariants.{Transfer, Build, Compute, Host}
+use Rattle.ray_rules.specs.declared.stage.Stage.TheVariants.{Transfer, Build, Compute}
 use Rattle.ray_rules.specs.declared.touch.Touch.{Touch}
 use Rattle.ray_rules.specs.Ids.{Ids}
 use Rattle.ray_rules.specs.Origins.{uses_of}
@@ -37,8 +34,10 @@ no_access = record { reads = []; writes = [] }
 -- one access of bytes of a buffer, of a structure, of scratch memory
 abbrev pub at_bytes : AccessType → ℕ → ℕ → ℕ → Touch
 at_bytes access buffer from size = record { access = access; reach = Bytes (range buffer from size) }
+
 abbrev pub at_structure : AccessType → ℕ → Touch
 at_structure access id = record { access = access; reach = Structure id }
+
 abbrev pub at_scratch : AccessType → ByteRange → Touch
 at_scratch access r = record { access = access; reach = Scratch r }
 

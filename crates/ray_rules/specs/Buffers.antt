@@ -1,7 +1,7 @@
 -- Rules on buffers: their sizes, what they may be used for, and when they may be destroyed.
 -- (Vulkan: VkBufferCreateInfo and the valid usage of the commands that name a buffer; own: the
 -- words of a usage and the limits.)
-use Rattle.std.specs.Prelude.{ℕ, ◌+◌, ◌^◌, List, Option, Some, None, Bool, true, false, ◌&&◌, ◌||◌, ◌==◌, not, nat_lt, length}
+use Rattle.std.specs.Prelude.{ℕ, ◌+◌, List, Option, None, Bool, false, ◌&&◌, ◌||◌, ◌==◌, not, nat_lt, length}
 use Rattle.std.specs.List.{list_any}
 use Rattle.std.specs.Map.{values_of}
 use Rattle.std.specs.Option.{is_some, option_map_or}

@@ -1,6 +1,6 @@
 -- Rules on the parts of one command, which have no order among them. (VK_KHR_acceleration_structure:
 -- the valid usage of builds; vkCmdCopyBuffer; own: the same of traces.)
-use Rattle.std.specs.Prelude.{ℕ, ◌+◌, ◌++◌, ◌*◌, List, map, [], ◌∷◌, Option, Some, None, Bool, true, false, ◌&&◌, ◌||◌, ◌==◌, if◌then◌else◌}
+use Rattle.std.specs.Prelude.{ℕ, ◌+◌, ◌++◌, ◌*◌, List, map, [], ◌∷◌, Option, Some, None, Bool, false, ◌||◌, ◌==◌, if◌then◌else◌}
 use Rattle.std.specs.List.{list_any}
 use Rattle.std.specs.Option.{option_map_or, option_map}
 use Rattle.ray_cmd.specs.declared.command.Command.{Command}
@@ -9,12 +9,10 @@ use Rattle.ray_cmd.specs.declared.info.Info.{Info}
 use Rattle.ray_cmd.specs.declared.place.Place.{Place}
 use Rattle.ray_cmd.specs.declared.place.Place.TheVariants.{Part}
 use Rattle.ray_cmd.specs.declared.region.Region.{Region}
-use Rattle.ray_cmd.specs.declared.spot.Spot.{Spot}
 use Rattle.ray_ranges.specs.declared.range.Range.{Range}
 use Rattle.ray_ranges.specs.First.{first_meeting}
 use Rattle.ray_rules.specs.Places.{whole}
 use Rattle.ray_rules.specs.Ranges.{range, meets, scratch_range}
-use Rattle.ray_rules.specs.Status.{Status}
 
 -- whether the source of an update, where there is one, is the structure of an id
 abbrev pub is_source : Option ℕ → ℕ → Bool
@@ -43,6 +41,7 @@ first_conflict before k (info ∷ infos) =
 -- the bytes that a region reads of its source, and those that it writes of its destination
 abbrev pub source_of : Region → Range
 source_of region = record { from = region.src_offset; end = region.src_offset + region.size }
+
 abbrev pub target_of : Region → Range
 target_of region = record { from = region.dst_offset; end = region.dst_offset + region.size }
 

@@ -1,6 +1,6 @@
 -- Rules on ray flags, scripts and barriers. (SPIR-V: Ray Flags; Vulkan: the valid usage of
 -- VkMemoryBarrier and its table of supported access types; own: scripts.)
-use Rattle.std.specs.Prelude.{ℕ, List, [], ◌∷◌, Option, Some, None, Bool, true, false, ◌&&◌, ◌||◌, ◌==◌, not, nat_lt, option_map}
+use Rattle.std.specs.Prelude.{List, [], ◌∷◌, Option, None, Bool, ◌&&◌, ◌||◌, ◌==◌, not, nat_lt, option_map}
 use Rattle.std.specs.List.{list_any, count_by}
 use Rattle.ray_cmd.specs.declared.command.Command.{Command}
 use Rattle.ray_cmd.specs.declared.command.Command.TheVariants as commands

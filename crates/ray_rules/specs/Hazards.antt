@@ -1,6 +1,6 @@
 -- Rules on what commands read and write without an order between them. (Vulkan, "Synchronization and
 -- Cache Control": memory hazards; own: the ranges, and that every such pair is refused.)
-use Rattle.std.specs.Prelude.{ℕ, zero, suc, List, [], Option, Some, None, Bool, true, false, ◌&&◌, ◌||◌, ◌==◌, not, slice_get, if◌then◌else◌, option_map}
+use Rattle.std.specs.Prelude.{ℕ, zero, suc, List, [], Option, Some, None, Bool, false, ◌&&◌, ◌==◌, not, slice_get, if◌then◌else◌, option_map}
 use Rattle.std.specs.List.{list_any}
 use Rattle.std.specs.Option.{option_map_or}
 use Rattle.ray_cmd.specs.declared.command.Command.{Command}
@@ -40,6 +40,7 @@ stage_at rec i = option_map_or stage_of (slice_get rec i) None
 -- the number of the command that made the buffer, or the structure, of an id
 abbrev pub maker_of_buffer : Status → ℕ → ℕ
 maker_of_buffer z id = option_map_or (λ (b : LiveBuffer). b.made) (look z.buffers id) 0
+
 abbrev pub maker_of_structure : Status → ℕ → ℕ
 maker_of_structure z id = option_map_or (λ (s : LiveStructure). s.made) (look z.structures id) 0
 

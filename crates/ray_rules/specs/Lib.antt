@@ -1,4 +1,5 @@
 pub mod Access
+pub mod AccessLaws
 pub mod Buffers
 pub mod Conflicts
 pub mod FlagRules

@@ -1,5 +1,5 @@
 -- Rules on names. (Own; after the validity of handles in Vulkan's fundamentals.)
-use Rattle.std.specs.Prelude.{ℕ, List, Option, Some, None, Bool, true, false, ◌||◌, not}
+use Rattle.std.specs.Prelude.{ℕ, Option, None, Bool, false, ◌||◌, not}
 use Rattle.std.specs.List.{list_any}
 use Rattle.std.specs.Option.{option_map_or}
 use Rattle.ray_cmd.specs.declared.command.Command.{Command}

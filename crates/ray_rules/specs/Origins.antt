@@ -1,6 +1,6 @@
 -- What a structure was built by, looked up in the recording by the numbers that the status keeps.
 -- (Own.)
-use Rattle.std.specs.Prelude.{ℕ, List, [], ◌∷◌, Option, Some, None, Bool, true, false, slice_get}
+use Rattle.std.specs.Prelude.{ℕ, List, [], Option, None, Bool, true, false, slice_get}
 use Rattle.std.specs.Option.{option_and_then, option_map_or}
 use Rattle.ray_cmd.specs.declared.command.Command.{Command}
 use Rattle.ray_cmd.specs.declared.command.Command.TheVariants as commands

@@ -1,6 +1,6 @@
 -- Rules on the command buffer. (Vulkan, "Command Buffer Lifecycle"; own: that the other host
 -- commands need an idle one, and that a `read` and a `destroy` need a `wait`.)
-use Rattle.std.specs.Prelude.{ℕ, Option, Some, None, Bool, true, false, not}
+use Rattle.std.specs.Prelude.{Option, None, Bool, true, false, not}
 use Rattle.ray_cmd.specs.declared.command.Command.{Command}
 use Rattle.ray_cmd.specs.declared.command.Command.TheVariants as commands
 use Rattle.ray_cmd.specs.declared.place.Place.{Place}

@@ -1,6 +1,6 @@
 -- The bytes that a geometry reads, and those that have to be there. (Vulkan: the valid usage of
 -- VkAccelerationStructureBuildRangeInfoKHR; own: the ranges.)
-use Rattle.std.specs.Prelude.{ℕ, ◌+◌, ◌-◌, ◌*◌, List, [], ◌∷◌, Option, Some, None, Bool, true, false, nat_lt, ◌==◌, ◌&&◌, ◌||◌, not, if◌then◌else◌, min, option_map, length}
+use Rattle.std.specs.Prelude.{ℕ, ◌+◌, ◌-◌, ◌*◌, List, [], ◌∷◌, Option, Some, None, Bool, false, nat_lt, ◌==◌, ◌&&◌, if◌then◌else◌, min, option_map}
 use Rattle.std.specs.List.{sum_by}
 use Rattle.std.specs.Option.{option_map_or}
 use Rattle.ray_bytes.specs.Formats.{vertex_size}

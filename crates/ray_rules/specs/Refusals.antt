@@ -1,6 +1,6 @@
 -- The table of the static rules, and the refusal of a recording by them: the least rule of its first
 -- command that breaks one. (Own.)
-use Rattle.std.specs.Prelude.{ℕ, ◌+◌, ◌≡◌, ⊤, ◌⊎◌, List, [], ◌∷◌, Option, Some, None, length}
+use Rattle.std.specs.Prelude.{ℕ, ◌+◌, ◌≡◌, ⊤, ◌⊎◌, List, [], ◌∷◌, Option, Some, None}
 use Rattle.std.specs.Option.{option_map}
 use Rattle.ray_cmd.specs.declared.command.Command.{Command}
 use Rattle.ray_cmd.specs.declared.place.Place.{Place}

@@ -1,7 +1,7 @@
 -- Rules on what kinds of structures and geometries go together, and how many there may be.
 -- (VK_KHR_acceleration_structure: the valid usage of VkAccelerationStructureBuildGeometryInfoKHR;
 -- own: the limits.)
-use Rattle.std.specs.Prelude.{ℕ, ◌+◌, List, [], ◌∷◌, Option, Some, None, Bool, true, false, ◌&&◌, ◌||◌, ◌==◌, not, nat_lt, nat_le, length, sum, if◌then◌else◌}
+use Rattle.std.specs.Prelude.{ℕ, List, Option, None, Bool, true, false, ◌&&◌, ◌||◌, ◌==◌, not, nat_lt, nat_le, length, sum}
 use Rattle.std.specs.List.{list_any, list_all}
 use Rattle.std.specs.Option.{option_map_or, option_or}
 use Rattle.ray_cmd.specs.declared.asked.Asked.{Asked}
@@ -14,8 +14,6 @@ use Rattle.ray_cmd.specs.declared.geometry.Geometry.{Geometry}
 use Rattle.ray_cmd.specs.declared.geometry.Geometry.TheVariants as geometries
 use Rattle.ray_cmd.specs.declared.info.Info.{Info}
 use Rattle.ray_cmd.specs.declared.place.Place.{Place}
-use Rattle.ray_cmd.specs.declared.structure_kind.StructureKind.{StructureKind}
-use Rattle.ray_cmd.specs.declared.structure_kind.StructureKind.TheVariants as kinds
 use Rattle.ray_flags.specs.Flags.{build_has, PreferFastBuild, PreferFastTrace}
 use Rattle.ray_rules.specs.Places.{whole, part_at, first_part}
 use Rattle.ray_rules.specs.Ranges.{primitives}

@@ -1,6 +1,6 @@
 -- Rules on what structures were built by: the sources of updates and copies, and what a traced top
 -- refers to. (VK_KHR_acceleration_structure: updates, copies, properties; own: `uses` and stamps.)
-use Rattle.std.specs.Prelude.{ℕ, List, [], ◌∷◌, Option, Some, None, Bool, true, false, ◌&&◌, ◌||◌, ◌==◌, not, nat_lt, length}
+use Rattle.std.specs.Prelude.{ℕ, List, Option, Some, None, Bool, true, false, ◌&&◌, ◌||◌, ◌==◌, not, nat_lt, length}
 use Rattle.std.specs.List.{list_any, list_all, zip}
 use Rattle.std.specs.Option.{option_and_then, option_map_or, is_some}
 use Rattle.ray_bytes.specs.declared.format.Format.{Format}
@@ -16,7 +16,6 @@ use Rattle.ray_cmd.specs.declared.geometry.Geometry.TheVariants as geometries
 use Rattle.ray_cmd.specs.declared.index.Index.{Index}
 use Rattle.ray_cmd.specs.declared.info.Info.{Info}
 use Rattle.ray_cmd.specs.declared.place.Place.{Place}
-use Rattle.ray_cmd.specs.declared.spot.Spot.{Spot}
 use Rattle.ray_flags.specs.Flags.{BuildFlag, build_has, AllowCompaction, AllowUpdate}
 use Rattle.ray_rules.specs.declared.built.Built.{Built}
 use Rattle.ray_rules.specs.declared.live_structure.LiveStructure.{LiveStructure}

@@ -1,9 +1,8 @@
 -- Rules on places in buffers: ranges, alignments, scratch memory, and what transfers take.
 -- (Vulkan: the valid usage of builds, copies, updates and fills; own: the limits and the records'
 -- sizes.)
-use Rattle.std.specs.Prelude.{ℕ, ◌+◌, ◌*◌, ◌%◌, List, Option, Some, None, Bool, true, false, ◌&&◌, ◌||◌, ◌==◌, not, nat_lt, length}
+use Rattle.std.specs.Prelude.{ℕ, ◌*◌, ◌%◌, Option, Some, None, Bool, false, ◌||◌, ◌==◌, not, nat_lt, length}
 use Rattle.std.specs.List.{list_any}
-use Rattle.std.specs.Option.{option_map_or}
 use Rattle.ray_bytes.specs.Formats.{component_size}
 use Rattle.ray_bytes.specs.declared.format.Format.{Format}
 use Rattle.ray_cmd.specs.declared.command.Command.{Command}

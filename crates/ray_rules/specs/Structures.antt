@@ -1,6 +1,6 @@
 -- Rules on structures: where they stand, how large they are, and which go together.
 -- (VK_KHR_acceleration_structure: creation, builds and copies; own: the sizes.)
-use Rattle.std.specs.Prelude.{ℕ, ◌+◌, List, Option, Some, None, Bool, true, false, ◌&&◌, ◌||◌, ◌==◌, not, nat_lt, length}
+use Rattle.std.specs.Prelude.{ℕ, Option, None, Bool, true, false, ◌&&◌, ◌||◌, ◌==◌, not, nat_lt, length}
 use Rattle.std.specs.List.{list_any}
 use Rattle.std.specs.Map.{values_of}
 use Rattle.std.specs.Option.{option_map_or}

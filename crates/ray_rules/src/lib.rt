@@ -14,6 +14,7 @@
 mod access_type;
 mod built;
 mod byte_range;
+mod laws;
 mod live_buffer;
 mod live_structure;
 mod phase;
@@ -24,6 +25,7 @@ mod touch;
 pub use crate::access_type::AccessType;
 pub use crate::built::Built;
 pub use crate::byte_range::ByteRange;
+pub use crate::laws::pieces_are_of_commands;
 pub use crate::live_buffer::LiveBuffer;
 pub use crate::live_structure::LiveStructure;
 pub use crate::phase::Phase;
