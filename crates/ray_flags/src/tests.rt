@@ -1,4 +1,7 @@
-use crate::{Access, BuildFlags, InstanceFlags, Kind, RayFlags, Stages, Usage, culled, effective};
+use crate::{
+    Access, BuildFlags, InstanceFlags, Kind, RayFlags, Stages, Usage, culled, effective,
+    shows_front,
+};
 use bitflags::Flags;
 
 // The bits of a word in a set of flags.
@@ -151,6 +154,17 @@ const OPACITIES: [(&str, bool, InstanceFlags, RayFlags, bool); 12] = [
 fn overrides_opacity(rt: HostRuntime) {
     for (name, opaque, instance, ray, want) in OPACITIES {
         assert_eq!(rt; opacity(opaque, instance, ray), Some(want), "{name}");
+    }
+}
+
+#[test]
+fn flips_faces(rt: HostRuntime) {
+    for (front, instance, want) in [
+        (true, PLAIN, true),
+        (true, FLIP, false),
+        (false, FLIP, true),
+    ] {
+        assert_eq!(rt; shows_front(front, instance), want, "{front}");
     }
 }
 
