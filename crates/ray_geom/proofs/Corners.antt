@@ -1,13 +1,16 @@
 -- The image of what is in a box is between the images of the box's corners. A point may be a fraction: its
 -- coordinates are p.x / k, p.y / k and p.z / k.
-use Rattle.std.proofs.Common.{ℕ, suc, ◌≡◌, Bool, true, false, cond, lit<, arith}
-use Rattle.std.specs.Prelude.{ℤ, pos, negsuc, ◌+ℤ◌, ◌*ℤ◌, ◌≤ℤ◌}
+use Rattle.std.proofs.Common.{ℕ, suc, ◌≡◌, ◌^◌, ◌<◌, Bool, true, false, cond, Option, Some, None, List, [], ◌∷◌, length, slice_index_or, lit<, refl, sym, ap, subst, ◌∙◌, arith}
+use Rattle.std.specs.Prelude.{ℤ, pos, negsuc, ◌+ℤ◌, ◌*ℤ◌, ◌≤ℤ◌, neg_ℤ, IsSome, IfSome}
+use Rattle.std.specs.List.{All}
 use Rattle.std.proofs.lemmas.Int.{ints}
 use Rattle.ray_geom.specs.declared.vec3.Vec3.{Vec3}
-use Rattle.ray_geom.specs.Vector.{vec3, dot_of}
-use Rattle.ray_geom.specs.Boxes.{BoxValue, IsIn}
+use Rattle.ray_geom.specs.Vector.{IsShort, vec3, dot_of}
+use Rattle.ray_geom.specs.Boxes.{BoxValue, box_value, IsIn, IsPart, corners_of}
+use Rattle.ray_geom.specs.LeastBoxes.{point_box, IsLeast}
 use Rattle.ray_geom.specs.Transform.{MatrixValue, image_of}
-use Rattle.ray_geom.specs.Pruning.{HoldsImages}
+use Rattle.ray_geom.specs.Pruning.{HoldsImages, KeepsCorners, box_of_images}
+use Rattle.ray_geom.proofs.LeastBoxes.{IsPart-point, IsLeast-same, IsLeastOf-fold}
 use Rattle.ray_geom.proofs.Ring.{*ℤ-+ℤ}
 use Rattle.ray_geom.proofs.Triple.{swap_product}
 use Rattle.ray_geom.proofs.Scaling.{times_rises, times_falls}
@@ -144,3 +147,65 @@ IsIn-image m box world p h is =
         z = one_below world.hi.z (dot_of m.c p) m.t.z image.z.below;
       };
     }
+
+-- the greatest box
+abbrev limits_box : BoxValue
+limits_box =
+    box_value (vec3 (neg_ℤ (pos (2 ^ 19))) (neg_ℤ (pos (2 ^ 19))) (neg_ℤ (pos (2 ^ 19)))) (vec3 (pos (2 ^ 19)) (pos (2 ^ 19)) (pos (2 ^ 19)))
+
+in_limits : (v : Vec3) → IsShort (2 ^ 19) v → IsIn v limits_box
+in_limits v h = record {
+  above = record { x = h.x_within.above; y = h.y_within.above; z = h.z_within.above };
+  below = record { x = h.x_within.below; y = h.y_within.below; z = h.z_within.below };
+}
+
+within_limits : (v : Vec3) → IsIn v limits_box → IsShort (2 ^ 19) v
+within_limits v h = record {
+  x_within = record { above = h.above.x; below = h.below.x };
+  y_within = record { above = h.above.y; below = h.below.y };
+  z_within = record { above = h.above.z; below = h.below.z };
+}
+
+-- where the images of the corners are within the limits, so is that of each point of the box
+pub IsShort-image : (m : MatrixValue) (box : BoxValue) (p : Vec3) → KeepsCorners m box → IsIn p box → IsShort (2 ^ 19) (image_of m p)
+IsShort-image m box p keeps is =
+    within_limits (image_of m p)
+    (IsIn-image m box limits_box p (λ k d below. in_limits (image_of m (slice_index_or (corners_of box) k d)) (keeps k d below)) is)
+
+-- the union of the images of the corners is the least box that holds them
+some_of : (o : Option BoxValue) → (o ≡ None → ⊥) → IsSome o
+some_of None h = absurd (h refl)
+some_of (Some box) h = refl
+
+by_points : (m : MatrixValue) (box : BoxValue) (o : Option BoxValue) →
+    IfSome o (IsLeast (λ world. All (λ corner. IsPart (point_box (image_of m corner)) world) (corners_of box))) →
+    IfSome o (IsLeast (HoldsImages m box))
+by_points m box None h = h
+by_points m box (Some r) h =
+    IsLeast-same (λ world. All (λ corner. IsPart (point_box (image_of m corner)) world) (corners_of box)) (HoldsImages m box) r
+    (λ world. (
+      λ a k d below. (IsPart-point (image_of m (slice_index_or (corners_of box) k d)) world).0 (a k d below),
+      λ a k d below. (IsPart-point (image_of m (slice_index_or (corners_of box) k d)) world).1 (a k d below),
+    ))
+    h
+
+pub record IsImageBox (m : MatrixValue) (box : BoxValue) (o : Option BoxValue) : Type 0 where
+  pub some : IsSome o
+  pub least : IfSome o (IsLeast (HoldsImages m box))
+
+pub IsImageBox-fold : (m : MatrixValue) (box : BoxValue) (points : List Vec3) (o : Option BoxValue) → points ≡ corners_of box →
+    o ≡ box_of_images m points → IsImageBox m box o
+IsImageBox-fold m box points o are is =
+    let h = IsLeastOf-fold (λ p. point_box (image_of m p)) (corners_of box) in
+    subst (λ x. IsImageBox m box x) (sym (is ∙ ap (λ ps. box_of_images m ps) are)) (record {
+      some = some_of (box_of_images m (corners_of box)) (λ e. not_empty (corners_of box) (lit< tt) (h.none.0 e));
+      least = by_points m box (box_of_images m (corners_of box)) h.some;
+    })
+  where
+    not_empty : (points : List Vec3) → 0 < length points → points ≡ [] → ⊥
+    not_empty [] h e = omega arith
+    not_empty (p ∷ ps) h e = cc
+
+pub IsLeast-unwrapped : (m : MatrixValue) (box : BoxValue) (o : Option BoxValue) (r : BoxValue) →
+    IfSome o (IsLeast (HoldsImages m box)) → o ≡ Some r → IsLeast (HoldsImages m box) r
+IsLeast-unwrapped m box o r h is = subst (λ x. IfSome x (IsLeast (HoldsImages m box))) is h

@@ -1,4 +1,4 @@
--- The number that a chain of snapshots stands for.
+-- A word that a reader of the public contracts needs not: the number that a chain of snapshots stands for.
 use Rattle.std.specs.Prelude.{ℕ, ◌+◌}
 use Rattle.ray_geom.specs.declared.count.Count.{Count}
 use Rattle.ray_geom.specs.declared.count.Count.TheVariants.{Zero}

@@ -1,5 +1,5 @@
--- That rays, triangles and hits are decided: each either is one, or isn't. The definitions that give a value where a
--- fact holds stand on these. (Own.)
+-- The value where a fact holds (`where_so`); and, which a reader of the public contracts needs not, that rays,
+-- triangles, boxes, transforms, hits and what is inside a box are decided: each either is so, or isn't. (Own.)
 use Rattle.std.specs.Prelude.{ℕ, ℤ, pos, neg_ℤ, ◌≡◌, ◌*◌, ◌≤◌, ◌^◌, ◌≤ℤ◌, Option, Some, None, refl}
 use Rattle.std.specs.Ordering.{int_eq}
 use Rattle.std.specs.declared.cmp.Ordering.{Ordering}

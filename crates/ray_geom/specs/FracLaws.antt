@@ -1,4 +1,4 @@
--- The laws of the order of `Frac`, and that one value has one `Frac`. They stand in specs/, since
+-- Lemmas that a reader of the public contracts needs not: the laws of the order of `Frac`, and that one value has one `Frac`. They stand in specs/, since
 -- the `impl`s cite them.
 use Rattle.std.specs.Prelude.{ℕ, ◌≡◌, ◌==◌, ◌&&◌, ◌*◌, ◌<◌, Bool, refl}
 use Rattle.std.specs.Cmp.{IsTotalOrder, IsPartialOrder, Agrees, partial_order_from_agreeing_total, nat_cmp_is}

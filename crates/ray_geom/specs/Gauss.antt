@@ -1,4 +1,4 @@
--- Numbers with no common divisor, and what follows for fractions in lowest terms. These lemmas
+-- Lemmas that a reader of the public contracts needs not: numbers with no common divisor, and what follows for fractions in lowest terms. These lemmas
 -- stand in specs/, since the laws of the order of `Frac` cite them.
 use Rattle.std.specs.Prelude.{ℕ, ◌≡◌, ◌*◌, ◌/◌, ◌%◌, ◌<◌, ◌≤◌, refl}
 use Rattle.std.specs.Int.{IsGcd, ◌∣◌}

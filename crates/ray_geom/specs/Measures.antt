@@ -1,4 +1,5 @@
--- What the private calls of the triangle test give: the numbers that the definitions name.
+-- Words of private calls alone, which a reader of the public contracts needs not: what the calls of the triangle test
+-- give, the numbers that the definitions name.
 use Rattle.std.specs.Prelude.{pos, ◌≡◌, ◌≢◌, ◌*◌, ◌^◌}
 use Rattle.std.specs.Ordering.{ordering_then}
 use Rattle.std.specs.declared.cmp.Ordering.{Ordering}

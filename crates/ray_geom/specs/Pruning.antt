@@ -1,13 +1,13 @@
 -- What the laws of pruning say: which boxes a walk of trees may leave out.
-use Rattle.std.specs.Prelude.{ℕ, ℤ, pos, ◌≡◌, ◌<◌, ◌*ℤ◌}
+use Rattle.std.specs.Prelude.{ℕ, pos, ◌≡◌, ◌^◌, ◌*ℤ◌, Option, None, List, fold}
 use Rattle.std.specs.List.{All}
 use Rattle.ray_geom.specs.declared.vec3.Vec3.{Vec3}
-use Rattle.ray_geom.specs.Fraction.{IsAtMost}
+use Rattle.ray_geom.specs.Vector.{IsShort}
 use Rattle.ray_geom.specs.Scene.{RayValue, TriValue}
 use Rattle.ray_geom.specs.TriangleHit.{num_of, den_of, IsHit}
 use Rattle.ray_geom.specs.Transform.{MatrixValue, identity_value, image_of, world_tri}
 use Rattle.ray_geom.specs.Boxes.{BoxValue, IsIn, corners_of}
-use Rattle.ray_geom.specs.LeastBoxes.{HoldsTri}
+use Rattle.ray_geom.specs.LeastBoxes.{point_box, joined_of}
 use Rattle.ray_geom.specs.ObjectRay.{object_of}
 use Rattle.ray_geom.specs.BoxSpan.{IsInside}
 
@@ -18,3 +18,11 @@ IsDistance ray tri n d = pos n *ℤ den_of ray tri ≡ num_of ray tri *ℤ pos d
 -- a box holds the images of the eight corners of another (own)
 abbrev pub HoldsImages : MatrixValue → BoxValue → BoxValue → Type 0
 HoldsImages m box world = All (λ corner. IsIn (image_of m corner) world) (corners_of box)
+
+-- the images of the eight corners of a box are within the limits (own)
+abbrev pub KeepsCorners : MatrixValue → BoxValue → Type 0
+KeepsCorners m box = All (λ corner. IsShort (2 ^ 19) (image_of m corner)) (corners_of box)
+
+-- the union of the images of points, in order
+abbrev pub box_of_images : MatrixValue → List Vec3 → Option BoxValue
+box_of_images m points = fold (λ so_far p. joined_of so_far (point_box (image_of m p))) None points

@@ -1,4 +1,4 @@
--- The laws of the order of ratios. They stand in specs/, since the `impl`s cite them.
+-- Lemmas that a reader of the public contracts needs not: the laws of the order of ratios. They stand in specs/, since the `impl`s cite them.
 use Rattle.std.specs.Prelude.{ℕ, ◌≡◌, ◌*◌, ◌<◌, refl}
 use Rattle.std.specs.Cmp.{IsTotalOrder, IsPartialOrder, IsEquivalence, IsPartialEquivalence, Agrees, partial_order_from_agreeing_total, partial_equiv_from_equiv, nat_cmp_is}
 use Rattle.std.specs.Ordering.{MatchOrdering, nat_cmp, as_partial_cmp, eq_by_cmp}

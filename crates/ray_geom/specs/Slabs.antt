@@ -1,4 +1,5 @@
--- What the private calls of the box reach give: which distances n / d they keep.
+-- Words of private calls alone, which a reader of the public contracts needs not: what the calls of the box reach give,
+-- by which distances n / d they keep.
 use Rattle.std.specs.Prelude.{ℕ, ℤ, pos, ◌+◌, ◌*◌, ◌^◌, ◌<◌, ◌↔◌, ◌*ℤ◌, ◌≤ℤ◌, unsigned_abs}
 use Rattle.ray_geom.specs.declared.slab.Slab.{Slab}
 use Rattle.ray_geom.specs.declared.reach.Reach.{Reach}

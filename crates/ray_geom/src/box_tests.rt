@@ -17,6 +17,9 @@ fn joins_boxes(rt: HostRuntime) {
     assert!(rt; both.holds(&thin) && !thin.holds(&both));
     assert!(rt; both.contains(at(2, 1, 7)) && !both.contains(at(2, 2, 7)));
     assert_eq!(rt; both.corners()[5], at(2, 0, 7));
+    let turned = Matrix::new([[0, -1, 0, 5], [2, 0, 0, 0], [0, 0, 1, 0]]).expect(&rt, "turned");
+    assert!(rt; turned.keeps_corners(&both));
+    assert!(rt; Some(turned.image_box(&both)) == Box3::new(at(4, -2, 0), at(5, 4, 7)));
 }
 
 #[test]

@@ -141,7 +141,7 @@ fn greater(a: Vec3, b: Vec3) -> Vec3
 }
 
 // The union of what there is so far and one box more.
-fn joined(so_far: Option<Box3>, more: Box3) -> Option<Box3>
+pub(crate) fn joined(so_far: Option<Box3>, more: Box3) -> Option<Box3>
     ensures { result ≡ joined_of so_far more }
 {
     match so_far {

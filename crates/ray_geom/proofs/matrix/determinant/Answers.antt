@@ -5,7 +5,7 @@ use Rattle.ray_geom.proofs.Sizes.{det_within}
 use Rattle.ray_geom.proofs.matrix.determinant.Goals as goal
 
 pub dot-requires : goal.dot-requires
-dot-requires c = row_fits _ _ (search (rules, to_z-of_z)) (search (rules, to_z-of_z))
+dot-requires c = row_fits _ _ (search rules) (search rules)
 
 pub returns-clause-short : goal.returns-clause-short
 returns-clause-short c =

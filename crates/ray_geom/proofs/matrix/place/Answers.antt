@@ -4,7 +4,7 @@ use Rattle.ray_geom.proofs.Bounds.{point_fits}
 use Rattle.ray_geom.proofs.matrix.place.Goals as goal
 
 pub dot-requires : goal.dot-requires
-dot-requires c = point_fits _ _ (search (rules, to_z-of_z)) (search (rules, to_z-of_z))
+dot-requires c = point_fits _ _ (search rules) (search rules)
 
 pub returns : goal.returns
 returns c = search (rules, to_z-of_z)

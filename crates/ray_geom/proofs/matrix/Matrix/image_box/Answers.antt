@@ -1,0 +1,16 @@
+use Rattle.std.proofs.Common.{rules, subst}
+use Rattle.std.specs.Prelude.{IfSome}
+use Rattle.ray_geom.specs.LeastBoxes.{IsLeast}
+use Rattle.ray_geom.specs.Pruning.{HoldsImages}
+use Rattle.ray_geom.proofs.Corners.{IsImageBox, IsImageBox-fold, IsLeast-unwrapped}
+use Rattle.ray_geom.proofs.matrix.Matrix.image_box.Goals as goal
+
+pub unwrap-requires : goal.unwrap-requires
+unwrap-requires c =
+    (IsImageBox-fold c.args.self.now c.args.b.now c.corners.result c.joined_images.result c.corners.ensures.value c.joined_images.ensures).some
+
+pub returns : goal.returns
+returns c =
+    IsLeast-unwrapped c.args.self.now c.args.b.now c.joined_images.result c.unwrap.result
+    (IsImageBox-fold c.args.self.now c.args.b.now c.corners.result c.joined_images.result c.corners.ensures.value c.joined_images.ensures).least
+    (search rules)
