@@ -1,7 +1,7 @@
 -- The image of what is in a box is between the images of the box's corners. A point may be a fraction: its
 -- coordinates are p.x / k, p.y / k and p.z / k.
 use Rattle.std.proofs.Common.{ℕ, suc, ◌≡◌, ◌^◌, ◌<◌, Bool, true, false, cond, Option, Some, None, List, [], ◌∷◌, length, slice_index_or, lit<, refl, sym, ap, subst, ◌∙◌, arith}
-use Rattle.std.specs.Prelude.{ℤ, pos, negsuc, ◌+ℤ◌, ◌*ℤ◌, ◌≤ℤ◌, neg_ℤ, IsSome, IfSome}
+use Rattle.std.specs.Prelude.{ℤ, pos, negsuc, ◌+ℤ◌, ◌*ℤ◌, ◌≤ℤ◌, ◌↔◌, neg_ℤ, IsTrue, IsSome, IfSome}
 use Rattle.std.specs.List.{All}
 use Rattle.std.proofs.lemmas.Int.{ints}
 use Rattle.ray_geom.specs.declared.vec3.Vec3.{Vec3}
@@ -21,14 +21,14 @@ corner_of box i j l = vec3 (cond i box.hi.x box.lo.x) (cond j box.hi.y box.lo.y)
 
 each_corner : (m : MatrixValue) (box world : BoxValue) → HoldsImages m box world → (i j l : Bool) →
     IsIn (image_of m (corner_of box i j l)) world
-each_corner m box world h false false false = h 0 box.lo (lit< tt)
-each_corner m box world h false false true = h 1 box.lo (lit< tt)
-each_corner m box world h false true false = h 2 box.lo (lit< tt)
-each_corner m box world h false true true = h 3 box.lo (lit< tt)
-each_corner m box world h true false false = h 4 box.lo (lit< tt)
-each_corner m box world h true false true = h 5 box.lo (lit< tt)
-each_corner m box world h true true false = h 6 box.lo (lit< tt)
-each_corner m box world h true true true = h 7 box.lo (lit< tt)
+each_corner m box world h false false false = h.each 0 box.lo (lit< tt)
+each_corner m box world h false false true = h.each 1 box.lo (lit< tt)
+each_corner m box world h false true false = h.each 2 box.lo (lit< tt)
+each_corner m box world h false true true = h.each 3 box.lo (lit< tt)
+each_corner m box world h true false false = h.each 4 box.lo (lit< tt)
+each_corner m box world h true false true = h.each 5 box.lo (lit< tt)
+each_corner m box world h true true false = h.each 6 box.lo (lit< tt)
+each_corner m box world h true true true = h.each 7 box.lo (lit< tt)
 
 -- the end of a side at which a multiple is least, and that at which it is greatest
 least_end : (k : ℕ) (r lo hi p : ℤ) → (pos k *ℤ lo) ≤ℤ p → p ≤ℤ (pos k *ℤ hi) →
@@ -170,7 +170,7 @@ within_limits v h = record {
 pub IsShort-image : (m : MatrixValue) (box : BoxValue) (p : Vec3) → KeepsCorners m box → IsIn p box → IsShort (2 ^ 19) (image_of m p)
 IsShort-image m box p keeps is =
     within_limits (image_of m p)
-    (IsIn-image m box limits_box p (λ k d below. in_limits (image_of m (slice_index_or (corners_of box) k d)) (keeps k d below)) is)
+    (IsIn-image m box limits_box p (record { each = λ k d below. in_limits (image_of m (slice_index_or (corners_of box) k d)) (keeps.each k d below) }) is)
 
 -- the union of the images of the corners is the least box that holds them
 some_of : (o : Option BoxValue) → (o ≡ None → ⊥) → IsSome o
@@ -184,8 +184,8 @@ by_points m box None h = h
 by_points m box (Some r) h =
     IsLeast-same (λ world. All (λ corner. IsPart (point_box (image_of m corner)) world) (corners_of box)) (HoldsImages m box) r
     (λ world. (
-      λ a k d below. (IsPart-point (image_of m (slice_index_or (corners_of box) k d)) world).0 (a k d below),
-      λ a k d below. (IsPart-point (image_of m (slice_index_or (corners_of box) k d)) world).1 (a k d below),
+      λ a. record { each = λ k d below. (IsPart-point (image_of m (slice_index_or (corners_of box) k d)) world).0 (a k d below) },
+      λ a k d below. (IsPart-point (image_of m (slice_index_or (corners_of box) k d)) world).1 (a.each k d below),
     ))
     h
 
@@ -209,3 +209,16 @@ IsImageBox-fold m box points o are is =
 pub IsLeast-unwrapped : (m : MatrixValue) (box : BoxValue) (o : Option BoxValue) (r : BoxValue) →
     IfSome o (IsLeast (HoldsImages m box)) → o ≡ Some r → IsLeast (HoldsImages m box) r
 IsLeast-unwrapped m box o r h is = subst (λ x. IfSome x (IsLeast (HoldsImages m box))) is h
+
+-- what a test of all corners says
+pub KeepsCorners-test : (m : MatrixValue) (box : BoxValue) (points : List Vec3) (r : Bool) → points ≡ corners_of box →
+    IsTrue r ↔ All (λ p. IsShort (2 ^ 19) (image_of m p)) points → IsTrue r ↔ KeepsCorners m box
+KeepsCorners-test m box points r are h =
+    let all : IsTrue r ↔ All (λ p. IsShort (2 ^ 19) (image_of m p)) (corners_of box) =
+    subst (λ ps. IsTrue r ↔ All (λ p. IsShort (2 ^ 19) (image_of m p)) ps) are h in
+    (λ told. record { each = all.0 told }, λ keeps. all.1 keeps.each)
+
+pub KeepsCorners-each : (m : MatrixValue) (box : BoxValue) (points : List Vec3) → points ≡ corners_of box →
+    KeepsCorners m box → All (λ p. IsShort (2 ^ 19) (image_of m p)) points
+KeepsCorners-each m box points are keeps =
+    subst (λ ps. All (λ p. IsShort (2 ^ 19) (image_of m p)) ps) (sym are) keeps.each

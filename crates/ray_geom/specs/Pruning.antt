@@ -16,12 +16,12 @@ abbrev pub IsDistance : RayValue → TriValue → ℕ → ℕ → Type 0
 IsDistance ray tri n d = pos n *ℤ den_of ray tri ≡ num_of ray tri *ℤ pos d
 
 -- a box holds the images of the eight corners of another (own)
-abbrev pub HoldsImages : MatrixValue → BoxValue → BoxValue → Type 0
-HoldsImages m box world = All (λ corner. IsIn (image_of m corner) world) (corners_of box)
+pub record HoldsImages (m : MatrixValue) (box world : BoxValue) : Type 0 where
+  pub each : All (λ corner. IsIn (image_of m corner) world) (corners_of box)
 
 -- the images of the eight corners of a box are within the limits (own)
-abbrev pub KeepsCorners : MatrixValue → BoxValue → Type 0
-KeepsCorners m box = All (λ corner. IsShort (2 ^ 19) (image_of m corner)) (corners_of box)
+pub record KeepsCorners (m : MatrixValue) (box : BoxValue) : Type 0 where
+  pub each : All (λ corner. IsShort (2 ^ 19) (image_of m corner)) (corners_of box)
 
 -- the union of the images of points, in order
 abbrev pub box_of_images : MatrixValue → List Vec3 → Option BoxValue
