@@ -1,13 +1,13 @@
 -- How large the numbers of the triangle test are: a coordinate difference is at most 2^20, a minor
 -- of two at most 2^41, and a volume, the determinant and the numerator at most 3 * 2^61.
 use Rattle.std.proofs.Common.{ℕ, ◌+◌, ◌*◌, ◌^◌, ◌≤◌, arith}
-use Rattle.std.specs.Prelude.{ℤ, ◌+ℤ◌, ◌-ℤ◌, ◌*ℤ◌}
+use Rattle.std.specs.Prelude.{ℤ, ◌*ℤ◌}
 use Rattle.std.specs.Int.{w64}
 use Rattle.std.specs.Int.RustNames.{FitsSigned, unsigned_abs}
 use Rattle.std.proofs.lemmas.Int.{ints, unsigned_abs-mul}
 use Rattle.std.proofs.Math.Nat.{mul-le-mul}
 use Rattle.ray_geom.specs.declared.vec3.Vec3.{Vec3}
-use Rattle.ray_geom.specs.Vector.{IsWithin, IsShort, minor_of, dot_of}
+use Rattle.ray_geom.specs.Vector.{IsWithin, IsShort, minor_of}
 use Rattle.ray_geom.specs.Fits.{DotFits, MinusFits}
 
 IsWithin-abs : (m : ℕ) (z : ℤ) → IsWithin m z → unsigned_abs z ≤ m

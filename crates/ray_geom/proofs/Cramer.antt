@@ -7,12 +7,12 @@ use Rattle.std.proofs.Math.IntN.{*ℤ_comm}
 use Rattle.ray_geom.specs.declared.vec3.Vec3.{Vec3}
 use Rattle.ray_geom.specs.Vector.{vec3, minus_of, minor_of, cross_of, dot_of}
 use Rattle.ray_geom.specs.Scene.{RayValue, TriValue}
-use Rattle.ray_geom.specs.Transform.{MatrixValue, matrix_value, Rows, times_of, det_of, adjugate_of, adjugate_times, image_of, world_tri}
+use Rattle.ray_geom.specs.Transform.{MatrixValue, matrix_value, Rows, times_of, det_of, adjugate_of, image_of, world_tri}
 use Rattle.ray_geom.specs.ObjectRay.{MapsTo}
 use Rattle.ray_geom.specs.TriangleHit.{first_volume, second_volume, third_volume, den_of, num_of}
 use Rattle.ray_geom.proofs.Ring.{*ℤ-+ℤ, *ℤ--ℤ, +ℤ-*ℤ, sub_ℤ-*ℤ}
 use Rattle.ray_geom.proofs.Triple.{six, turn_product, swap_product}
-use Rattle.ray_geom.proofs.ObjectRays.{columns, dot_of-columns, MapsTo-adjugate}
+use Rattle.ray_geom.proofs.ObjectRays.{dot_of-columns, MapsTo-adjugate}
 use Rattle.ray_geom.proofs.EdgeLaw.{seen, num_of-triple}
 
 pub dot_of-comm : (a b : Vec3) → dot_of a b ≡ dot_of b a

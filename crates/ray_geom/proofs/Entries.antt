@@ -1,8 +1,7 @@
 -- The entry and the exit as functions are the reach, where any distance is inside.
 use Rattle.std.proofs.Common.{ℕ, zero, suc, ◌≡◌, ◌*◌, ◌<◌, ◌≤◌, Option, Some, None, option_map, Bool, true, false, cond, nat_le, refl, sym, ◌∙◌, arith}
-use Rattle.std.specs.Prelude.{ℤ, pos, negsuc, ◌-ℤ◌, ◌*ℤ◌, ◌≤ℤ◌, ◌↔◌, unsigned_abs, IsSome, IfSome, IfNone}
+use Rattle.std.specs.Prelude.{ℤ, pos, negsuc, ◌-ℤ◌, ◌↔◌, unsigned_abs, IsSome, IfSome, IfNone}
 use Rattle.std.specs.Cmp.{nat_cmp_is}
-use Rattle.std.specs.Ordering.{nat_cmp}
 use Rattle.std.specs.declared.cmp.Ordering.TheVariants.{Equal}
 use Rattle.std.proofs.Props.{props}
 use Rattle.std.proofs.lemmas.Int.{ints}
@@ -15,13 +14,13 @@ use Rattle.ray_geom.specs.Fraction.{IsAtMost}
 use Rattle.ray_geom.specs.Frac.{numerator, denominator}
 use Rattle.ray_geom.specs.FracLaws.{same_value}
 use Rattle.ray_geom.specs.HitValue.{lowest_terms}
-use Rattle.ray_geom.specs.Ratio.{ratio_cmp, ratio_of, ratio_at, suc_positive, parts_of, later_of, earlier_of}
+use Rattle.ray_geom.specs.Ratio.{ratio_cmp, ratio_at, suc_positive, parts_of, later_of, earlier_of}
 use Rattle.ray_geom.specs.Boxes.{BoxValue}
 use Rattle.ray_geom.specs.ObjectRay.{ObjectRayValue}
 use Rattle.ray_geom.specs.BoxSpan.{near_end, far_end, IsBetween, IsOnAxis, IsInside, IsReach, IsSpan}
-use Rattle.ray_geom.specs.Slabs.{IsPast, IsBefore, IsInSlab, Never}
+use Rattle.ray_geom.specs.Slabs.{IsPast, IsBefore, Never}
 use Rattle.ray_geom.specs.Decided.{where_so, inside_decided}
-use Rattle.ray_geom.specs.BoxReach.{natural_part, way_in, way_out, enters_at, leaves_at, entry_on, exit_on, entry_of, exit_of, reach_value, reach_of, IsSameReach, span_of, span_value, span_in_lowest_terms}
+use Rattle.ray_geom.specs.BoxReach.{way_in, way_out, enters_at, leaves_at, entry_on, exit_on, entry_of, exit_of, reach_value, reach_of, IsSameReach, span_of, span_value, span_in_lowest_terms}
 use Rattle.ray_geom.proofs.HitValues.{lowest_terms-same}
 use Rattle.ray_geom.proofs.Slabs.{at_most_chain, IsBetween-rising, IsBetween-falling}
 

@@ -1,15 +1,14 @@
 -- The determinant of a world triangle is the product of the object ray's direction with the triangle's normal, so
 -- the facing is that of the object's space.
-use Rattle.std.proofs.Common.{ℕ, zero, suc, ◌≡◌, ◌≢◌, ◌<◌, Bool, true, false, not, sym, ap, subst, ◌∙◌, refl, arith}
+use Rattle.std.proofs.Common.{ℕ, zero, suc, ◌≡◌, ◌≢◌, ◌<◌, Bool, true, false, sym, ap, ◌∙◌, refl, arith}
 use Rattle.std.specs.Prelude.{ℤ, pos, negsuc, neg_ℤ, ◌+ℤ◌, ◌-ℤ◌, ◌*ℤ◌, ◌<ℤ◌, ◌↔◌, IsTrue}
-use Rattle.std.specs.declared.cmp.Ordering.TheVariants.{Less}
 use Rattle.std.proofs.lemmas.Int.{ints}
 use Rattle.std.proofs.Math.IntN.{*ℤ_comm}
 use Rattle.ray_geom.specs.declared.vec3.Vec3.{Vec3}
 use Rattle.ray_geom.specs.declared.tri_hit.TriHit.{TriHit}
 use Rattle.ray_geom.specs.Vector.{vec3, sign_of, minus_of, cross_of, dot_of}
 use Rattle.ray_geom.specs.Scene.{RayValue, TriValue}
-use Rattle.ray_geom.specs.Transform.{MatrixValue, Rows, times_of, det_of, adjugate_of, adjugate_times, image_of, world_tri}
+use Rattle.ray_geom.specs.Transform.{MatrixValue, det_of, adjugate_of, adjugate_times, image_of, world_tri}
 use Rattle.ray_geom.specs.ObjectRay.{MapsTo, object_of}
 use Rattle.ray_geom.specs.TriangleHit.{den_of, IsHit, Tells}
 use Rattle.ray_geom.specs.Facing.{normal_of_tri, IsFront, is_front}

@@ -1,12 +1,11 @@
 -- A hit of the world triangle is inside each box of the object's space that holds the triangle, and what is
 -- inside a box is inside each box around it.
-use Rattle.std.proofs.Common.{ℕ, zero, suc, ◌≡◌, ◌≢◌, ◌+◌, ◌*◌, ◌<◌, ◌≤◌, sym, ap, subst, ◌∙◌, refl, arith}
+use Rattle.std.proofs.Common.{ℕ, zero, suc, ◌≡◌, ◌≢◌, ◌+◌, ◌*◌, ◌≤◌, sym, ap, subst, ◌∙◌, refl, arith}
 use Rattle.std.specs.Prelude.{ℤ, pos, negsuc, ◌+ℤ◌, ◌*ℤ◌, ◌≤ℤ◌, unsigned_abs}
 use Rattle.std.specs.Int.{int_signum}
 use Rattle.std.proofs.lemmas.Int.{ints}
 use Rattle.std.proofs.Math.IntN.{*ℤ_comm}
 use Rattle.std.proofs.Math.Nat.{mul-le-mul_right, le_of_mul-le-mul_left}
-use Rattle.ray_geom.specs.declared.vec3.Vec3.{Vec3}
 use Rattle.ray_geom.specs.Scene.{RayValue, TriValue}
 use Rattle.ray_geom.specs.Boxes.{BoxValue, IsPart}
 use Rattle.ray_geom.specs.LeastBoxes.{HoldsTri}

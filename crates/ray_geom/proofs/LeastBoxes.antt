@@ -1,15 +1,15 @@
 -- Unions are least boxes, and least boxes of lists are unions.
-use Rattle.std.proofs.Common.{ℕ, ◌≡◌, ◌^◌, Option, Some, None, List, [], ◌∷◌, fold, slice_index_or, refl, sym, subst, arith}
+use Rattle.std.proofs.Common.{ℕ, ◌≡◌, Option, Some, None, List, [], ◌∷◌, fold, slice_index_or, refl, sym, subst, arith}
 use Rattle.std.specs.Prelude.{ℤ, ◌≤ℤ◌, ◌↔◌, IfSome}
 use Rattle.std.specs.List.{All}
 use Rattle.std.specs.Int.{int_min, int_max}
 use Rattle.std.proofs.lemmas.Int.{ints, clamps}
 use Rattle.std.proofs.lemmas.List.Elements.{All-cons, All-tail, All-nil}
 use Rattle.ray_geom.specs.declared.vec3.Vec3.{Vec3}
-use Rattle.ray_geom.specs.Vector.{IsWithin, IsShort, vec3}
-use Rattle.ray_geom.specs.Scene.{TriValue, IsTri}
+use Rattle.ray_geom.specs.Vector.{IsWithin, vec3}
+use Rattle.ray_geom.specs.Scene.{TriValue}
 use Rattle.ray_geom.specs.Boxes.{BoxValue, box_value, IsBox, IsBelow, IsIn, IsPart}
-use Rattle.ray_geom.specs.LeastBoxes.{lesser_of, greater_of, point_box, union_of, joined_of, box_of_points, box_of_boxes, box_of_tri, HoldsPoints, HoldsBoxes, HoldsBoth, HoldsTri, IsLeast}
+use Rattle.ray_geom.specs.LeastBoxes.{point_box, union_of, joined_of, box_of_points, box_of_boxes, box_of_tri, HoldsPoints, HoldsBoxes, HoldsBoth, HoldsTri, IsLeast}
 
 -- the lesser and the greater of two numbers
 pub record IsLesser (a b c : ℤ) : Type 0 where

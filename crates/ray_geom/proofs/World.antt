@@ -9,13 +9,13 @@ use Rattle.ray_geom.specs.Scene.{RayValue}
 use Rattle.ray_geom.specs.Boxes.{BoxValue}
 use Rattle.ray_geom.specs.Transform.{MatrixValue, det_of, identity_value}
 use Rattle.ray_geom.specs.ObjectRay.{ObjectRayValue, object_value, object_of}
-use Rattle.ray_geom.specs.BoxSpan.{near_end, far_end, IsBetween, IsOnAxis, IsInside}
+use Rattle.ray_geom.specs.BoxSpan.{IsOnAxis, IsInside}
 use Rattle.ray_geom.specs.Pruning.{HoldsImages}
-use Rattle.ray_geom.proofs.Ring.{*ℤ-+ℤ, *ℤ--ℤ, +ℤ-*ℤ, sub_ℤ-*ℤ, *ℤ-neg_ℤ, neg_ℤ-*ℤ, *ℤ_assoc}
+use Rattle.ray_geom.proofs.Ring.{*ℤ-+ℤ, *ℤ--ℤ, +ℤ-*ℤ, sub_ℤ-*ℤ, neg_ℤ-*ℤ, *ℤ_assoc}
 use Rattle.ray_geom.proofs.Triple.{swap_product, dot_of-neg}
 use Rattle.ray_geom.proofs.Scaling.{times_back, negsuc-*ℤ}
 use Rattle.ray_geom.proofs.ObjectRays.{LeadsBack-object}
-use Rattle.ray_geom.proofs.Corners.{IsInOver, IsBetweenEnds, IsImageOver, IsImageOver-corners}
+use Rattle.ray_geom.proofs.Corners.{IsImageOver-corners}
 
 -- where the object ray is at the distance n / d, times det d
 abbrev pub point_at : ObjectRayValue → ℕ → ℕ → Vec3

@@ -1,6 +1,6 @@
 -- Equality of points, rays, triangles, boxes and transforms as a test, and that it says that they are
 -- identical. These words and lemmas stand in specs/, since the `impl`s cite them. (Own.)
-use Rattle.std.specs.Prelude.{ℕ, ◌≡◌, ◌==◌, ◌&&◌, ◌↔◌, Bool, IsTrue}
+use Rattle.std.specs.Prelude.{◌≡◌, ◌==◌, ◌&&◌, ◌↔◌, Bool, IsTrue}
 use Rattle.std.specs.Bool.{Decides}
 use Rattle.std.specs.Cmp.{IsEquivalence, IsPartialEquivalence, decided, partial_equiv_from_equiv}
 use Rattle.std.specs.Ordering.{int_eq}

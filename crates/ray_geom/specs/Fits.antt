@@ -1,6 +1,6 @@
 -- Words of private calls alone, which a reader of the public contracts needs not: that each number on the way to a
 -- scalar product, or to a difference, fits 64 bits. (Own.)
-use Rattle.std.specs.Prelude.{ℕ, ◌^◌, ◌*◌, ◌+ℤ◌, ◌-ℤ◌, ◌*ℤ◌}
+use Rattle.std.specs.Prelude.{◌^◌, ◌*◌, ◌+ℤ◌, ◌-ℤ◌, ◌*ℤ◌}
 use Rattle.std.specs.Int.{w64}
 use Rattle.std.specs.Int.RustNames.{FitsSigned}
 use Rattle.ray_geom.specs.declared.vec3.Vec3.{Vec3}

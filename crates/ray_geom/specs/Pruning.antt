@@ -4,12 +4,10 @@ use Rattle.std.specs.List.{All}
 use Rattle.ray_geom.specs.declared.vec3.Vec3.{Vec3}
 use Rattle.ray_geom.specs.Vector.{IsShort}
 use Rattle.ray_geom.specs.Scene.{RayValue, TriValue}
-use Rattle.ray_geom.specs.TriangleHit.{num_of, den_of, IsHit}
-use Rattle.ray_geom.specs.Transform.{MatrixValue, identity_value, image_of, world_tri}
+use Rattle.ray_geom.specs.TriangleHit.{num_of, den_of}
+use Rattle.ray_geom.specs.Transform.{MatrixValue, image_of}
 use Rattle.ray_geom.specs.Boxes.{BoxValue, IsIn, corners_of}
 use Rattle.ray_geom.specs.LeastBoxes.{point_box, joined_of}
-use Rattle.ray_geom.specs.ObjectRay.{object_of}
-use Rattle.ray_geom.specs.BoxSpan.{IsInside}
 
 -- n / d is the distance num / den at which the ray meets the triangle's plane; a hit's t is it (own)
 abbrev pub IsDistance : RayValue → TriValue → ℕ → ℕ → Type 0

@@ -1,5 +1,4 @@
 use Rattle.std.proofs.Common.{rules}
-use Rattle.std.proofs.lemmas.Int.{to_z-of_z}
 use Rattle.ray_geom.proofs.Bounds.{weigh_fits}
 use Rattle.ray_geom.proofs.adjugate.Adjugate.times.Goals as goal
 

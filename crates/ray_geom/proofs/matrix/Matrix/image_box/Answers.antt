@@ -1,8 +1,5 @@
-use Rattle.std.proofs.Common.{rules, subst}
-use Rattle.std.specs.Prelude.{IfSome}
-use Rattle.ray_geom.specs.LeastBoxes.{IsLeast}
-use Rattle.ray_geom.specs.Pruning.{HoldsImages}
-use Rattle.ray_geom.proofs.Corners.{IsImageBox, IsImageBox-fold, IsLeast-unwrapped, KeepsCorners-each}
+use Rattle.std.proofs.Common.{rules}
+use Rattle.ray_geom.proofs.Corners.{IsImageBox-fold, IsLeast-unwrapped, KeepsCorners-each}
 use Rattle.ray_geom.proofs.matrix.Matrix.image_box.Goals as goal
 
 pub joined_images-requires-clause-kept : goal.joined_images-requires-clause-kept
