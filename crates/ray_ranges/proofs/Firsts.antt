@@ -41,6 +41,15 @@ least_number-none test n none =
     cond-false (nat_lt (position_or_len test (range_with_len 0 n)) (length (range_with_len 0 n))) _ _
     (le-ltb _ _ (omega arith))
 
+-- where no item passes a test there is no first
+pub position-none :
+    {X : Type 0} (test : X → Bool) (xs : List X) (d : X) → ((k : ℕ) → k < length xs → test (get_or xs k d) ≡ false)
+    → position test xs ≡ None
+position-none test xs d none =
+    let e : position_or_len test xs ≡ length xs =
+    position_or_len_is test xs (length xs) d (omega arith) none (λ l. absurd (omega arith)) in
+    cond-false (nat_lt (position_or_len test xs) (length xs)) _ _ (le-ltb _ _ (omega arith))
+
 or_turned : (a b : Bool) → (a || b) ≡ (b || a)
 or_turned true true = refl
 or_turned true false = refl

@@ -6,3 +6,4 @@ pub mod Queries
 pub mod Firsts
 pub mod Lines
 pub mod Placing
+pub mod Sweeps

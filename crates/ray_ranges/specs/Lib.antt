@@ -3,3 +3,4 @@ pub mod Apart
 pub mod First
 pub mod Places
 pub mod Addresses
+pub mod Sweep

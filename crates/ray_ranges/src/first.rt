@@ -5,6 +5,7 @@ ghost use Rattle.ray_ranges.specs.First.{first_meeting, first_meeting_any, first
 
 use crate::disjoint_ranges::DisjointRanges;
 use crate::range::Range;
+use crate::sweep::are_free;
 use std::alloc::{AllocError, Global};
 
 /// The least number of a range that meets one of the others, or one that stands before it. It takes
@@ -16,6 +17,9 @@ pub fn first_meeting(
 ) -> Result<Option<usize>, AllocError>
     ensures { IfOk result (λ first. first ≡ first_meeting ranges.now others.now) }
 {
+    if are_free(alloc, ranges, others)? {
+        return Ok(None);
+    }
     let mut taken = union(alloc, others)?;
     for (k, range) in ranges.iter().enumerate() {
         if taken.meets(*range) {
@@ -41,8 +45,11 @@ pub fn first_meeting_any(
 ) -> Result<Option<usize>, AllocError>
     ensures { IfOk result (λ first. first ≡ first_meeting_any ranges.now others.now) }
 {
-    let taken = union(alloc, others)?;
-    Ok(first_met(&taken, ranges))
+    if are_free(alloc, ranges, others)? {
+        return Ok(None);
+    }
+    let set = union(alloc, others)?;
+    Ok(first_met(&set, ranges))
 }
 
 // The least number of a range that meets one of the set.

@@ -16,6 +16,7 @@ mod first;
 mod place;
 mod placed;
 mod range;
+mod sweep;
 #[cfg(test)]
 mod tests;
 

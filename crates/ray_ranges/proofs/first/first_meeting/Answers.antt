@@ -3,8 +3,13 @@ use Rattle.std.proofs.lemmas.Bool.{cases_eq}
 use Rattle.ray_ranges.specs.Meeting.{has}
 use Rattle.ray_ranges.specs.First.{meets_before, range_at}
 use Rattle.ray_ranges.proofs.Shared.{meets_any_same}
+use Rattle.ray_ranges.proofs.Sweeps.{first_meeting-free}
 use Rattle.ray_ranges.proofs.Firsts.{least_number-some, least_number-none, covers_more_after}
 use Rattle.ray_ranges.proofs.first.first_meeting.Goals as goal
+
+pub returns-then-branch : goal.returns-then-branch
+returns-then-branch c =
+    sym (first_meeting-free c.args.ranges.now c.args.others.now (c.in_ok-are_free.ensures c.if-branch.true))
 
 pub returns-then-meets : goal.returns-then-meets
 returns-then-meets c =
