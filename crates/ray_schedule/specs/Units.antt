@@ -3,9 +3,10 @@
 -- accesses the operations of a command.)
 --
 -- The bridge to a device's memory as actions see it, for a recording whose commands have one action
--- each: unit p is command p, `writes p` is the `writes` of its action, `outcome p` is the `outcome_of`
--- it, an outcome is a fault where it is `Breaks`, and `stored p` of `Gives output` is the `written` of
--- the action and the output. Then `put` is `after`, and `memory_before` has the same name there.
+-- each: unit p is command p; `writes p` is the `writes` of its action, `outcome p` its `outcome_of`;
+-- an outcome is a fault where it is `Breaks`; and `stored p (Gives output)` is the `written` of the
+-- action and the output. Then `put` here is `after` there, and `memory_before` has one name. Where a
+-- command has many pieces, unit p is the p-th of all pieces and host commands in recording order.
 use Rattle.std.specs.Prelude.{ℕ, zero, suc, Bool, not, ◌&&◌, if◌then◌else◌}
 
 -- a memory: what each location holds

@@ -13,16 +13,17 @@ pub fn every_schedule<R: Recorded>(recorded: &R)
     ensures { EverySchedule (R.work recorded.now) }
 {}
 
-/// Which schedules are permitted: waves are, one after the other, whose numbers rise along the order;
-/// and recording order is, where the order goes with it. So the law of schedules isn't empty.
+/// Which schedules are permitted: waves are, one after the other, whose numbers rise along the
+/// order; and recording order is, where the order goes with it. So the law of schedules speaks of
+/// some.
 pub fn permitted_schedules<R: Recorded>(recorded: &R)
     requires { let w = R.work recorded.now in IsForward w.device w.before w.count }
     ensures { ArePermitted (R.work recorded.now) }
 {}
 
-/// A run in waves whose numbers rise along conflicts. Of each wave the units below a bound are fetched,
-/// the bound comes down to the least faulty one, and those below it are stored. At the end the bound is
-/// the first fault of recording order, whatever the waves met first.
+/// A run in waves whose numbers rise along conflicts. Of each wave the units below a bound are
+/// fetched, the bound comes down to the least faulty one, and those below it are stored. At the end
+/// the bound is the first fault of recording order, whatever the waves met first.
 pub fn runs_in_waves<R: Recorded>(recorded: &R)
     requires { IsLocal (R.work recorded.now).device }
     ensures { WavesRun (R.work recorded.now) }

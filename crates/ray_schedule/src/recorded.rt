@@ -1,7 +1,7 @@
 ghost use Rattle.ray_schedule.specs.Units.{Work};
 
-/// What a device is to run: its units in recording order, the memory in which it starts, and the order
-/// of its commands. All of it is for contracts alone.
+/// What a device is to run: its units in recording order, the memory in which it starts, and the
+/// order of its commands. All of it is for contracts alone.
 pub trait Recorded {
     /// The locations of a memory.
     ghost Location: { Type 0 };
@@ -12,6 +12,7 @@ pub trait Recorded {
     /// What a unit computes: an output, or a fault.
     ghost Outcome: { Type 0 };
 
-    /// Its units, how many there are, the memory in which a run begins, and the order of the commands.
+    /// Its units, how many there are, the memory in which a run begins, and the order of its
+    /// commands.
     ghost work: { Self → Work Held Outcome };
 }

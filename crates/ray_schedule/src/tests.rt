@@ -39,7 +39,8 @@ fn first_two_together(cells: &ThreeCells)
 
 // Without the sum there is no fault either.
 fn no_fault_below_the_sum(cells: &ThreeCells)
-    ensures { IsFirstFault (is_at_fault three_cells) 3 3 → IsFirstFault (is_at_fault three_cells) 2 2 }
+    ensures { IsFirstFault (is_at_fault three_cells) 3 3
+        → IsFirstFault (is_at_fault three_cells) 2 2 }
 {
     first_commands(cells);
 }

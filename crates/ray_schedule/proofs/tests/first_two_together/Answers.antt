@@ -1,7 +1,7 @@
-use Rattle.std.proofs.Common.{◌≡◌, ◌<◌, ℕ, zero, suc, true, false, [], ◌∷◌, refl, sym, ap, arith, inl, inr, ◌⊎◌}
+use Rattle.std.proofs.Common.{◌≡◌, ◌<◌, ℕ, zero, suc, [], ◌∷◌, refl, ap, arith, inl, inr, ◌⊎◌}
 use Rattle.std.specs.Prelude.{nat_lt, ◌==◌}
 use Rattle.std.proofs.lemmas.Bool.{and_parts, eqb-true, ltb-true}
-use Rattle.ray_schedule.specs.Waves.{IsAmong, IsWave, AreWaves, RisesAlong}
+use Rattle.ray_schedule.specs.Waves.{IsAmong, AreWaves, RisesAlong}
 use Rattle.ray_schedule.specs.ThreeCells.{three_cells, wave_of, two_waves}
 use Rattle.ray_schedule.proofs.tests.first_two_together.Goals as goal
 
