@@ -1,5 +1,5 @@
 -- Ranges that stand in order and apart, as a set of disjoint ranges holds them. (Own.)
-use Rattle.std.specs.Prelude.{◌≡◌, ◌<◌, ◌≤◌, ℕ, Bool, not, ◌==◌, ◌&&◌, List, [], ◌∷◌}
+use Rattle.std.specs.Prelude.{◌≡◌, ◌<◌, ◌≤◌, ℕ, Bool, not, ◌==◌, List, [], ◌∷◌}
 use Rattle.std.specs.List.{filter, list_any}
 use Rattle.ray_ranges.specs.declared.range.Range.{Range}
 
@@ -21,10 +21,6 @@ begins_at from range = range.from == from
 -- the ranges that don't begin at this number
 abbrev pub without : ℕ → List Range → List Range
 without from ranges = filter (λ range. not (begins_at from range)) ranges
-
--- whether these are the ends of the range
-abbrev pub is_range : Range → Range → Bool
-is_range range other = other.from == range.from && other.end == range.end
 
 -- the range of an entry: its key is where it begins, its value where it ends
 abbrev pub range_of : ℕ × ℕ → Range

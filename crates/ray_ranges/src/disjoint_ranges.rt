@@ -59,7 +59,8 @@ impl DisjointRanges {
         if range.meets(last) { Some(last) } else { None }
     }
 
-    /// Puts one more range into the set.
+    /// Puts one more range into the set, which isn't empty and meets none. After an error the set is
+    /// as before.
     pub fn add(&mut self, range: Range) -> Result<(), AllocError>
         requires some { range.from < range.end }
         requires free { meets_any self.old range ≡ false }
@@ -82,8 +83,8 @@ impl DisjointRanges {
         }
     }
 
-    // Puts the numbers of the range into the set: those ranges that it meets become one with it. After
-    // an error some of these are gone.
+    // Puts the numbers of the range into the set: those ranges that it meets become one with it.
+    // After an error some of these are gone.
     pub(crate) fn cover(&mut self, range: Range) -> Result<(), AllocError>
         ensures { OnOk result (HasAlso range self.old self.new) }
     {

@@ -11,8 +11,8 @@ use std::alloc::{AllocError, Global};
 use std::collections::BTreeMap;
 use std::marker::Model;
 
-/// What is placed, by ids: each has a place that isn't empty, and no two share a byte. Contracts see
-/// it as the list of ids in order, each with its place. A question takes log n steps.
+/// What is placed, by ids: each has a place that isn't empty, and no two share a byte. Contracts
+/// see it as the list of ids in order, each with its place. A question takes log n steps.
 #[derive(Drop)]
 pub struct Placed {
     places: BTreeMap<u32, Place>,
@@ -77,7 +77,8 @@ impl Placed {
         self.taken.meets(whole(space))
     }
 
-    /// Gives an id that has none a place that isn't empty and shares no byte with another.
+    /// Gives an id that has none a place that isn't empty and shares no byte with another. After an
+    /// error all is as before.
     pub fn insert(&mut self, id: u32, place: Place) -> Result<(), AllocError>
         requires fresh { place_at id self.old ≡ None }
         requires some { 0 < place.size }

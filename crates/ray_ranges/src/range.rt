@@ -4,7 +4,9 @@ ghost use Rattle.ray_ranges.specs.Meeting.{has, meets, ShareNumber};
 /// The whole numbers from `from` on and below `end`; none where `end` isn't above `from`.
 #[derive(Clone, Copy, Debug, PartialEq, Eq)]
 pub struct Range {
+    /// Its least number.
     pub from: u128,
+    /// The number after its greatest.
     pub end: u128,
 }
 

@@ -11,8 +11,8 @@ pub(crate) struct Swept {
     pub is_other: bool,
 }
 
-// Whether the ranges and the others ascend once they are sorted. Where they do, no range meets an other
-// or an earlier one.
+// Whether the ranges and the others ascend once they are sorted. Where they do, no range meets one
+// of the others or an earlier one.
 pub(crate) fn are_free(
     alloc: Global,
     ranges: &[Range],
@@ -45,8 +45,8 @@ fn both(alloc: Global, ranges: &[Range], others: &[Range]) -> Result<Vec<Swept>,
     Ok(all)
 }
 
-// Whether each range that isn't empty begins where those before it end or above, but for others among
-// each other.
+// Whether each range that isn't empty begins where those before it end or above, but for the others
+// among each other.
 fn ascend(all: &[Swept]) -> bool
     ensures { result ≡ ascend_from 0 0 all.now }
 {

@@ -1,12 +1,13 @@
 -- A run in waves stays as in recording order, and comes upon the first fault of recording order.
-use Rattle.std.proofs.Common.{◌≡◌, ◌<◌, ◌≤◌, ℕ, ◌+◌, zero, suc, Bool, true, false, sym, ◌∙◌, ap, subst, arith, inl, inr, ◌⊎◌, ◌&&◌, ◌||◌}
+use Rattle.std.proofs.Common.{◌≡◌, ◌<◌, ◌≤◌, ℕ, ◌+◌, zero, suc, Bool, true, false, List, [], ◌∷◌, refl, sym, ◌∙◌, ap, subst, arith, inl, inr, ◌⊎◌, ◌&&◌, ◌||◌}
 use Rattle.std.specs.Prelude.{nat_lt, ◌==◌}
-use Rattle.std.proofs.lemmas.Bool.{cases_lt, cases_eq, cases_order, cases_Bool, and_parts, and_from, or_cases, or_left, or_right, both_ways, false≢true, eq-eqb, eqb-true, ltb-true, lt-ltb}
-use Rattle.ray_schedule.specs.Units.{Work, Memory, put, memory_before, is_faulty}
+use Rattle.std.proofs.lemmas.Bool.{cases_lt, cases_eq, cases_order, cases_Bool, and_parts, and_from, or_cases, or_left, or_right, both_ways, false_from_ne_true, false≢true, eq-eqb, eqb-true, ltb-true, lt-ltb}
+use Rattle.ray_schedule.specs.Units.{Device, Work, Memory, held_after, put, memory_before, is_faulty}
 use Rattle.ray_schedule.specs.Conflicts.{Conflict, ReadAfterWrite, WriteAfterRead, WriteAfterWrite, IsLocal}
-use Rattle.ray_schedule.specs.Progress.{IsSound, MayFetch, MayStore, AreRising, IsAfterWave, IsDoneTo}
-use Rattle.ray_schedule.specs.Laws.{WavesBegin, WavesGoOn, WavesFetchTheSame, WavesEnd, WavesAreFree, WavesRise}
-use Rattle.ray_schedule.proofs.Course.{sound_at_first, outcome_in_order, sound_after_store}
+use Rattle.ray_schedule.specs.Waves.{IsAmong, AreDistinct}
+use Rattle.ray_schedule.specs.Progress.{IsSound, MayFetch, MayStore, AreRising, IsAfterWave, IsDoneTo, put_each}
+use Rattle.ray_schedule.specs.Laws.{WavesBegin, WavesGoOn, WavesFetchTheSame, WavesFetchApart, WavesStoreApart, WavesEnd, WavesAreFree, WavesRise}
+use Rattle.ray_schedule.proofs.Course.{held_after-unwritten, sound_at_first, outcome_in_order, sound_after_store}
 
 -- a test passes at some number below n, or at none
 pub record IsPassing (test : ℕ → Bool) (n : ℕ) : Type 0 where
@@ -219,3 +220,54 @@ module _ {Location : Type 0} {Held : Location → Type 0} {Outcome : Type 0} (wo
             (λ q m w. done.all q (omega arith) (past q m))
             (λ q g w s. let inside : q < work.count = (done.only q s).0 in absurd (omega arith)),
       )
+
+module _ {Location : Type 0} {Held : Location → Type 0} {Outcome : Type 0} (d : Device Held Outcome) where
+  -- what none of some units writes stays when they are stored
+  put_each-unwritten :
+      (outcomes : ℕ → Outcome) (ps : List ℕ) (memory : Memory Held) (l : Location)
+      → ((p : ℕ) → IsAmong p ps → d.writes p l ≡ true → ⊥)
+      → put_each d outcomes ps memory l ≡ memory l
+  put_each-unwritten outcomes [] memory l none = refl
+  put_each-unwritten outcomes (q ∷ qs) memory l none =
+      put_each-unwritten outcomes qs (put d q (outcomes q) memory) l (λ p a w. none p (inr a) w)
+      ∙ held_after-unwritten d q (outcomes q) l (memory l)
+        (false_from_ne_true (d.writes q l) (λ w. none q (inl refl) w))
+
+  -- what one of them alone writes changes as it would by this one
+  put_each-written :
+      (outcomes : ℕ → Outcome) (ps : List ℕ) (memory : Memory Held) (p : ℕ) (l : Location)
+      → AreDistinct ps → IsAmong p ps
+      → ((q : ℕ) → IsAmong q ps → (q ≡ p → ⊥) → d.writes q l ≡ true → ⊥)
+      → put_each d outcomes ps memory l ≡ put d p (outcomes p) memory l
+  put_each-written outcomes [] memory p l distinct among alone = absurd among
+  put_each-written outcomes (q ∷ qs) memory p l (first, rest) (inl same) alone =
+      put_each-unwritten outcomes qs (put d q (outcomes q) memory) l
+        (λ r a w. alone r (inr a) (λ e. first r a (sym same ∙ sym e)) w)
+      ∙ ap (λ r. put d r (outcomes r) memory l) (sym same)
+  put_each-written outcomes (q ∷ qs) memory p l (first, rest) (inr later) alone =
+      put_each-written outcomes qs (put d q (outcomes q) memory) p l rest later (λ r a e w. alone r (inr a) e w)
+      ∙ ap (held_after d p (outcomes p) l)
+        (held_after-unwritten d q (outcomes q) l (memory l)
+          (false_from_ne_true (d.writes q l) (λ w. alone q (inl refl) (λ e. first p later e) w)))
+
+module _ {Location : Type 0} {Held : Location → Type 0} {Outcome : Type 0} (work : Work Held Outcome) where
+  pub waves_fetch_apart : IsLocal work.device → WavesFetchApart work
+  waves_fetch_apart local number p q outcome memory rising below inside same differ =
+      local p (put work.device q outcome memory) memory (λ l r.
+        held_after-unwritten work.device q outcome l (memory l)
+          (false_from_ne_true (work.device.writes q l) (λ w.
+            waves_are_free work number p q l rising below inside same differ (WriteAfterRead r w))))
+
+  pub waves_store_apart : WavesStoreApart work
+  waves_store_apart number v bound memory ps rising upto distinct are = record {
+    changed = λ p l below is w.
+      put_each-written work.device (λ q. work.device.outcome q memory) ps memory p l distinct ((are p).1 (below, is))
+        (λ q a differ x.
+          let of = (are q).0 a in
+          let inside : q < bound = of.0 in
+          waves_are_free work number q p l rising (omega arith) (omega arith) (of.1 ∙ sym is) differ
+            (WriteAfterWrite x w));
+    same = λ l none.
+      put_each-unwritten work.device (λ q. work.device.outcome q memory) ps memory l (λ q a w.
+        let of = (are q).0 a in none q of.0 of.1 w);
+  }

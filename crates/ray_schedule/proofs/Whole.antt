@@ -5,7 +5,7 @@ use Rattle.ray_schedule.specs.Conflicts.{AreOrdered, IsForward, IsLocal}
 use Rattle.ray_schedule.specs.Laws.{EverySchedule, ArePermitted, WavesRun, HoldsBelow, first_units}
 use Rattle.ray_schedule.proofs.Permitted.{outcomes_same, memory_same, fetch_reads, store_finds}
 use Rattle.ray_schedule.proofs.Turns.{waves_permitted, recording_order_permitted}
-use Rattle.ray_schedule.proofs.Waving.{waves_rise, waves_are_free, waves_begin, waves_fetch_the_same, waves_go_on, waves_end}
+use Rattle.ray_schedule.proofs.Waving.{waves_rise, waves_are_free, waves_begin, waves_fetch_the_same, waves_fetch_apart, waves_store_apart, waves_go_on, waves_end}
 use Rattle.ray_schedule.proofs.Below.{first_fault_same, ordered_below}
 
 module _ {Location : Type 0} {Held : Location → Type 0} {Outcome : Type 0} (work : Work Held Outcome) where
@@ -31,6 +31,8 @@ module _ {Location : Type 0} {Held : Location → Type 0} {Outcome : Type 0} (wo
     free = waves_are_free work;
     begin = waves_begin work;
     fetches = waves_fetch_the_same work local;
+    fetch_apart = waves_fetch_apart work local;
+    store_apart = waves_store_apart work;
     go_on = waves_go_on work local;
     end = waves_end work;
   }

@@ -1,12 +1,12 @@
 -- What the laws of schedules say of the work of a device.
 use Rattle.std.specs.Prelude.{◌≡◌, ◌<◌, ◌≤◌, ℕ, ◌+◌, Bool, true, false, List, take, Some, ◌↔◌}
-use Rattle.ray_schedule.specs.Units.{Memory, Work, memory_before, outcome_at, is_faulty}
+use Rattle.ray_schedule.specs.Units.{Memory, Work, put, memory_before, outcome_at, is_faulty}
 use Rattle.ray_schedule.specs.Events.{Event, Fetches, Stores, Moment, beginning, run}
 use Rattle.ray_schedule.specs.Schedules.{StandsAt, IsPermitted}
 use Rattle.ray_schedule.specs.Conflicts.{Conflict, AreOrdered}
-use Rattle.ray_schedule.specs.Waves.{Wave, events_of, AreWaves, RisesAlong, recording_order}
+use Rattle.ray_schedule.specs.Waves.{Wave, IsAmong, AreDistinct, events_of, AreWaves, RisesAlong, recording_order}
 use Rattle.ray_schedule.specs.Faults.{IsFirstFault, is_found_faulty}
-use Rattle.ray_schedule.specs.Progress.{AreRising, IsNewBound, IsAfterWave, IsDoneTo}
+use Rattle.ray_schedule.specs.Progress.{AreRising, IsNewBound, IsAfterWave, IsDoneTo, put_each}
 
 module _ {Location : Type 0} {Held : Location → Type 0} {Outcome : Type 0} (work : Work Held Outcome) where
   -- a schedule that is permitted
@@ -135,6 +135,23 @@ module _ {Location : Type 0} {Held : Location → Type 0} {Outcome : Type 0} (wo
       → AreRising work.device number work.count → IsDoneTo work number v bound memory
       → (p : ℕ) → p < bound → number p ≡ v → work.device.outcome p memory ≡ outcome_of p
 
+  -- a fetch finds the same whatever other units of its wave have stored
+  abbrev pub WavesFetchApart : Type 0
+  WavesFetchApart =
+      (number : ℕ → ℕ) (p q : ℕ) (outcome : Outcome) (memory : Memory Held)
+      → AreRising work.device number work.count → p < work.count → q < work.count
+      → number p ≡ number q → (p ≡ q → ⊥)
+      → work.device.outcome p (put work.device q outcome memory) ≡ work.device.outcome p memory
+
+  -- the units of a wave below a bound may be stored in any order
+  abbrev pub WavesStoreApart : Type 0
+  WavesStoreApart =
+      (number : ℕ → ℕ) (v bound : ℕ) (memory : Memory Held) (ps : List ℕ)
+      → AreRising work.device number work.count → bound ≤ work.count → AreDistinct ps
+      → ((p : ℕ) → IsAmong p ps ↔ ((p < bound) × (number p ≡ v)))
+      → IsAfterWave work.device number v bound memory
+          (put_each work.device (λ p. work.device.outcome p memory) ps memory)
+
   -- a wave more is done: all its units below the bound are fetched, the bound comes down to the least
   -- faulty one of these, and those below it are stored
   abbrev pub WavesGoOn : Type 0
@@ -160,6 +177,8 @@ module _ {Location : Type 0} {Held : Location → Type 0} {Outcome : Type 0} (wo
     pub free : WavesAreFree
     pub begin : WavesBegin
     pub fetches : WavesFetchTheSame
+    pub fetch_apart : WavesFetchApart
+    pub store_apart : WavesStoreApart
     pub go_on : WavesGoOn
     pub end : WavesEnd
 

@@ -1,5 +1,5 @@
 -- How far a run has come: for proofs, and for the invariants of loops that run a device in waves. (Own.)
-use Rattle.std.specs.Prelude.{◌≡◌, ◌<◌, ◌≤◌, ℕ, Bool, true, false, Some}
+use Rattle.std.specs.Prelude.{◌≡◌, ◌<◌, ◌≤◌, ℕ, Bool, true, false, List, [], ◌∷◌, Some}
 use Rattle.ray_schedule.specs.Units.{Device, Work, Memory, put, memory_before, outcome_at, is_faulty}
 use Rattle.ray_schedule.specs.Conflicts.{Conflict}
 use Rattle.ray_schedule.specs.Events.{Moment}
@@ -25,6 +25,11 @@ module _ {Location : Type 0} {Held : Location → Type 0} {Outcome : Type 0} (d 
   pub record MayFetch (Stored : ℕ → Type 0) (p : ℕ) : Type 0 where
     pub earlier : (l : Location) (q : ℕ) → d.reads p l ≡ true → q < p → d.writes q l ≡ true → Stored q
     pub later : (l : Location) (q : ℕ) → d.reads p l ≡ true → p ≤ q → d.writes q l ≡ true → Stored q → ⊥
+
+  -- the memory once outcomes of units are stored, one unit after the other
+  abbrev pub put_each : (ℕ → Outcome) → List ℕ → Memory Held → Memory Held
+  put_each outcomes [] memory = memory
+  put_each outcomes (p ∷ ps) memory = put_each outcomes ps (put d p (outcomes p) memory)
 
   -- a unit may be stored: it isn't yet, and of the later units that write what it writes none is
   pub record MayStore (Stored : ℕ → Type 0) (p : ℕ) : Type 0 where
