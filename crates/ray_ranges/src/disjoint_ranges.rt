@@ -59,8 +59,8 @@ impl DisjointRanges {
         if range.meets(last) { Some(last) } else { None }
     }
 
-    /// Puts one more range into the set, which isn't empty and meets none. After an error the set is
-    /// as before.
+    /// Puts one more range into the set, which isn't empty and meets none. After an error the set
+    /// is as before.
     pub fn add(&mut self, range: Range) -> Result<(), AllocError>
         requires some { range.from < range.end }
         requires free { meets_any self.old range ≡ false }

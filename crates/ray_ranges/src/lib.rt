@@ -1,7 +1,8 @@
 //! Ranges of whole numbers: which of them meet, and where things stand that may share no byte.
 //!
-//! [`DisjointRanges`] is a set of ranges that are apart. [`first_meeting`], [`first_meeting_earlier`]
-//! and [`first_meeting_any`] find the first range of a list that meets another, in n log n.
+//! [`DisjointRanges`] is a set of ranges that are apart. [`first_meeting`] and its kin,
+//! [`first_meeting_earlier`] and [`first_meeting_any`], find the first range of a list that meets
+//! another, in n log n.
 //! [`Placed`] says for ids where each stands, and answers in log n whether a place is free.
 //!
 //! The layer above uses the clauses of these. Each is an equation with a word of `specs/`: `meets`,
