@@ -1,5 +1,5 @@
 -- Ranges of whole numbers, and when two of them meet. (Own.)
-use Rattle.std.specs.Prelude.{◌≡◌, ℕ, nat_le, nat_lt, Bool, true, not, ◌&&◌, ◌||◌, List}
+use Rattle.std.specs.Prelude.{◌≡◌, ℕ, nat_le, nat_lt, Bool, true, not, ◌&&◌, List}
 use Rattle.std.specs.List.{list_any}
 use Rattle.ray_ranges.specs.declared.range.Range.{Range}
 
@@ -22,10 +22,6 @@ covers ranges n = list_any (has n) ranges
 -- a range meets some range of a list
 abbrev pub meets_any : List Range → Range → Bool
 meets_any ranges range = list_any (meets range) ranges
-
--- a list has the numbers of another, and those of one more range
-abbrev pub HasAlso : Range → List Range → List Range → Type 0
-HasAlso range old new = (n : ℕ) → covers new n ≡ (has n range || covers old n)
 
 -- a list has the numbers of another, but none of those of a range
 abbrev pub HasNoMore : Range → List Range → List Range → Type 0

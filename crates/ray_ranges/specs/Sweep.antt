@@ -1,9 +1,14 @@
--- A sweep over the ranges of two lists; what the searches go by, and no clause of a public call. (Own.)
-use Rattle.std.specs.Prelude.{◌≡◌, ◌≤◌, ℕ, nat_le, nat_lt, ◌&&◌, Bool, true, false, List, [], ◌∷◌, ◌++◌, map, if◌then◌else◌}
+-- What the searches of lists go by, and no clause of a public call: a union, and a sweep over the ranges of
+-- two lists. (Own.)
+use Rattle.std.specs.Prelude.{◌≡◌, ◌≤◌, ℕ, nat_le, nat_lt, ◌&&◌, ◌||◌, Bool, true, false, List, [], ◌∷◌, ◌++◌, map, if◌then◌else◌}
 use Rattle.std.specs.List.{sum_by}
 use Rattle.ray_ranges.specs.declared.range.Range.{Range}
 use Rattle.ray_ranges.specs.declared.sweep.Swept.{Swept}
-use Rattle.ray_ranges.specs.Meeting.{has}
+use Rattle.ray_ranges.specs.Meeting.{has, covers}
+
+-- a list has the numbers of another, and those of one more range
+abbrev pub HasAlso : Range → List Range → List Range → Type 0
+HasAlso range old new = (n : ℕ) → covers new n ≡ (has n range || covers old n)
 
 -- a range of the one list, and of the other
 abbrev pub own : Range → Swept

@@ -2,7 +2,8 @@ ghost use Rattle.std.specs.Prelude.{◌≡◌, ◌<◌, [], ◌∷◌, false, tr
 ghost use Rattle.std.specs.Prelude.{OnOk, OnErr, IfSome, IfNone, Some, is_some};
 ghost use Rattle.std.specs.List.{find};
 ghost use Rattle.ray_ranges.specs.Apart.{HaveTheSame, begins_at, without};
-ghost use Rattle.ray_ranges.specs.Meeting.{meets, meets_any, HasAlso, HasNoMore};
+ghost use Rattle.ray_ranges.specs.Meeting.{meets, meets_any, HasNoMore};
+ghost use Rattle.ray_ranges.specs.Sweep.{HasAlso};
 
 use crate::range::Range;
 use std::alloc::{AllocError, Global};

@@ -5,7 +5,25 @@ use Rattle.std.proofs.lemmas.Bool.{cases_lt, cases_eq, cases_Bool, cond-true, co
 use Rattle.ray_schedule.specs.Units.{Device, Memory, held_after, put, memory_before, outcome_at}
 use Rattle.ray_schedule.specs.Events.{Moment, after_fetch, after_store, put_kept}
 use Rattle.ray_schedule.specs.Conflicts.{IsLocal}
-use Rattle.ray_schedule.specs.Progress.{IsSound, IsOnCourse, MayFetch, MayStore}
+use Rattle.ray_schedule.specs.Progress.{IsSound}
+
+module _ {Location : Type 0} {Held : Location → Type 0} {Outcome : Type 0} (d : Device Held Outcome) (start : Memory Held) where
+  -- a moment at which some units are fetched and some stored: what is kept is as in recording order
+  pub record IsOnCourse (Fetched Stored : ℕ → Type 0) (moment : Moment Held Outcome) : Type 0 where
+    pub kept : (p : ℕ) → Fetched p → moment.kept p ≡ Some (outcome_at d start p)
+    pub sound : IsSound d start Stored moment.memory
+
+module _ {Location : Type 0} {Held : Location → Type 0} {Outcome : Type 0} (d : Device Held Outcome) where
+  -- a unit may be fetched: of the units that write what it reads, the earlier ones are stored and the
+  -- later ones, and itself, are not
+  pub record MayFetch (Stored : ℕ → Type 0) (p : ℕ) : Type 0 where
+    pub earlier : (l : Location) (q : ℕ) → d.reads p l ≡ true → q < p → d.writes q l ≡ true → Stored q
+    pub later : (l : Location) (q : ℕ) → d.reads p l ≡ true → p ≤ q → d.writes q l ≡ true → Stored q → ⊥
+
+  -- a unit may be stored: it isn't yet, and of the later units that write what it writes none is
+  pub record MayStore (Stored : ℕ → Type 0) (p : ℕ) : Type 0 where
+    pub fresh : Stored p → ⊥
+    pub over : (l : Location) (q : ℕ) → d.writes p l ≡ true → p < q → d.writes q l ≡ true → Stored q → ⊥
 
 module _ {Location : Type 0} {Held : Location → Type 0} {Outcome : Type 0} (d : Device Held Outcome) where
   -- what a unit doesn't write stays

@@ -8,9 +8,8 @@ use Rattle.ray_schedule.specs.Units.{Device, Memory, memory_before, outcome_at}
 use Rattle.ray_schedule.specs.Events.{Event, Fetch, Store, Act, unit_of, Fetches, Stores, Moment, beginning, after_event, after_fetch, after_store, run}
 use Rattle.ray_schedule.specs.Schedules.{StandsAt, IsEvent, IsPermitted}
 use Rattle.ray_schedule.specs.Conflicts.{ReadAfterWrite, WriteAfterRead, WriteAfterWrite, AreOrdered, IsLocal}
-use Rattle.ray_schedule.specs.Progress.{IsOnCourse, MayFetch, MayStore}
 use Rattle.ray_schedule.proofs.Places.{FetchedBefore, StoredBefore, fetched_less, fetched_here, stored_less, stored_more, stored_here, nothing_stored, nothing_fetched, event_at, run-next, run-all}
-use Rattle.ray_schedule.proofs.Course.{sound_at_first, sound_with, reads_in_order, on_course_after_fetch, on_course_after_store}
+use Rattle.ray_schedule.proofs.Course.{IsOnCourse, MayFetch, MayStore, sound_at_first, sound_with, reads_in_order, on_course_after_fetch, on_course_after_store}
 
 -- the unit of an event is the one that it fetches or stores
 pub unit-fetches : (e : Event) (q : ℕ) → Fetches e q → unit_of e ≡ q

@@ -5,9 +5,9 @@ use Rattle.std.proofs.lemmas.Bool.{cases_lt, cases_eq, cases_order, cases_Bool, 
 use Rattle.ray_schedule.specs.Units.{Device, Work, Memory, held_after, put, memory_before, is_faulty}
 use Rattle.ray_schedule.specs.Conflicts.{Conflict, ReadAfterWrite, WriteAfterRead, WriteAfterWrite, IsLocal}
 use Rattle.ray_schedule.specs.Waves.{IsAmong, AreDistinct}
-use Rattle.ray_schedule.specs.Progress.{IsSound, MayFetch, MayStore, AreRising, IsAfterWave, IsDoneTo, put_each}
+use Rattle.ray_schedule.specs.Progress.{IsSound, AreRising, IsAfterWave, IsDoneTo, put_each}
 use Rattle.ray_schedule.specs.Laws.{WavesBegin, WavesGoOn, WavesFetchTheSame, WavesFetchApart, WavesStoreApart, WavesEnd, WavesAreFree, WavesRise}
-use Rattle.ray_schedule.proofs.Course.{held_after-unwritten, sound_at_first, outcome_in_order, sound_after_store}
+use Rattle.ray_schedule.proofs.Course.{MayFetch, MayStore, held_after-unwritten, sound_at_first, outcome_in_order, sound_after_store}
 
 -- a test passes at some number below n, or at none
 pub record IsPassing (test : ℕ → Bool) (n : ℕ) : Type 0 where
@@ -231,7 +231,7 @@ module _ {Location : Type 0} {Held : Location → Type 0} {Outcome : Type 0} (d 
   put_each-unwritten outcomes (q ∷ qs) memory l none =
       put_each-unwritten outcomes qs (put d q (outcomes q) memory) l (λ p a w. none p (inr a) w)
       ∙ held_after-unwritten d q (outcomes q) l (memory l)
-        (false_from_ne_true (d.writes q l) (λ w. none q (inl refl) w))
+      (false_from_ne_true (d.writes q l) (λ w. none q (inl refl) w))
 
   -- what one of them alone writes changes as it would by this one
   put_each-written :
@@ -242,32 +242,32 @@ module _ {Location : Type 0} {Held : Location → Type 0} {Outcome : Type 0} (d 
   put_each-written outcomes [] memory p l distinct among alone = absurd among
   put_each-written outcomes (q ∷ qs) memory p l (first, rest) (inl same) alone =
       put_each-unwritten outcomes qs (put d q (outcomes q) memory) l
-        (λ r a w. alone r (inr a) (λ e. first r a (sym same ∙ sym e)) w)
+      (λ r a w. alone r (inr a) (λ e. first r a (sym same ∙ sym e)) w)
       ∙ ap (λ r. put d r (outcomes r) memory l) (sym same)
   put_each-written outcomes (q ∷ qs) memory p l (first, rest) (inr later) alone =
       put_each-written outcomes qs (put d q (outcomes q) memory) p l rest later (λ r a e w. alone r (inr a) e w)
       ∙ ap (held_after d p (outcomes p) l)
-        (held_after-unwritten d q (outcomes q) l (memory l)
-          (false_from_ne_true (d.writes q l) (λ w. alone q (inl refl) (λ e. first p later e) w)))
+      (held_after-unwritten d q (outcomes q) l (memory l)
+      (false_from_ne_true (d.writes q l) (λ w. alone q (inl refl) (λ e. first p later e) w)))
 
 module _ {Location : Type 0} {Held : Location → Type 0} {Outcome : Type 0} (work : Work Held Outcome) where
   pub waves_fetch_apart : IsLocal work.device → WavesFetchApart work
   waves_fetch_apart local number p q outcome memory rising below inside same differ =
       local p (put work.device q outcome memory) memory (λ l r.
-        held_after-unwritten work.device q outcome l (memory l)
-          (false_from_ne_true (work.device.writes q l) (λ w.
-            waves_are_free work number p q l rising below inside same differ (WriteAfterRead r w))))
+      held_after-unwritten work.device q outcome l (memory l)
+      (false_from_ne_true (work.device.writes q l) (λ w.
+      waves_are_free work number p q l rising below inside same differ (WriteAfterRead r w))))
 
   pub waves_store_apart : WavesStoreApart work
   waves_store_apart number v bound memory ps rising upto distinct are = record {
     changed = λ p l below is w.
-      put_each-written work.device (λ q. work.device.outcome q memory) ps memory p l distinct ((are p).1 (below, is))
+        put_each-written work.device (λ q. work.device.outcome q memory) ps memory p l distinct ((are p).1 (below, is))
         (λ q a differ x.
-          let of = (are q).0 a in
-          let inside : q < bound = of.0 in
-          waves_are_free work number q p l rising (omega arith) (omega arith) (of.1 ∙ sym is) differ
-            (WriteAfterWrite x w));
+        let of = (are q).0 a in
+        let inside : q < bound = of.0 in
+        waves_are_free work number q p l rising (omega arith) (omega arith) (of.1 ∙ sym is) differ
+        (WriteAfterWrite x w));
     same = λ l none.
-      put_each-unwritten work.device (λ q. work.device.outcome q memory) ps memory l (λ q a w.
+        put_each-unwritten work.device (λ q. work.device.outcome q memory) ps memory l (λ q a w.
         let of = (are q).0 a in none q of.0 of.1 w);
   }

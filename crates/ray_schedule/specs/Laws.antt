@@ -150,7 +150,7 @@ module _ {Location : Type 0} {Held : Location → Type 0} {Outcome : Type 0} (wo
       → AreRising work.device number work.count → bound ≤ work.count → AreDistinct ps
       → ((p : ℕ) → IsAmong p ps ↔ ((p < bound) × (number p ≡ v)))
       → IsAfterWave work.device number v bound memory
-          (put_each work.device (λ p. work.device.outcome p memory) ps memory)
+      (put_each work.device (λ p. work.device.outcome p memory) ps memory)
 
   -- a wave more is done: all its units below the bound are fetched, the bound comes down to the least
   -- faulty one of these, and those below it are stored

@@ -1,8 +1,7 @@
--- How far a run has come: for proofs, and for the invariants of loops that run a device in waves. (Own.)
-use Rattle.std.specs.Prelude.{◌≡◌, ◌<◌, ◌≤◌, ℕ, Bool, true, false, List, [], ◌∷◌, Some}
-use Rattle.ray_schedule.specs.Units.{Device, Work, Memory, put, memory_before, outcome_at, is_faulty}
+-- How far a run in waves has come, for the invariants of loops that run a device. (Own.)
+use Rattle.std.specs.Prelude.{◌≡◌, ◌<◌, ◌≤◌, ℕ, Bool, true, false, List, [], ◌∷◌}
+use Rattle.ray_schedule.specs.Units.{Device, Work, Memory, put, memory_before, is_faulty}
 use Rattle.ray_schedule.specs.Conflicts.{Conflict}
-use Rattle.ray_schedule.specs.Events.{Moment}
 
 module _ {Location : Type 0} {Held : Location → Type 0} {Outcome : Type 0} (d : Device Held Outcome) (start : Memory Held) where
   -- a memory in which some units are stored: where those that write a location are the ones below a
@@ -14,27 +13,11 @@ module _ {Location : Type 0} {Held : Location → Type 0} {Outcome : Type 0} (d 
       → ((q : ℕ) → k ≤ q → d.writes q l ≡ true → Stored q → ⊥)
       → memory l ≡ memory_before d start k l
 
-  -- a moment at which some units are fetched and some stored: what is kept is as in recording order
-  pub record IsOnCourse (Fetched Stored : ℕ → Type 0) (moment : Moment Held Outcome) : Type 0 where
-    pub kept : (p : ℕ) → Fetched p → moment.kept p ≡ Some (outcome_at d start p)
-    pub sound : IsSound Stored moment.memory
-
 module _ {Location : Type 0} {Held : Location → Type 0} {Outcome : Type 0} (d : Device Held Outcome) where
-  -- a unit may be fetched: of the units that write what it reads, the earlier ones are stored and the
-  -- later ones, and itself, are not
-  pub record MayFetch (Stored : ℕ → Type 0) (p : ℕ) : Type 0 where
-    pub earlier : (l : Location) (q : ℕ) → d.reads p l ≡ true → q < p → d.writes q l ≡ true → Stored q
-    pub later : (l : Location) (q : ℕ) → d.reads p l ≡ true → p ≤ q → d.writes q l ≡ true → Stored q → ⊥
-
   -- the memory once outcomes of units are stored, one unit after the other
   abbrev pub put_each : (ℕ → Outcome) → List ℕ → Memory Held → Memory Held
   put_each outcomes [] memory = memory
   put_each outcomes (p ∷ ps) memory = put_each outcomes ps (put d p (outcomes p) memory)
-
-  -- a unit may be stored: it isn't yet, and of the later units that write what it writes none is
-  pub record MayStore (Stored : ℕ → Type 0) (p : ℕ) : Type 0 where
-    pub fresh : Stored p → ⊥
-    pub over : (l : Location) (q : ℕ) → d.writes p l ≡ true → p < q → d.writes q l ≡ true → Stored q → ⊥
 
 module _ {Location : Type 0} {Held : Location → Type 0} {Outcome : Type 0} (d : Device Held Outcome) (number : ℕ → ℕ) where
   -- the numbers of waves rise along conflicts of the first n units
