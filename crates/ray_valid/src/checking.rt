@@ -1,4 +1,4 @@
-ghost use Rattle.std.specs.Prelude.{◌≡◌, IfOk, IfNone, IfSome, option_map};
+ghost use Rattle.std.specs.Prelude.{◌≡◌, ◌≤◌, IfOk, IfNone, IfSome, length, option_map};
 ghost use Rattle.ray_rules.specs.Buffers.{v2};
 ghost use Rattle.ray_rules.specs.Names.{v1};
 ghost use Rattle.ray_rules.specs.Refusals.{AreKept, IsLeastBroken, refusal_at_end, refused, static_refusal, static_refusal_of, static_table};
@@ -25,7 +25,8 @@ use std::alloc::{AllocError, Global};
 /// For want of memory alone.
 #[tactic(auto, unfolding(ray_rules::specs::Refusals::static_refusal))]
 pub fn check_static(alloc: Global, rec: &Recording) -> Result<Option<Refusal>, AllocError>
-    ensures { IfOk result (λ refusal. refusal ≡ static_refusal rec.now) }
+    ensures value { IfOk result (λ refusal. refusal ≡ static_refusal rec.now) }
+    ensures within { IfOk result (λ refusal. IfSome refusal (λ r. r.command ≤ length rec.now)) }
 {
     let mut status = Status::new(alloc);
     for i in 0..rec.len() {
@@ -53,6 +54,8 @@ pub fn refusal_of(
     command: &Command,
 ) -> Result<Option<Refusal>, AllocError>
     ensures value { IfOk result (λ refusal. refusal ≡ static_refusal_of rec.now i status.now command.now) }
+
+    ensures at { IfOk result (λ refusal. IfSome refusal (λ r. r.command ≡ i)) }
 
     // The rule is the first of the table that is broken, or all are kept.
     ensures least { IfOk result (λ refusal. IfSome refusal (λ r.
@@ -160,7 +163,8 @@ fn refused(i: u32, number: u8, place: Place) -> Refusal
 
 // The refusal of the end of a recording.
 fn refusal_at_end(i: u32, status: &Status) -> Option<Refusal>
-    ensures { result ≡ refusal_at_end i status.now }
+    ensures value { result ≡ refusal_at_end i status.now }
+    ensures at { IfSome result (λ r. r.command ≡ i) }
 {
     match v28_at_end(status) {
         Some(place) => Some(refused(i, 28, place)),
