@@ -1,36 +1,35 @@
 -- A good call is answered: each other answer is contradicted.
-use Rattle.std.proofs.Common.{◌≡◌, [], ℕ, ◌+◌, ◌<◌, ◌≤◌, List, length, drop, Option, Some, None, Ok, true, Global, refl, ap, subst, ◌∙◌, inl, inr, arith}
+use Rattle.std.proofs.Common.{◌≡◌, [], ℕ, ◌+◌, ◌<◌, ◌≤◌, List, length, drop, Option, Some, None, Result, Ok, Err, refl, ap, sym, subst, ◌∙◌, ◌⊎◌, inl, inr, arith, Global}
 use Rattle.std.specs.Prelude.{String, IfSome}
 use Rattle.ray_cmd.specs.declared.command.Command.{Command}
 use Rattle.ray_cmd.specs.Recordings.{recording_of}
-use Rattle.ray_cmd.specs.declared.refusal.Refusal.{Refusal}
-use Rattle.ray_state.specs.Run.{fault_of, outcome_at, text_before, IsClean, IsRefusal}
+use Rattle.ray_rules.specs.Refusals.{static_refusal}
+use Rattle.ray_state.specs.Run.{text_before}
 use Rattle.vkray.specs.declared.status.Status.{Status}
 use Rattle.vkray.specs.declared.status.Status.TheVariants as statuses
-use Rattle.vkray.specs.PathForm.{IsBuilt, IsFirstUnbuilt, IsUntil, agrees_at}
-use Rattle.vkray.specs.Reply.{Reading, Writing, IsRead, IsOfInput, IsDone, IsRefused, IsBadRecording, IsUnbuiltAt, IsTooLong, IsWritten, IsGoodCall, IsCompleted, Answers, most_bytes}
+use Rattle.vkray.specs.declared.stop.Stop.{Stop}
+use Rattle.vkray.specs.declared.stop.Stop.TheVariants.{BadWords, ReadFault, TooLong, NotJson, BadShape, Unbuilt, Refused, NoMemory}
+use Rattle.vkray.specs.Answer.{Ending, answer_of, data_refusal, refused_or, run_of, run_of_reading, run_with, unbuilt_in}
+use Rattle.vkray.specs.Call.{Reading, Writing, Answers, IsAnswerOfInput, IsCompleted, IsEnding, IsGoodCall, IsRead, IsSent, IsTooLong, IsWritten, most_bytes}
+use Rattle.vkray.specs.Written.{status_of, text_of}
 
--- a recording without a broken rule has no refusal
-clean_not_refused : (commands : List Command) (until : ℕ) (refusal : Refusal) → IsClean commands (length commands) → until ≤ length commands → IsRefusal commands until refusal → ⊥
-clean_not_refused commands until refusal clean within refused =
-    let below : refusal.command < length commands = (let b = refused.below in omega arith) in
-    let none : fault_of (outcome_at commands refusal.command) ≡ None = clean refusal.command below in
-    let some = ap fault_of refused.broken in
-    cc
-
--- a recording whose forms are built has no first form that isn't
-built_not_unbuilt : (commands : List Command) (i : ℕ) → IsBuilt commands → IsFirstUnbuilt commands i → ⊥
-built_not_unbuilt commands i built first =
-    let yes_built : agrees_at commands i ≡ true = built i in
-    let no_built = first.differs in
-    cc
-
--- all of its commands are run
-until_all : (commands : List Command) (until : ℕ) → IsBuilt commands → IsUntil commands until → until ≤ length commands
-until_all commands until built (inl all) = let e : until ≡ length commands = all.1 in omega arith
-until_all commands until built (inr first) = absurd (built_not_unbuilt commands until built first)
+-- the run of a recording that breaks no rule and whose commands have built forms is its text
+run_is_text : (rec : List Command) → static_refusal rec ≡ None → unbuilt_in rec ≡ None → data_refusal rec (length rec) ≡ None
+    → run_of rec ≡ Ok (text_before rec (length rec))
+run_is_text rec kept built clean =
+    ap (λ refusal. run_with rec refusal (unbuilt_in rec)) kept
+    ∙ (ap (run_with rec None) built ∙ ap (λ refusal. refused_or refusal (Ok (text_before rec (length rec)))) clean)
 
 module _ (words : List (String Global)) (reading : Reading) (writing : Writing) (input : List ℕ) (commands : List Command) (good : IsGoodCall words reading writing input commands) where
+  -- the text of the run
+  text : List ℕ
+  text = text_before commands (length commands)
+
+  -- the answer of the input is the text
+  answer_is_text : answer_of input ≡ Ok text
+  unfolding answer_of text
+  answer_is_text = ap run_of_reading good.reads ∙ run_is_text commands good.static_rules good.built good.data_rules
+
   -- the input that was read is the one that the source told
   same_input : (read : List ℕ) → IsRead reading read → read ≡ input
   same_input read is =
@@ -38,35 +37,11 @@ module _ (words : List (String Global)) (reading : Reading) (writing : Writing) 
       subst (λ (o : Option (List ℕ)). IfSome o (λ bytes. (read ≡ bytes) × (reading.after ≡ Some []))) good.told is.all in
       all.0
 
-  -- what is read of it is the recording
-  same_reading : (read : List ℕ) → IsRead reading read → recording_of read ≡ Ok commands
-  same_reading read is = ap recording_of (same_input read is) ∙ good.reads
+  -- an answer of what was read is the text
+  same_answer : (ending : Ending) → IsAnswerOfInput reading ending → ending ≡ Ok text
+  same_answer ending h = sym h.is ∙ (ap answer_of (same_input h.input h.read) ∙ answer_is_text)
 
-  -- a recording that is read of it is the same
-  same_commands : (read : List ℕ) (others : List Command) → IsRead reading read → recording_of read ≡ Ok others → others ≡ commands
-  same_commands read others is reads = let e = same_reading read is in cc
-
-  done : (text : List ℕ) → IsOfInput IsDone reading text → text ≡ text_before commands (length commands)
-  done text h = h.is.run ∙ ap (λ (c : List Command). text_before c (length c)) (same_commands h.input h.is.commands h.read h.is.reads)
-
-  not_refused : (text : List ℕ) → IsOfInput IsRefused reading text → ⊥
-  not_refused text h =
-      let same : h.is.commands ≡ commands = same_commands h.input h.is.commands h.read h.is.reads in
-      let within : h.is.until ≤ length commands =
-      until_all commands h.is.until good.built (subst (λ (c : List Command). IsUntil c h.is.until) same h.is.is_until) in
-      clean_not_refused commands h.is.until h.is.refusal good.clean within
-      (subst (λ (c : List Command). IsRefusal c h.is.until h.is.refusal) same h.is.broken)
-
-  not_bad : (text : List ℕ) (h : IsOfInput IsBadRecording reading text) → ⊥
-  not_bad text h =
-      let e = same_reading h.input h.read in
-      elim h.is [ inl no_json ↦ (let f = no_json.no_json in cc) | inr bad ↦ (let f = bad.bad in cc) ]
-
-  not_unbuilt : (text : List ℕ) → IsOfInput IsUnbuiltAt reading text → ⊥
-  not_unbuilt text h =
-      built_not_unbuilt commands h.is.command good.built
-      (subst (λ (c : List Command). IsFirstUnbuilt c h.is.command) (same_commands h.input h.is.commands h.read h.is.reads) h.is.first)
-
+  -- there aren't too many bytes
   not_too_long : IsTooLong reading → ⊥
   not_too_long h =
       let long : IfSome (Some input) (λ bytes. (most_bytes < length bytes) × (reading.after ≡ Some (drop (most_bytes + 1) bytes))) =
@@ -75,13 +50,29 @@ module _ (words : List (String Global)) (reading : Reading) (writing : Writing) 
       let below = good.limited in
       omega arith
 
+  -- a stop isn't a text
+  not_stop : (stop : Stop) → IsAnswerOfInput reading (Err stop) → ⊥
+  not_stop stop h = let same = same_answer (Err stop) h in cc
+
+  -- the call ends with the text
+  ends_with_text : (ending : Ending) → IsEnding words reading ending → ending ≡ Ok text
+  ends_with_text (Ok given) h = same_answer (Ok given) h.1
+  ends_with_text (Err BadWords) h = absurd (h.0 good.run)
+  ends_with_text (Err ReadFault) h = absurd (good.source_holds h.1)
+  ends_with_text (Err TooLong) h = absurd (not_too_long h.1)
+  ends_with_text (Err NotJson) h = absurd (not_stop NotJson h.1)
+  ends_with_text (Err (BadShape command)) h = absurd (not_stop (BadShape command) h.1)
+  ends_with_text (Err (Unbuilt command)) h = absurd (not_stop (Unbuilt command) h.1)
+  ends_with_text (Err (Refused refusal)) h = absurd (not_stop (Refused refusal) h.1)
+  ends_with_text (Err NoMemory) h = absurd h
+
+  -- a text that was sent is written
+  written : (result : Status) → IsSent statuses.Done text writing result → IsCompleted writing commands result
+  unfolding text
+  written result (inl sent) = inr (sent.0, sent.1)
+  written result (inr failed) = absurd (good.sink_holds failed.2)
+
   pub completed : (result : Status) → Answers words reading writing result → IsCompleted writing commands result
-  completed statuses.Done a = inr (refl, subst (IsWritten writing) (done a.text a.reply.1) a.written)
-  completed statuses.Refused a = absurd (not_refused a.text a.reply.1)
-  completed statuses.BadRecording a = absurd (not_bad a.text a.reply.1)
-  completed statuses.BadWords a = absurd (a.reply.0 good.run)
-  completed statuses.ReadFault a = absurd (good.source_holds a.reply.1)
-  completed statuses.WriteFault a = absurd (good.sink_holds a.failed)
-  completed statuses.TooLong a = absurd (not_too_long a.reply.1)
-  completed statuses.NoMemory a = inl refl
-  completed statuses.Unbuilt a = absurd (not_unbuilt a.text a.reply.1)
+  completed result (inl out) = inl out.told
+  completed result (inr told) =
+      written result (subst (λ (e : Ending). IsSent (status_of e) (text_of e) writing result) (ends_with_text told.ending told.cause) told.sent)

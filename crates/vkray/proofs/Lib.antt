@@ -1,8 +1,8 @@
 pub mod Runs
 pub mod Texts
-pub mod Replies
+pub mod Firsts
 pub mod Forms
 pub mod Meant
 pub mod Steps
+pub mod Telling
 pub mod Completeness
-pub mod Stopping

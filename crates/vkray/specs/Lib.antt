@@ -3,5 +3,7 @@ pub mod Stepping
 pub mod Words
 pub mod Codes
 pub mod Lines
-pub mod Reply
-pub mod Stops
+pub mod Answer
+pub mod Written
+pub mod Call
+pub mod Endings

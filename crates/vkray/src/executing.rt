@@ -1,27 +1,28 @@
-ghost use Rattle.std.specs.Prelude.{◌≤◌, IfOk, IfErr, MatchResult, length};
+ghost use Rattle.std.specs.Prelude.{◌≤◌, Err, IfSome, None, Some, length};
 ghost use Rattle.ray_state.specs.Run.{HaveMeaning};
-ghost use Rattle.vkray.specs.PathForm.{IsBuilt, IsFirstUnbuilt};
-ghost use Rattle.vkray.specs.Reply.{IsDone};
-ghost use Rattle.vkray.specs.Stops.{IsRunText, IsBuiltText, StopsInput, StopsRun, StopsBelow};
+ghost use Rattle.vkray.specs.Answer.{answer_of, run_below, run_of, run_with};
+ghost use Rattle.vkray.specs.Endings.{Ends, IsRunBelow, StopsSo};
 
 use crate::gate::Gate;
 use crate::path_form::first_unbuilt;
 use crate::run_fault::RunFault;
 use crate::running::run_waves;
 use crate::stop::Stop;
-use ray_cmd::{Recording, read_recording};
+use ray_cmd::{Recording, Refusal, read_recording};
 use ray_state::State;
+use ray_valid::check_static;
 use std::alloc::Global;
 use std::thread::Threads;
 
 // Reads the bytes as a recording, and runs it.
+#[tactic(auto, unfolding(crate::specs::Answer::answer_of))]
 pub(crate) fn execute<R: Threads + Sync, G: Gate + Sync>(
     rt: &R,
     alloc: Global,
     bytes: &[u8],
     gate: &G,
 ) -> Result<Vec<u8>, Stop>
-    ensures { MatchResult result (λ text. IsDone bytes.now text.items) (StopsInput bytes.now) }
+    ensures { Ends (answer_of bytes.now) result }
 {
     match read_recording(alloc, bytes) {
         Ok(recording) => run(rt, alloc, &recording, gate),
@@ -29,59 +30,97 @@ pub(crate) fn execute<R: Threads + Sync, G: Gate + Sync>(
     }
 }
 
-// Runs a recording, as far as the forms of its commands are built.
+// Runs a recording, up to a command that a static rule refuses or whose form isn't built.
 fn run<R: Threads + Sync, G: Gate + Sync>(
     rt: &R,
     alloc: Global,
     recording: &Recording,
     gate: &G,
 ) -> Result<Vec<u8>, Stop>
-    ensures { MatchResult result
-        (λ text. IsBuiltText recording.now text.items)
-        (StopsRun recording.now) }
+    ensures { Ends (run_of recording.now) result }
 {
+    let Ok(refusal) = check_static(alloc, recording) else {
+        return Err(Stop::NoMemory);
+    };
     match first_unbuilt(recording) {
-        Some(command) => Err(run_below(rt, alloc, recording, command, gate)),
-        None => run_all(rt, alloc, recording, gate),
+        Some(command) => Err(run_built(rt, alloc, recording, refusal, command, gate)),
+        None => run_all(rt, alloc, recording, refusal, gate),
     }
 }
 
-// Runs a recording whose commands have built forms.
+// Runs a recording whose commands have built forms, up to its static refusal where it has one.
 fn run_all<R: Threads + Sync, G: Gate + Sync>(
     rt: &R,
     alloc: Global,
     recording: &Recording,
+    refusal: Option<Refusal>,
     gate: &G,
 ) -> Result<Vec<u8>, Stop>
-    requires built { IsBuilt recording.now }
+    requires within { IfSome refusal (λ r. r.command ≤ length recording.now) }
     requires meant { HaveMeaning recording.now (length recording.now) }
-    ensures { MatchResult result
-        (λ text. IsBuiltText recording.now text.items)
-        (StopsRun recording.now) }
+    ensures { Ends (run_with recording.now refusal None) result }
 {
-    match run_until(rt, alloc, recording, recording.len(), gate) {
-        Ok(text) => Ok(text),
-        Err(fault) => Err(Stop::from(fault)),
+    match refusal {
+        Some(refusal) => Err(run_to(
+            rt,
+            alloc,
+            recording,
+            refusal.command,
+            Stop::Refused(refusal),
+            gate,
+        )),
+        None => match run_until(rt, alloc, recording, recording.len(), gate) {
+            Ok(text) => Ok(text),
+            Err(fault) => Err(Stop::from(fault)),
+        },
     }
 }
 
-// Runs the commands below the first whose form isn't built, and says why there is no text.
-fn run_below<R: Threads + Sync, G: Gate + Sync>(
+// Runs a recording up to its static refusal or the first command whose form isn't built, whichever
+// stands lower.
+fn run_built<R: Threads + Sync, G: Gate + Sync>(
     rt: &R,
     alloc: Global,
     recording: &Recording,
-    command: u32,
+    refusal: Option<Refusal>,
+    unbuilt: u32,
     gate: &G,
 ) -> Stop
-    requires first { IsFirstUnbuilt recording.now command }
-    requires within { command ≤ length recording.now }
-    requires meant { HaveMeaning recording.now command }
-    ensures { StopsRun recording.now result }
+    requires within { unbuilt ≤ length recording.now }
+    requires meant { HaveMeaning recording.now unbuilt }
+    ensures { StopsSo (run_with recording.now refusal (Some unbuilt)) result }
 {
-    if let Err(fault) = run_until(rt, alloc, recording, command, gate) {
-        return Stop::from(fault);
+    match refusal {
+        Some(refusal) if refusal.command <= unbuilt => run_to(
+            rt,
+            alloc,
+            recording,
+            refusal.command,
+            Stop::Refused(refusal),
+            gate,
+        ),
+        _ => run_to(rt, alloc, recording, unbuilt, Stop::Unbuilt(unbuilt), gate),
     }
-    Stop::Unbuilt(command)
+}
+
+// Runs the commands below a number, where this stops the run unless one of them breaks a rule.
+fn run_to<R: Threads + Sync, G: Gate + Sync>(
+    rt: &R,
+    alloc: Global,
+    recording: &Recording,
+    until: u32,
+    stop: Stop,
+    gate: &G,
+) -> Stop
+    requires within { until ≤ length recording.now }
+    requires meant { HaveMeaning recording.now until }
+    requires of_input { StopsSo (Err stop) stop }
+    ensures { StopsSo (run_below recording.now until (Err stop)) result }
+{
+    match run_until(rt, alloc, recording, until, gate) {
+        Ok(_) => stop,
+        Err(fault) => Stop::from(fault),
+    }
 }
 
 // Runs the commands below a number.
@@ -94,8 +133,7 @@ fn run_until<R: Threads + Sync, G: Gate + Sync>(
 ) -> Result<Vec<u8>, RunFault>
     requires within { until ≤ length recording.now }
     requires meant { HaveMeaning recording.now until }
-    ensures ok { IfOk result (λ text. IsRunText recording.now until text.items) }
-    ensures err { IfErr result (StopsBelow recording.now until) }
+    ensures { IsRunBelow recording.now until result }
 {
     let mut state = State::new(alloc);
     run_waves(rt, alloc, &mut state, recording, until, 1, gate)

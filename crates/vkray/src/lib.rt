@@ -2,14 +2,15 @@
 //! it, and writes its text.
 //!
 //! `main` of the program hands [`vkray`] the standard streams, tests hand it sources and sinks in
-//! memory. Its clauses `answer` and `complete` say by `specs/Reply` how a call ends and what is
-//! written.
+//! memory. Its clauses `answer` and `complete` say how a call ends and what is written, by `answer_of`
+//! of `specs/Answer`, which goes from an input to its text or why it has none, and by `specs/Call`.
 //!
-//! A recording runs as far as the forms of its commands are built. [`first_unbuilt`] says how far
+//! A recording runs up to the command that a static rule refuses, by `check_static` of ray_valid, and
+//! as far as the forms of its commands are built. [`first_unbuilt`] says how far
 //! that is, by `specs/PathForm`; [`run_waves`] runs so many commands, by `specs/Run` of ray_state.
 //!
-//! It stands on ray_io (all bytes read and written), ray_cmd (the recording) and ray_state (what
-//! each command does).
+//! It stands on ray_io (all bytes read and written), ray_cmd (the recording), ray_valid (the static
+//! rules) and ray_state (what each command does).
 #![tactic(auto)]
 
 mod executing;
@@ -31,4 +32,5 @@ pub use path_form::first_unbuilt;
 pub use run_fault::RunFault;
 pub use running::run_waves;
 pub use status::Status;
+pub use stop::Stop;
 pub use top_call::{MOST_BYTES, vkray};

@@ -1,5 +1,6 @@
 ghost use Rattle.std.specs.Prelude.{◌≡◌, ◌≤◌, IfSome, IfNone, length, slice_get, Some};
 ghost use Rattle.ray_state.specs.Run.{HaveMeaning};
+ghost use Rattle.vkray.specs.Answer.{unbuilt_in};
 ghost use Rattle.vkray.specs.PathForm.{path_form, agrees, IsBuilt, IsFirstUnbuilt, is_barrier};
 
 use crate::path_buffers::{is_input_buffer, is_plain_buffer, is_ray_buffer};
@@ -17,11 +18,23 @@ const MEMORY: Access = Access(Access::MEMORY_READ.0 | Access::MEMORY_WRITE.0);
 /// the triangle recording in more than its vertices or its ray, or is one too many, or one is
 /// missing there. None exactly where every command's form is built. (Own.)
 pub fn first_unbuilt(rec: &Recording) -> Option<u32>
+    ensures value { result ≡ unbuilt_in rec.now }
     ensures unbuilt { IfSome result (IsFirstUnbuilt rec.now) }
     ensures within { IfSome result (λ i. i ≤ length rec.now) }
     ensures built { IfNone result (IsBuilt rec.now) }
 
     // Every form that runs has a meaning.
+    ensures meant_below { IfSome result (λ i. HaveMeaning rec.now i) }
+    ensures meant { IfNone result (HaveMeaning rec.now (length rec.now)) }
+{
+    first_differing(rec)
+}
+
+// The same number, by the words that say it of each command.
+fn first_differing(rec: &Recording) -> Option<u32>
+    ensures unbuilt { IfSome result (IsFirstUnbuilt rec.now) }
+    ensures within { IfSome result (λ i. i ≤ length rec.now) }
+    ensures built { IfNone result (IsBuilt rec.now) }
     ensures meant_below { IfSome result (λ i. HaveMeaning rec.now i) }
     ensures meant { IfNone result (HaveMeaning rec.now (length rec.now)) }
 {

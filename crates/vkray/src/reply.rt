@@ -1,5 +1,6 @@
-ghost use Rattle.std.specs.Prelude.{IfOk};
-ghost use Rattle.vkray.specs.Stops.{HasLine, IsStopReply};
+ghost use Rattle.std.specs.Prelude.{◌≡◌, Err, IfOk, OnOk, true};
+ghost use Rattle.vkray.specs.Endings.{is_told};
+ghost use Rattle.vkray.specs.Written.{status_of, text_of};
 
 use crate::line::{bad_shape_line, refusal_line, unbuilt_line};
 use crate::status::Status;
@@ -16,7 +17,9 @@ pub(crate) struct Reply {
 impl Reply {
     // The line that says why there is no text of a run. Want of memory has none.
     pub(crate) fn of_stop(alloc: Global, stop: Stop) -> Result<Reply, AllocError>
-        ensures { IfOk result (λ reply. IsStopReply stop reply.status reply.text.items) }
+        ensures status { IfOk result (λ reply. reply.status ≡ status_of (Err stop)) }
+        ensures text { IfOk result (λ reply. reply.text.items ≡ text_of (Err stop)) }
+        ensures told { OnOk result (is_told stop ≡ true) }
     {
         match stop {
             Stop::BadWords => Reply::of_line(alloc, Status::BadWords, b"bad-words\n"),
@@ -41,7 +44,8 @@ impl Reply {
 
     // A status with its line.
     fn of_line(alloc: Global, status: Status, line: &[u8]) -> Result<Reply, AllocError>
-        ensures { IfOk result (λ reply. HasLine status line.now reply.status reply.text.items) }
+        ensures status { IfOk result (λ reply. reply.status ≡ status) }
+        ensures text { IfOk result (λ reply. reply.text.items ≡ line.now) }
     {
         let text = Vec::from_slice(alloc, line)?;
         Ok(Reply { status, text })

@@ -2,9 +2,9 @@ use crate::run_fault::RunFault;
 use ray_cmd::{RecordingFault, Refusal};
 use ray_io::ReadError;
 
-/// Why there is no text of a run.
+/// Why there is no text of a run. (Own.)
 #[derive(Clone, Copy, Debug, PartialEq, Eq)]
-pub(crate) enum Stop {
+pub enum Stop {
     /// The words are none of the program's.
     BadWords,
     /// A read failed.
@@ -17,7 +17,7 @@ pub(crate) enum Stop {
     BadShape(u32),
     /// The command of this number has a form that isn't built yet.
     Unbuilt(u32),
-    /// A command breaks a rule.
+    /// A command breaks a rule, and no lesser one does or has a form that isn't built.
     Refused(Refusal),
     /// Memory ran out.
     NoMemory,
@@ -25,7 +25,7 @@ pub(crate) enum Stop {
 
 impl From<ReadError> for Stop {
     ghost use Rattle.std.specs.Prelude.{◌≡◌};
-    ghost use Rattle.vkray.specs.Stops.{stop_of_read};
+    ghost use Rattle.vkray.specs.Endings.{stop_of_read};
 
     ghost from_gives = { λ error stop. stop ≡ stop_of_read error };
 
@@ -40,7 +40,7 @@ impl From<ReadError> for Stop {
 
 impl From<RecordingFault> for Stop {
     ghost use Rattle.std.specs.Prelude.{◌≡◌};
-    ghost use Rattle.vkray.specs.Stops.{stop_of_recording};
+    ghost use Rattle.vkray.specs.Endings.{stop_of_recording};
 
     ghost from_gives = { λ fault stop. stop ≡ stop_of_recording fault };
 
@@ -55,7 +55,7 @@ impl From<RecordingFault> for Stop {
 
 impl From<RunFault> for Stop {
     ghost use Rattle.std.specs.Prelude.{◌≡◌};
-    ghost use Rattle.vkray.specs.Stops.{stop_of_run};
+    ghost use Rattle.vkray.specs.Endings.{stop_of_run};
 
     ghost from_gives = { λ fault stop. stop ≡ stop_of_run fault };
 

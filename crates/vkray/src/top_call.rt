@@ -1,8 +1,10 @@
 ghost use Rattle.std.specs.Prelude.{◌≡◌, ◌↔◌, ℕ, List, IfOk, IsTrue};
 ghost use Rattle.ray_cmd.specs.declared.command.Command.{Command};
 ghost use Rattle.vkray.specs.Words.{IsRun};
-ghost use Rattle.vkray.specs.Reply.{reading, writing, Answers, IsReply, IsSent, IsGoodCall, IsCompleted, TakesPrefix};
-ghost use Rattle.vkray.specs.Stops.{IsCalled};
+ghost use Rattle.vkray.specs.Answer.{Ending};
+ghost use Rattle.vkray.specs.Call.{reading, writing, Answers, IsEnding, IsSent, IsGoodCall, IsCompleted, TakesPrefix};
+ghost use Rattle.vkray.specs.Endings.{EndsCall};
+ghost use Rattle.vkray.specs.Written.{status_of, text_of};
 
 use crate::executing::execute;
 use crate::gate::Gate;
@@ -70,9 +72,9 @@ fn reply<R: Threads + Sync, S: Source, G: Gate + Sync>(
     source: &mut S,
     gate: &G,
 ) -> Result<Reply, AllocError>
-    ensures replies { IfOk result (λ reply. IsReply words.now
-        (reading S.left S.faults source.old source.new)
-        reply.status reply.text.items) }
+    ensures replies { IfOk result (λ reply. (ending : Ending)
+        × IsEnding words.now (reading S.left S.faults source.old source.new) ending
+        × (reply.status ≡ status_of ending) × (reply.text.items ≡ text_of ending)) }
     ensures prefix { TakesPrefix (reading S.left S.faults source.old source.new) }
     ensures unread { ¬ IsRun words.now → source.new ≡ source.old }
 {
@@ -93,7 +95,7 @@ fn read_and_run<R: Threads + Sync, S: Source, G: Gate + Sync>(
     source: &mut S,
     gate: &G,
 ) -> Result<Vec<u8>, Stop>
-    ensures called { IsCalled words.now
+    ensures called { EndsCall words.now
         (reading S.left S.faults source.old source.new) result }
     ensures prefix { TakesPrefix (reading S.left S.faults source.old source.new) }
     ensures unread { ¬ IsRun words.now → source.new ≡ source.old }

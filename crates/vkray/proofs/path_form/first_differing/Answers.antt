@@ -3,7 +3,7 @@ use Rattle.ray_cmd.specs.declared.command.Command.{Command}
 use Rattle.vkray.specs.PathForm.{agrees_at}
 use Rattle.vkray.proofs.Forms.{differs_at_end, is_built}
 use Rattle.vkray.proofs.Meant.{agree-meant}
-use Rattle.vkray.proofs.path_form.first_unbuilt.Goals as goal
+use Rattle.vkray.proofs.path_form.first_differing.Goals as goal
 
 pub returns-then-len-lt-COMMANDS-clause-unbuilt : goal.returns-then-len-lt-COMMANDS-clause-unbuilt
 returns-then-len-lt-COMMANDS-clause-unbuilt c =

@@ -1,14 +1,15 @@
-use Rattle.vkray.proofs.Replies.{answers_of_sent}
+use Rattle.std.proofs.Common.{inl, inr}
 use Rattle.vkray.proofs.Completeness.{completed}
+use Rattle.vkray.proofs.Telling.{told_of}
 use Rattle.vkray.proofs.top_call.vkray.Goals as goal
 
 pub returns-in-Ok-clause-answer : goal.returns-in-Ok-clause-answer
 returns-in-Ok-clause-answer g c =
-    answers_of_sent c.args.words.now _ _ c.in-Ok.reply.status c.in-Ok.reply.text.items c.write_reply.result
-    c.in-Ok.ensures.replies c.write_reply.ensures
+    inr (told_of c.args.words.now _ _ c.in-Ok.reply.status c.in-Ok.reply.text.items c.write_reply.result
+    c.in-Ok.ensures.replies c.write_reply.ensures)
 
 pub returns-in-Ok-clause-complete : goal.returns-in-Ok-clause-complete
 returns-in-Ok-clause-complete g c input commands good =
     completed _ _ _ input commands good c.write_reply.result
-    (answers_of_sent c.args.words.now _ _ c.in-Ok.reply.status c.in-Ok.reply.text.items c.write_reply.result
-    c.in-Ok.ensures.replies c.write_reply.ensures)
+    (inr (told_of c.args.words.now _ _ c.in-Ok.reply.status c.in-Ok.reply.text.items c.write_reply.result
+    c.in-Ok.ensures.replies c.write_reply.ensures))

@@ -1,0 +1,142 @@
+-- How a call of the program ends, by what it did to its source and its sink. (Own.)
+use Rattle.std.specs.Prelude.{◌≡◌, ◌≤◌, ◌<◌, ◌+◌, ◌^◌, ℕ, List, [], ◌++◌, length, take, drop, Option, Some, None, Ok, Err, IfSome, ◌⊎◌, String}
+use Rattle.std.specs.declared.alloc.Global.{Global}
+use Rattle.ray_cmd.specs.declared.command.Command.{Command}
+use Rattle.ray_cmd.specs.Recordings.{recording_of}
+use Rattle.ray_io.specs.Faults.{HasRisen}
+use Rattle.ray_io.specs.ReadAll.{LeavesAllBut}
+use Rattle.ray_rules.specs.Refusals.{static_refusal}
+use Rattle.ray_state.specs.Run.{text_before}
+use Rattle.vkray.specs.declared.status.Status.{Status}
+use Rattle.vkray.specs.declared.status.Status.TheVariants as statuses
+use Rattle.vkray.specs.declared.stop.Stop.TheVariants.{BadWords, ReadFault, TooLong, NotJson, BadShape, Unbuilt, Refused, NoMemory}
+use Rattle.vkray.specs.Answer.{Ending, answer_of, data_refusal, unbuilt_in}
+use Rattle.vkray.specs.Words.{IsRun}
+use Rattle.vkray.specs.Written.{status_of, text_of}
+
+-- the greatest number of bytes of an input: 2^26
+abbrev pub most_bytes : ℕ
+most_bytes = 2 ^ 26
+
+-- what a call did to its source: the bytes that were left and are left, where they are told, and the counts of faults
+pub record Reading : Type 0 where
+  pub before : Option (List ℕ)
+  pub after : Option (List ℕ)
+  pub faults_before : ℕ
+  pub faults_after : ℕ
+
+-- what a call did to its sink: the bytes taken, where they are told, and the counts of faults and of writes that took nothing
+pub record Writing : Type 0 where
+  pub before : Option (List ℕ)
+  pub after : Option (List ℕ)
+  pub faults_before : ℕ
+  pub faults_after : ℕ
+  pub zero_writes_before : ℕ
+  pub zero_writes_after : ℕ
+
+-- the same of a source that tells so, before and after
+abbrev pub reading : {X : Type 0} → (X → Option (List ℕ)) → (X → ℕ) → X → X → Reading
+reading left faults old new = record {
+  before = left old;
+  after = left new;
+  faults_before = faults old;
+  faults_after = faults new;
+}
+
+-- the same of a sink
+abbrev pub writing : {X : Type 0} → (X → Option (List ℕ)) → (X → ℕ) → (X → ℕ) → X → X → Writing
+writing taken faults zero_writes old new = record {
+  before = taken old;
+  after = taken new;
+  faults_before = faults old;
+  faults_after = faults new;
+  zero_writes_before = zero_writes old;
+  zero_writes_after = zero_writes new;
+}
+
+-- the input was read to its end: it has at most 2^26 bytes, and where the source tells its bytes they are the input, and none is left
+pub record IsRead (reading : Reading) (input : List ℕ) : Type 0 where
+  pub limited : length input ≤ most_bytes
+  pub all : IfSome reading.before (λ bytes. (input ≡ bytes) × (reading.after ≡ Some []))
+
+-- 2^26 + 1 bytes were taken
+abbrev pub IsTooLong : Reading → Type 0
+IsTooLong reading = IfSome reading.before (λ bytes. (most_bytes < length bytes) × (reading.after ≡ Some (drop (most_bytes + 1) bytes)))
+
+-- so many bytes were taken of a source that tells them
+abbrev pub TakesTooMany : Reading → Type 0
+TakesTooMany reading = (bytes : List ℕ) × (reading.before ≡ Some bytes) × (most_bytes < length bytes) × (reading.after ≡ Some (drop (most_bytes + 1) bytes))
+
+-- a prefix of what was left was taken of a source that tells it, of at most 2^26 + 1 bytes
+abbrev pub TakesPrefix : Reading → Type 0
+TakesPrefix reading = IfSome reading.before (λ bytes. LeavesAllBut (most_bytes + 1) bytes reading.after)
+
+-- the text was written, all of it and nothing else
+abbrev pub IsWritten : Writing → List ℕ → Type 0
+IsWritten writing text = IfSome writing.before (λ bytes. writing.after ≡ Some (bytes ++ text))
+
+-- a part of the text from its beginning was written, and nothing else
+abbrev pub IsCut : Writing → List ℕ → Type 0
+IsCut writing text = IfSome writing.before (λ bytes. (count : ℕ) × (count ≤ length text) × (writing.after ≡ Some (bytes ++ take count text)))
+
+-- a write failed, or took nothing of what wasn't empty
+abbrev pub HasFailed : Writing → Type 0
+HasFailed writing = HasRisen writing.faults_before writing.faults_after ⊎ HasRisen writing.zero_writes_before writing.zero_writes_after
+
+-- an input was read to its end, and its answer is this
+pub record IsAnswerOfInput (reading : Reading) (ending : Ending) : Type 0 where
+  pub input : List ℕ
+  pub read : IsRead reading input
+  pub is : answer_of input ≡ ending
+
+-- what the words and the source give: bad words read nothing; a read failed, or there are too many bytes; or else the
+-- answer of the input
+abbrev pub IsEnding : List (String Global) → Reading → Ending → Type 0
+IsEnding words reading (Ok text) = IsRun words × IsAnswerOfInput reading (Ok text)
+IsEnding words reading (Err BadWords) = (¬ IsRun words) × (reading.after ≡ reading.before)
+IsEnding words reading (Err ReadFault) = IsRun words × HasRisen reading.faults_before reading.faults_after × (¬ TakesTooMany reading) × TakesPrefix reading
+IsEnding words reading (Err TooLong) = IsRun words × IsTooLong reading
+IsEnding words reading (Err NotJson) = IsRun words × IsAnswerOfInput reading (Err NotJson)
+IsEnding words reading (Err (BadShape command)) = IsRun words × IsAnswerOfInput reading (Err (BadShape command))
+IsEnding words reading (Err (Unbuilt command)) = IsRun words × IsAnswerOfInput reading (Err (Unbuilt command))
+IsEnding words reading (Err (Refused refusal)) = IsRun words × IsAnswerOfInput reading (Err (Refused refusal))
+IsEnding words reading (Err NoMemory) = ⊥
+
+-- a text was sent: it is written, and the status is its own; or a write failed
+abbrev pub IsSent : Status → List ℕ → Writing → Status → Type 0
+IsSent status text writing result =
+    ((result ≡ status) × IsWritten writing text) ⊎ ((result ≡ statuses.WriteFault) × IsCut writing text × HasFailed writing)
+
+-- the program has this ending, whose text was sent
+pub record IsTold (words : List (String Global)) (reading : Reading) (writing : Writing) (result : Status) : Type 0 where
+  pub ending : Ending
+  pub cause : IsEnding words reading ending
+  pub sent : IsSent (status_of ending) (text_of ending) writing result
+
+-- there was no memory: nothing is written, and a prefix is taken of the source
+pub record IsOutOfMemory (reading : Reading) (writing : Writing) (result : Status) : Type 0 where
+  pub told : result ≡ statuses.NoMemory
+  pub unwritten : writing.after ≡ writing.before
+  pub prefix : TakesPrefix reading
+
+-- how the program ends: for want of memory, or with an ending
+abbrev pub Answers : List (String Global) → Reading → Writing → Status → Type 0
+Answers words reading writing result = IsOutOfMemory reading writing result ⊎ IsTold words reading writing result
+
+-- a call that is to be answered: the word is `run`, the source gives all of an input within the limit without a fault, the
+-- sink takes what is written, and the input is a recording that breaks no rule and whose commands have built forms
+pub record IsGoodCall (words : List (String Global)) (reading : Reading) (writing : Writing) (input : List ℕ) (commands : List Command) : Type 0 where
+  pub run : IsRun words
+  pub told : reading.before ≡ Some input
+  pub limited : length input ≤ most_bytes
+  pub source_holds : ¬ HasRisen reading.faults_before reading.faults_after
+  pub sink_holds : ¬ HasFailed writing
+  pub reads : recording_of input ≡ Ok commands
+  pub static_rules : static_refusal commands ≡ None
+  pub built : unbuilt_in commands ≡ None
+  pub data_rules : data_refusal commands (length commands) ≡ None
+
+-- the run's whole text is written, or memory ran out
+abbrev pub IsCompleted : Writing → List Command → Status → Type 0
+IsCompleted writing commands result =
+    (result ≡ statuses.NoMemory) ⊎ ((result ≡ statuses.Done) × IsWritten writing (text_before commands (length commands)))

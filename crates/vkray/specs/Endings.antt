@@ -1,0 +1,79 @@
+-- Words that private contracts cite: no page of definitions.
+use Rattle.std.specs.Prelude.{◌≡◌, ℕ, Bool, true, false, List, Vec, Result, Ok, Err, None, Some, String}
+use Rattle.std.specs.declared.alloc.Global.{Global}
+use Rattle.ray_cmd.specs.declared.command.Command.{Command}
+use Rattle.ray_cmd.specs.declared.fault.RecordingFault.{RecordingFault}
+use Rattle.ray_cmd.specs.declared.fault.RecordingFault.TheVariants as recordings
+use Rattle.ray_io.specs.declared.read_error.ReadError.{ReadError}
+use Rattle.ray_io.specs.declared.read_error.ReadError.TheVariants as reads
+use Rattle.ray_state.specs.Run.{text_before}
+use Rattle.vkray.specs.declared.run_fault.RunFault.{RunFault}
+use Rattle.vkray.specs.declared.run_fault.RunFault.TheVariants as runs
+use Rattle.vkray.specs.declared.stop.Stop.{Stop}
+use Rattle.vkray.specs.declared.stop.Stop.TheVariants.{BadWords, ReadFault, TooLong, NotJson, BadShape, Unbuilt, Refused, NoMemory}
+use Rattle.vkray.specs.Answer.{Ending, data_refusal}
+use Rattle.vkray.specs.Call.{Reading, IsEnding}
+
+-- the stop of each fault
+abbrev pub stop_of_read : ReadError → Stop
+stop_of_read reads.ReadFault = ReadFault
+stop_of_read reads.TooLong = TooLong
+stop_of_read reads.NoMemory = NoMemory
+
+abbrev pub stop_of_recording : RecordingFault → Stop
+stop_of_recording recordings.NotJson = NotJson
+stop_of_recording (recordings.BadShape command) = BadShape command
+stop_of_recording recordings.NoMemory = NoMemory
+
+abbrev pub stop_of_run : RunFault → Stop
+stop_of_run (runs.Refused refusal) = Refused refusal
+stop_of_run runs.NoMemory = NoMemory
+
+-- the run of the commands below a number gives their text, or its refusal; want of memory is free
+abbrev pub IsRunBelow : List Command → ℕ → Result (Vec ℕ Global) RunFault → Type 0
+IsRunBelow rec n (Ok text) = (data_refusal rec n ≡ None) × (text.items ≡ text_before rec n)
+IsRunBelow rec n (Err (runs.Refused refusal)) = data_refusal rec n ≡ Some refusal
+IsRunBelow rec n (Err runs.NoMemory) = Unit {0}
+
+-- the answer of an input is this stop, which is none of the words or the source; want of memory is free
+abbrev pub StopsSo : Ending → Stop → Type 0
+StopsSo ending BadWords = ⊥
+StopsSo ending ReadFault = ⊥
+StopsSo ending TooLong = ⊥
+StopsSo ending NotJson = ending ≡ Err NotJson
+StopsSo ending (BadShape command) = ending ≡ Err (BadShape command)
+StopsSo ending (Unbuilt command) = ending ≡ Err (Unbuilt command)
+StopsSo ending (Refused refusal) = ending ≡ Err (Refused refusal)
+StopsSo ending NoMemory = Unit {0}
+
+-- a result is the answer of an input; want of memory is free
+abbrev pub Ends : Ending → Result (Vec ℕ Global) Stop → Type 0
+Ends ending (Ok text) = ending ≡ Ok text.items
+Ends ending (Err stop) = StopsSo ending stop
+
+-- whether a stop is told: want of memory isn't
+abbrev pub is_told : Stop → Bool
+is_told BadWords = true
+is_told ReadFault = true
+is_told TooLong = true
+is_told NotJson = true
+is_told (BadShape command) = true
+is_told (Unbuilt command) = true
+is_told (Refused refusal) = true
+is_told NoMemory = false
+
+-- a stop is what the words and the source give; want of memory is free
+abbrev pub StopsCall : List (String Global) → Reading → Stop → Type 0
+StopsCall words reading BadWords = IsEnding words reading (Err BadWords)
+StopsCall words reading ReadFault = IsEnding words reading (Err ReadFault)
+StopsCall words reading TooLong = IsEnding words reading (Err TooLong)
+StopsCall words reading NotJson = IsEnding words reading (Err NotJson)
+StopsCall words reading (BadShape command) = IsEnding words reading (Err (BadShape command))
+StopsCall words reading (Unbuilt command) = IsEnding words reading (Err (Unbuilt command))
+StopsCall words reading (Refused refusal) = IsEnding words reading (Err (Refused refusal))
+StopsCall words reading NoMemory = Unit {0}
+
+-- a result is what the words and the source give
+abbrev pub EndsCall : List (String Global) → Reading → Result (Vec ℕ Global) Stop → Type 0
+EndsCall words reading (Ok text) = IsEnding words reading (Ok text.items)
+EndsCall words reading (Err stop) = StopsCall words reading stop
