@@ -12,9 +12,11 @@ pub fn union_law(_a: &Box3, _b: &Box3, _c: &Box3)
     ensures idempotent { union_of _a.now _a.now ≡ _a.now }
 {}
 
-/// The law of boxes in boxes: what is in the inner box is in the outer one, and boxes that are in each
-/// other are identical. (Own.)
+/// The law of boxes in boxes: what is in the inner box is in the outer one, and boxes that are in
+/// each other are identical. (Own.)
 pub fn part_law(_inner: &Box3, _outer: &Box3)
-    ensures points { IsPart _inner.now _outer.now → (p : Vec3) → IsIn p _inner.now → IsIn p _outer.now }
-    ensures same { IsPart _inner.now _outer.now → IsPart _outer.now _inner.now → _inner.now ≡ _outer.now }
+    ensures points { IsPart _inner.now _outer.now →
+        (p : Vec3) → IsIn p _inner.now → IsIn p _outer.now }
+    ensures same { IsPart _inner.now _outer.now → IsPart _outer.now _inner.now →
+        _inner.now ≡ _outer.now }
 {}

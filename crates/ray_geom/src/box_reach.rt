@@ -11,10 +11,9 @@ use crate::ratio::Ratio;
 use crate::reach::Reach;
 use crate::slab::Slab;
 
-/// From where to where the ray is inside the box, ends included, as [`span_box`](crate::span_box) says
-/// it, with ends that aren't in lowest terms. It takes no greatest common divisor, so it costs some
-/// twentieth of it. (Own; for the intersection of rays with AABBs in "Ray Traversal" of the Vulkan
-/// specification.)
+/// From where to where the ray is inside the box, ends included, as [`span_box`](crate::span_box)
+/// says it, with ends that aren't in lowest terms: it takes no greatest common divisor. (Own; for
+/// the intersection of rays with AABBs in "Ray Traversal" of the Vulkan specification.)
 pub fn reach_box(ray: &ObjectRay, b: &Box3) -> Option<Reach>
     ensures some { IfSome result (IsReach ray.now b.now) }
     ensures none { IfNone result ((n d : ℕ) → 0 < d → ¬ IsInside ray.now b.now n d) }
@@ -45,7 +44,8 @@ fn narrowed(ray: &ObjectRay, b: &Box3) -> Option<Reach>
 fn interval(least: u64, most: u64) -> Reach
     requires least_short { least ≤ 2 ^ 40 }
     requires most_short { most ≤ 2 ^ 40 }
-    ensures covers { (n d : ℕ) → 0 < d → Covers result n d ↔ ((least * d ≤ 65536 * n) × (65536 * n ≤ most * d)) }
+    ensures covers { (n d : ℕ) → 0 < d →
+        Covers result n d ↔ ((least * d ≤ 65536 * n) × (65536 * n ≤ most * d)) }
     ensures limits { AreFractions result }
 {
     Reach {
@@ -160,7 +160,8 @@ fn lower(exit: Ratio, far: i64, size: u64) -> Option<Ratio>
 fn later(a: Ratio, b: Ratio) -> Ratio
     ensures value { (n d : ℕ) → 0 < d →
         IsAtMost result.num result.den n d ↔ (IsAtMost a.num a.den n d × IsAtMost b.num b.den n d) }
-    ensures limits { IsFraction a.num a.den → IsFraction b.num b.den → IsFraction result.num result.den }
+    ensures limits { IsFraction a.num a.den → IsFraction b.num b.den →
+        IsFraction result.num result.den }
 {
     if a < b { b } else { a }
 }
@@ -169,7 +170,8 @@ fn later(a: Ratio, b: Ratio) -> Ratio
 fn earlier(a: Ratio, b: Ratio) -> Ratio
     ensures value { (n d : ℕ) → 0 < d →
         IsAtMost n d result.num result.den ↔ (IsAtMost n d a.num a.den × IsAtMost n d b.num b.den) }
-    ensures limits { IsFraction a.num a.den → IsFraction b.num b.den → IsFraction result.num result.den }
+    ensures limits { IsFraction a.num a.den → IsFraction b.num b.den →
+        IsFraction result.num result.den }
 {
     if a < b { a } else { b }
 }

@@ -9,15 +9,16 @@ use crate::span::Span;
 
 /// From where to where the ray is inside the box, ends included: from the least to the greatest
 /// distance of the ray's interval at which it is inside on all three axes. None exactly where there
-/// is no such distance. It is [`reach_box`] with both ends in lowest terms, which takes two greatest
-/// common divisors. (Own; for the intersection of rays with AABBs in "Ray Traversal" of the Vulkan
-/// specification.)
+/// is no such distance. It is [`reach_box`] with both ends in lowest terms, which takes two
+/// greatest common divisors. (Own; for the intersection of rays with AABBs in "Ray Traversal" of
+/// the Vulkan specification.)
 pub fn span_box(ray: &ObjectRay, b: &Box3) -> Option<Span>
     ensures some { IfSome result (IsSpan ray.now b.now) }
     ensures none { IfNone result ((n d : ℕ) → 0 < d → ¬ IsInside ray.now b.now n d) }
 
     // There is one span of a ray and a box.
-    ensures only { IfSome result (λ span. (other : Span) → IsSpan ray.now b.now other → other ≡ span) }
+    ensures only { IfSome result (λ span.
+        (other : Span) → IsSpan ray.now b.now other → other ≡ span) }
 
     // The same as one function of the ray and the box.
     ensures value { option_map span_value result ≡ span_of ray.now b.now }

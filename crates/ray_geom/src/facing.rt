@@ -13,9 +13,10 @@ use crate::tri::Tri;
 use crate::tri_hit::TriHit;
 
 impl TriHit {
-    /// Whether the ray saw the front of the triangle, before any flip of the instance's: the determinant
-    /// in the direction and that of the instance's matrix have opposite signs. The hit is that of the
-    /// world triangle. (Vulkan, "Ray Traversal": facing in the object's space; own: the numbers.)
+    /// Whether the ray saw the front of the triangle, before any flip of the instance's: the
+    /// determinant in the direction and that of the instance's matrix have opposite signs. The hit
+    /// is that of the world triangle. (Vulkan, "Ray Traversal": facing in the object's space; own:
+    /// the numbers.)
     pub fn is_front(&self, m: &Matrix) -> bool
         ensures value { result ≡ is_front self.now.den_negative (det_of m.now) }
         ensures front { (ray : RayValue) (tri : TriValue) → IsHit ray (world_tri m.now tri) →
@@ -32,10 +33,11 @@ fn is_opposite(den_negative: bool, det: i64) -> bool
     den_negative != (det < 0)
 }
 
-/// The law of facing: the determinant of the world triangle is the product of the object ray's direction
-/// with the triangle's normal; and a triangle is seen from its front exactly where each direction of the
-/// object's space that the transform takes to the ray's direction, or to a multiple of it, has a negative
-/// product with the normal. (Own; for facing in "Ray Traversal" of the Vulkan specification.)
+/// The law of facing: the determinant of the world triangle is the product of the object ray's
+/// direction with the triangle's normal; and a triangle is seen from its front exactly where each
+/// direction of the object's space that the transform takes to the ray's direction, or to a
+/// multiple of it, has a negative product with the normal. (Own; for facing in "Ray Traversal" of
+/// the Vulkan specification.)
 pub fn facing_law(_ray: &Ray, _m: &Matrix, _tri: &Tri)
     ensures product { den_of _ray.now (world_tri _m.now _tri.now) ≡
         dot_of (object_of _ray.now _m.now).dir (normal_of_tri _tri.now) }

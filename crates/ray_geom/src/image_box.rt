@@ -13,11 +13,12 @@ use crate::matrix::Matrix;
 use crate::vec3::Vec3;
 
 impl Matrix {
-    /// Whether the images of the eight corners of a box are within the limits. Then so is the image of
-    /// each point of the box.
+    /// Whether the images of the eight corners of a box are within the limits. Then so is the image
+    /// of each point of the box.
     pub fn keeps_corners(&self, b: &Box3) -> bool
         ensures corners { IsTrue result ↔ KeepsCorners self.now b.now }
-        ensures points { IsTrue result → (p : Vec3) → IsIn p b.now → IsShort (2 ^ 19) (image_of self.now p) }
+        ensures points { IsTrue result →
+            (p : Vec3) → IsIn p b.now → IsShort (2 ^ 19) (image_of self.now p) }
     {
         are_kept(self, &b.corners())
     }

@@ -1,28 +1,28 @@
 //! Exact integer geometry for ray queries: which triangles and boxes a ray meets, and where.
 //!
 //! Points, rays, triangles, boxes and transforms have whole coordinates, a ray's interval is in
-//! whole numbers of 1/65536, and every answer is a fraction in lowest terms, so no answer is rounded
-//! and none depends on an order of evaluation.
+//! whole numbers of 1/65536, and every answer is an exact fraction, so no answer is rounded and
+//! none depends on an order of evaluation.
 //!
 //! The layers above use these calls:
 //! - [`hit_tri`], whose clauses `some` and `value` say by `IsHit` and `Tells` of
 //!   `specs/TriangleHit` exactly which triangles are hit and exactly what each hit tells;
 //!   [`TriHit::is_front`] says from which side, by `specs/Facing`;
 //! - [`object_ray`], which takes a ray into the space of an instance's object without division;
-//! - [`reach_box`], whose clauses `some` and `none` say by `IsReach` and `IsInside` of `specs/BoxSpan`
-//!   exactly which boxes an [`ObjectRay`] meets, and from where to where, and [`span_box`], the same in
-//!   lowest terms;
-//! - [`Box3::union`], [`Box3::of_points`] and their kin, which make least boxes by `specs/LeastBoxes`,
-//!   and [`Matrix::image_box`], the least world box of a box's corners.
+//! - [`reach_box`], whose clauses `some` and `none` say by `IsReach` and `IsInside` of
+//!   `specs/BoxSpan` exactly which boxes an [`ObjectRay`] meets, and from where to where, and
+//!   [`span_box`], the same in lowest terms;
+//! - [`Box3::union`], [`Box3::of_points`] and their kin, which make least boxes by
+//!   `specs/LeastBoxes`, and [`Matrix::image_box`], the least world box of a box's corners.
 //!
-//! Laws are calls that do nothing and whose contract is the law: [`hit_is_inside`], [`inside_is_met`],
-//! [`part_is_later`], [`image_is_held`] and [`inside_in_world`] say which boxes a walk may leave out,
-//! [`facing_law`] what the front is, [`union_law`] and [`part_law`] how boxes stand to each other,
-//! [`reach_law`] what the reach as a value means, and [`edge_owner`], which computes, that of two
-//! triangles at a shared edge exactly one is hit.
+//! Laws are calls that do nothing and whose contract is the law: [`hit_is_inside`],
+//! [`inside_is_met`], [`part_is_later`], [`image_is_held`] and [`inside_in_world`] say which boxes
+//! a walk may leave out, [`facing_law`] what the front is, [`union_law`] and [`part_law`] how boxes
+//! stand to each other, [`reach_law`] what the reach as a value means, and [`edge_owner`], which
+//! computes, that of two triangles at a shared edge exactly one is hit.
 //!
-//! [`Frac`] and [`Ratio`] have a total order by value. [`Ray::new`], [`Tri::new`], [`Box3::new`] and
-//! [`Matrix::new`] refuse exactly what is beyond the limits of `specs/Scene`, `specs/Boxes` and
+//! [`Frac`] and [`Ratio`] have a total order by value. [`Ray::new`], [`Tri::new`], [`Box3::new`]
+//! and [`Matrix::new`] refuse exactly what is beyond the limits of `specs/Scene`, `specs/Boxes` and
 //! `specs/Transform`, and the accessors say these limits in a clause `limits`. [`Steps`] counts in
 //! contracts alone.
 //!

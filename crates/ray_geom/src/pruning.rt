@@ -17,25 +17,28 @@ use crate::object::ObjectRay;
 use crate::ray::Ray;
 use crate::tri::Tri;
 
-/// The law of the reach as a value: where `reach_of` gives one it is the reach, and where it gives none
-/// no distance is inside. (Own.)
+/// The law of the reach as a value: where `reach_of` gives one it is the reach, and where it gives
+/// none no distance is inside. (Own.)
 pub fn reach_law(_ray: &ObjectRay, _b: &Box3)
     ensures some { IfSome (reach_of _ray.now _b.now) (IsReach _ray.now _b.now) }
-    ensures none { IfNone (reach_of _ray.now _b.now) ((n d : ℕ) → 0 < d → ¬ IsInside _ray.now _b.now n d) }
+    ensures none { IfNone (reach_of _ray.now _b.now)
+        ((n d : ℕ) → 0 < d → ¬ IsInside _ray.now _b.now n d) }
 {}
 
-/// The first law of pruning: where the ray hits the world triangle of a triangle, the hit's distance is
-/// inside each box of the object's space that holds the triangle, whatever the sign of the determinant.
-/// (Own.)
+/// The first law of pruning: where the ray hits the world triangle of a triangle, the hit's
+/// distance is inside each box of the object's space that holds the triangle, whatever the sign of
+/// the determinant. (Own.)
 pub fn hit_is_inside(_ray: &Ray, _m: &Matrix, _tri: &Tri, _b: &Box3)
     ensures { HoldsTri _tri.now _b.now → IsHit _ray.now (world_tri _m.now _tri.now) → (n d : ℕ) →
-        IsDistance _ray.now (world_tri _m.now _tri.now) n d → IsInside (object_of _ray.now _m.now) _b.now n d }
+        IsDistance _ray.now (world_tri _m.now _tri.now) n d →
+        IsInside (object_of _ray.now _m.now) _b.now n d }
 {}
 
-/// The second law of pruning: where a distance is inside a box, the box is met, at an entry of at most
-/// that distance. (Own.)
+/// The second law of pruning: where a distance is inside a box, the box is met, at an entry of at
+/// most that distance. (Own.)
 pub fn inside_is_met(_ray: &ObjectRay, _b: &Box3)
-    ensures met { (n d : ℕ) → 0 < d → IsInside _ray.now _b.now n d → IsSome (reach_of _ray.now _b.now) }
+    ensures met { (n d : ℕ) → 0 < d → IsInside _ray.now _b.now n d →
+        IsSome (reach_of _ray.now _b.now) }
     ensures entry { (n d : ℕ) → 0 < d → IsInside _ray.now _b.now n d →
         IsAtMost (entry_of _ray.now _b.now).num (entry_of _ray.now _b.now).den n d }
 {}
@@ -50,16 +53,16 @@ pub fn part_is_later(_ray: &ObjectRay, _inner: &Box3, _outer: &Box3)
         IsReach _ray.now _outer.now s → IsAtMost r.exit.num r.exit.den s.exit.num s.exit.den }
 {}
 
-/// The fourth law of pruning: the image of a point of a box is in each world box that holds the images
-/// of the box's eight corners. (Own.)
+/// The fourth law of pruning: the image of a point of a box is in each world box that holds the
+/// images of the box's eight corners. (Own.)
 pub fn image_is_held(_m: &Matrix, _b: &Box3, _world: &Box3)
     ensures { HoldsImages _m.now _b.now _world.now → (p : Vec3) → IsIn p _b.now →
         IsIn (image_of _m.now p) _world.now }
 {}
 
-/// The fifth law of pruning: what is inside a box of the object's space is inside each world box that
-/// holds the images of its eight corners. With it a box of a top tree is met wherever what it holds is.
-/// (Own.)
+/// The fifth law of pruning: what is inside a box of the object's space is inside each world box
+/// that holds the images of its eight corners. With it a box of a top tree is met wherever what it
+/// holds is. (Own.)
 pub fn inside_in_world(_ray: &Ray, _m: &Matrix, _b: &Box3, _world: &Box3)
     ensures { HoldsImages _m.now _b.now _world.now → (n d : ℕ) →
         IsInside (object_of _ray.now _m.now) _b.now n d →

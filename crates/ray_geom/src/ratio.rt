@@ -5,9 +5,9 @@ ghost use Rattle.ray_geom.specs.Frac.{numerator, denominator};
 use crate::frac::Frac;
 use std::cmp::Ordering;
 
-/// A fraction that isn't negative, as it is, and not in lowest terms: `num` / `den`, with `den` above 0.
-/// Equality and order are by value, as those of [`Frac`] are, and take two multiplications and no
-/// greatest common divisor. So 1/2 == 2/4, though they are not identical. (Own.)
+/// A fraction that isn't negative, as it is, and not in lowest terms: `num` / `den`, with `den`
+/// above 0. Equality and order are by value, as those of [`Frac`] are, and take two multiplications
+/// and no greatest common divisor. So 1/2 == 2/4, though they are not identical. (Own.)
 #[derive(Clone, Copy, Debug)]
 pub struct Ratio {
     pub num: u64,

@@ -4,8 +4,8 @@ ghost use Rattle.ray_geom.specs.Frac.{numerator, denominator};
 use crate::ratio::Ratio;
 use crate::span::Span;
 
-/// The distances at which a ray is inside a box, as a span whose ends aren't in lowest terms: all from
-/// `entry` to `exit`. (Own.)
+/// The distances at which a ray is inside a box, as a span whose ends aren't in lowest terms: all
+/// from `entry` to `exit`. (Own.)
 #[derive(Clone, Copy, Debug, PartialEq, Eq)]
 pub struct Reach {
     /// The least.
