@@ -10,7 +10,7 @@ use Rattle.ray_ranges.specs.declared.range.Range.{Range}
 use Rattle.ray_ranges.specs.Meeting.{has, covers}
 
 -- the least number below n that passes a test
-least_number :
+pub least_number :
     (test : ℕ → Bool) (n k : ℕ) → k ≤ n → ((j : ℕ) → j < k → test j ≡ false) → (k < n → test k ≡ true)
     → position_or_len test (range_with_len 0 n) ≡ k
 least_number test n k within none here =

@@ -7,3 +7,4 @@ pub mod Firsts
 pub mod Lines
 pub mod Placing
 pub mod Sweeps
+pub mod Overlaps

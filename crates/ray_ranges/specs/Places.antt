@@ -1,8 +1,8 @@
 -- Where things stand: each in one space, as a buffer, from one byte on. (Own; memory that backs an
 -- acceleration structure is a range of bytes of one buffer, as VkAccelerationStructureCreateInfoKHR
 -- says.)
-use Rattle.std.specs.Prelude.{ℕ, ◌+◌, Bool, ◌==◌, ◌&&◌, List, Option}
-use Rattle.std.specs.List.{list_any}
+use Rattle.std.specs.Prelude.{ℕ, ◌+◌, Bool, ◌==◌, ◌&&◌, List, Option, length, take, slice_index_or}
+use Rattle.std.specs.List.{list_any, position, range_with_len}
 use Rattle.std.specs.Map.{lookup, values_of, remove_entry}
 use Rattle.std.specs.BTreeMap.{is_at, insert_entry}
 use Rattle.std.specs.Ordering.{nat_cmp}
@@ -41,3 +41,15 @@ overlaps_any placed place = list_any (overlaps place) (values_of placed)
 -- something is placed in this space
 abbrev pub holds_any : Placements → ℕ → Bool
 holds_any placed space = list_any (λ place. place.space == space) (values_of placed)
+
+-- place number k, and an empty one where there is none
+abbrev pub place_number : List Place → ℕ → Place
+place_number places k = slice_index_or places k (record { space = 0; from = 0; size = 0 })
+
+-- place number k shares a byte with one that stands before it
+abbrev pub overlaps_before : List Place → ℕ → Bool
+overlaps_before places k = list_any (overlaps (place_number places k)) (take k places)
+
+-- the least number of a place that shares a byte with one that stands before it
+abbrev pub first_overlapping : List Place → Option ℕ
+first_overlapping places = position (overlaps_before places) (range_with_len 0 (length places))

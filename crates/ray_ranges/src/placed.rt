@@ -4,9 +4,9 @@ ghost use Rattle.ray_ranges.specs.Places.{place_at, with_place, without_place};
 ghost use Rattle.ray_ranges.specs.Places.{overlaps_any, holds_any};
 ghost use Rattle.ray_ranges.specs.Addresses.{addresses_of, all_addresses};
 
+use crate::addresses::{addresses, whole};
 use crate::disjoint_ranges::DisjointRanges;
 use crate::place::Place;
-use crate::range::Range;
 use std::alloc::{AllocError, Global};
 use std::collections::BTreeMap;
 use std::marker::Model;
@@ -104,31 +104,5 @@ impl Placed {
         let place = self.places.remove(&id)?;
         self.taken.remove(addresses(place).from);
         Some(place)
-    }
-}
-
-// How many addresses each space has.
-const SPACE: u128 = 1 << 66;
-
-// The addresses of a place: each space has its own.
-fn addresses(place: Place) -> Range
-    ensures value { result ≡ addresses_of place }
-    ensures fits { place.from + place.size ≤ 2 ^ 66 }
-{
-    let from = u128::from(place.space) * SPACE + u128::from(place.from);
-    Range {
-        from,
-        end: from + u128::from(place.size),
-    }
-}
-
-// The addresses of a whole space.
-fn whole(space: u32) -> Range
-    ensures { result ≡ all_addresses space }
-{
-    let from = u128::from(space) * SPACE;
-    Range {
-        from,
-        end: from + SPACE,
     }
 }

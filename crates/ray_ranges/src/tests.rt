@@ -2,6 +2,7 @@ ghost use Rattle.std.specs.Prelude.{◌≡◌};
 
 use crate::{
     DisjointRanges, Place, Placed, Range, first_meeting, first_meeting_any, first_meeting_earlier,
+    first_overlapping,
 };
 use std::alloc::AllocError;
 
@@ -46,6 +47,8 @@ fn places_of_ids(rt: HostRuntime) -> Result<(), AllocError> {
     assert!(rt; !placed.overlaps(place(1, 512, 1)));
     assert!(rt; placed.holds_any(1));
     assert!(rt; !placed.holds_any(2));
+    let places = [place(1, 0, 8), place(2, 0, 8), place(1, 7, 1)];
+    assert!(rt; first_overlapping(rt.alloc(), &places)? == Some(2));
     assert!(rt; placed.remove(5) == Some(place(1, 256, 256)));
     assert!(rt; !placed.holds_any(1));
     Ok(())
