@@ -1,6 +1,6 @@
 -- The bytes that a geometry reads, and those that have to be there. (Vulkan: the valid usage of
 -- VkAccelerationStructureBuildRangeInfoKHR; own: the ranges.)
-use Rattle.std.specs.Prelude.{ℕ, ◌+◌, ◌-◌, ◌*◌, List, [], ◌∷◌, Option, Some, None, Bool, false, nat_lt, ◌==◌, ◌&&◌, if◌then◌else◌, min, option_map}
+use Rattle.std.specs.Prelude.{ℕ, ◌+◌, ◌-◌, ◌*◌, List, [], ◌∷◌, Option, Some, None, Bool, false, nat_lt, ◌==◌, if◌then◌else◌, min, option_map}
 use Rattle.std.specs.List.{sum_by}
 use Rattle.std.specs.Option.{option_map_or}
 use Rattle.ray_bytes.specs.Formats.{vertex_size}
@@ -13,6 +13,8 @@ use Rattle.ray_cmd.specs.declared.geometry.Geometry.TheVariants as geometries
 use Rattle.ray_cmd.specs.declared.index.Index.{Index}
 use Rattle.ray_cmd.specs.declared.info.Info.{Info}
 use Rattle.ray_cmd.specs.declared.spot.Spot.{Spot}
+use Rattle.ray_ranges.specs.declared.place.Place.{Place}
+use Rattle.ray_ranges.specs.Places.{overlaps}
 use Rattle.ray_rules.specs.declared.live_buffer.LiveBuffer.{LiveBuffer}
 use Rattle.ray_rules.specs.declared.byte_range.ByteRange.{ByteRange}
 use Rattle.ray_rules.specs.Ids.{Ids, look}
@@ -33,11 +35,13 @@ is_outside buffers r = nat_lt (size_at buffers r.buffer) (r.from + r.size)
 abbrev pub is_outside_if : Ids LiveBuffer → Option ByteRange → Bool
 is_outside_if buffers r = option_map_or (is_outside buffers) r false
 
--- whether two ranges share a byte
+-- the place of a range in its buffer
+abbrev pub place_of : ByteRange → Place
+place_of r = record { space = r.buffer; from = r.from; size = r.size }
+
+-- whether two ranges share a byte: they are in one buffer, where their bytes meet
 abbrev pub meets : ByteRange → ByteRange → Bool
-meets r s =
-    (r.buffer == s.buffer && (nat_lt r.from (s.from + s.size) && nat_lt s.from (r.from + r.size)))
-    && (nat_lt 0 r.size && nat_lt 0 s.size)
+meets r s = overlaps (place_of r) (place_of s)
 
 -- how many primitives a geometry has
 abbrev pub count_of : Geometry → ℕ

@@ -1,6 +1,7 @@
 -- What follows of a command from rules that it keeps.
-use Rattle.std.proofs.Common.{◌≡◌, ◌+◌, ◌==◌, ◌≤◌, ℕ, List, Option, Some, None, Bool, true, false, ◌||◌, refl, arith, nat_lt}
+use Rattle.std.proofs.Common.{◌≡◌, ◌+◌, ◌==◌, ◌<◌, ◌≤◌, ℕ, List, Option, Some, None, Bool, true, false, ◌||◌, refl, arith}
 use Rattle.std.proofs.lemmas.Bool.{ltb-false}
+use Rattle.std.proofs.lemmas.Bool.Decides.{nat_tests}
 use Rattle.std.specs.Option.{is_some}
 use Rattle.ray_cmd.specs.declared.structure_kind.StructureKind.{StructureKind}
 use Rattle.ray_flags.specs.declared.usage.Usage.{Usage}
@@ -52,7 +53,7 @@ pub buffer_fits : (z : Status) (id size : ℕ) (usage : Usage) (content : Option
 unfolding v2
 buffer_fits z id size usage content kept =
     ltb-false 268435456 (live_bytes z + size)
-      (right-false (is_longer content size) _ (right-false (size == 0) _ (whole-kept _ kept)))
+    (right-false (is_longer content size) _ (right-false (size == 0) _ (whole-kept _ kept)))
 
 -- a structure that is made overlaps none
 pub structure_is_apart : (z : Status) (id : ℕ) (kind : StructureKind) (buffer offset size : ℕ)
@@ -61,3 +62,9 @@ pub structure_is_apart : (z : Status) (id : ℕ) (kind : StructureKind) (buffer 
 unfolding v6
 structure_is_apart z id kind buffer offset size kept =
     right-false (is_outside z.buffers (range buffer offset size)) _ (right-false (misses 256 offset) _ (whole-kept _ kept))
+
+-- a structure that is made has a byte
+pub structure_is_some : (z : Status) (id : ℕ) (kind : StructureKind) (buffer offset size : ℕ)
+    → v2 z (commands.Structure id kind buffer offset size) ≡ None → 0 < size
+unfolding v2
+structure_is_some z id kind buffer offset size kept = grind (arith, nat_tests, whole-kept (size == 0) kept)

@@ -1,2 +1,3 @@
 mod Kept
+mod Placing
 mod Sums

@@ -15,6 +15,7 @@ mod ranges;
 mod sizes;
 mod status;
 mod step;
+mod structures;
 mod usages;
 
 pub use crate::facts::{

@@ -1,4 +1,4 @@
-ghost use Rattle.std.specs.Prelude.{◌≡◌, ◌+◌, ◌≤◌, false, None, OnOk, length};
+ghost use Rattle.std.specs.Prelude.{◌≡◌, ◌+◌, ◌<◌, ◌≤◌, false, None, OnOk, length};
 ghost use Rattle.ray_cmd.specs.declared.thing.Thing.TheVariants.{Buffer};
 ghost use Rattle.ray_rules.specs.Buffers.{holds_structure};
 ghost use Rattle.ray_rules.specs.Ids.{look};
@@ -6,9 +6,9 @@ ghost use Rattle.ray_rules.specs.Ranges.{is_outside, size_at};
 ghost use Rattle.ray_rules.specs.Status.{at_first, built_at, fill_in, in_phase, live_bytes, submitted, waited, with_buffer, with_structure, without_thing};
 ghost use Rattle.ray_rules.specs.Structures.{overlaps_structure, structure_range};
 
-use crate::ranges::{meets, structure_range};
+use crate::structures::Structures;
 use ray_cmd::Thing;
-use ray_rules::{Built, LiveBuffer, LiveStructure, Phase, ByteRange};
+use ray_rules::{Built, ByteRange, LiveBuffer, LiveStructure, Phase};
 use std::alloc::{AllocError, Global};
 use std::collections::BTreeMap;
 use std::marker::Model;
@@ -17,7 +17,7 @@ use std::marker::Model;
 #[derive(Drop)]
 pub struct Status {
     buffers: BTreeMap<u32, LiveBuffer>,
-    structures: BTreeMap<u32, LiveStructure>,
+    structures: Structures,
     live_bytes: u64,
     phase: Phase,
     pending: bool,
@@ -33,10 +33,10 @@ impl Model for Status {
     ghost Value = { StatusValue };
 
     ghost view = { λ s. record {
-        buffers = s.buffers.entries;
-        structures = s.structures.entries;
-        phase = s.phase;
-        pending = s.pending
+      buffers = s.buffers.entries;
+      structures = s.structures;
+      phase = s.phase;
+      pending = s.pending;
     } };
 
     ghost invariant = { λ s. s.live_bytes ≡ sum_by (λ (b : ALiveBuffer). b.size) (values_of s.buffers.entries) };
@@ -49,7 +49,7 @@ impl Status {
     {
         Status {
             buffers: BTreeMap::new(alloc),
-            structures: BTreeMap::new(alloc),
+            structures: Structures::new(alloc),
             live_bytes: 0,
             phase: Phase::Idle,
             pending: false,
@@ -85,7 +85,7 @@ impl Status {
     pub fn structure(&self, id: u32) -> Option<LiveStructure>
         ensures { result ≡ look self.now.structures id }
     {
-        self.structures.get(&id).copied()
+        self.structures.get(id)
     }
 
     /// What the structure of an id was built by, where it is live and built.
@@ -130,18 +130,14 @@ impl Status {
     pub fn overlaps_structure(&self, range: ByteRange) -> bool
         ensures { result ≡ overlaps_structure self.now range }
     {
-        self.structures
-            .values()
-            .any(|structure| meets(range, structure_range(structure)))
+        self.structures.overlaps(range)
     }
 
     /// Whether a buffer holds a live structure.
     pub fn holds_structure(&self, buffer: u32) -> bool
         ensures { result ≡ holds_structure self.now buffer }
     {
-        self.structures
-            .values()
-            .any(|structure| structure.buffer == buffer)
+        self.structures.stands_in(buffer)
     }
 
     // A buffer is live. Its id is that of no live buffer, and the sizes of all are at most 2^28.
@@ -155,14 +151,14 @@ impl Status {
         Ok(())
     }
 
-    // A structure is live. Its id is that of no live structure, and it overlaps none.
+    // A structure is live. Its id is that of no live structure, it has a byte, and it overlaps none.
     pub(crate) fn make_structure(&mut self, id: u32, made: LiveStructure) -> Result<(), AllocError>
         requires free { look self.old.structures id ≡ None }
+        requires some { 0 < made.size }
         requires apart { overlaps_structure self.old (structure_range made) ≡ false }
         ensures { OnOk result (self.new ≡ with_structure id made self.old) }
     {
-        self.structures.insert(id, made)?;
-        Ok(())
+        self.structures.insert(id, made)
     }
 
     // A buffer or a structure is live no more.
@@ -171,9 +167,7 @@ impl Status {
     {
         match what {
             Thing::Buffer => self.destroy_buffer(id),
-            Thing::Structure => {
-                self.structures.remove(&id);
-            }
+            Thing::Structure => self.structures.remove(id),
         }
     }
 
@@ -192,7 +186,7 @@ impl Status {
     {
         if let Some(structure) = self.structure(id) {
             self.structures
-                .insert(id, LiveStructure { built, ..structure })?;
+                .replace(id, LiveStructure { built, ..structure })?;
         }
         Ok(())
     }

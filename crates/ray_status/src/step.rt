@@ -22,7 +22,10 @@ impl Status {
     {
         match command {
             Command::Buffer {
-                id, size, usage, ..
+                id,
+                size,
+                usage,
+                ..
             } => self.make_buffer(
                 *id,
                 LiveBuffer {

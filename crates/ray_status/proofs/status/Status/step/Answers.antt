@@ -2,7 +2,7 @@ use Rattle.std.proofs.Common.{◌≡◌, None, subst}
 use Rattle.ray_rules.specs.Buffers.{v2}
 use Rattle.ray_rules.specs.Names.{v1}
 use Rattle.ray_rules.specs.Structures.{v6}
-use Rattle.ray_status.proofs.Kept.{buffer_is_new, buffer_fits, structure_is_new, structure_is_apart}
+use Rattle.ray_status.proofs.Kept.{buffer_is_new, buffer_fits, structure_is_new, structure_is_apart, structure_is_some}
 use Rattle.ray_status.proofs.status.Status.step.Goals as goal
 
 pub make_buffer-requires-clause-free : goal.make_buffer-requires-clause-free
@@ -28,3 +28,9 @@ make_structure-requires-clause-apart c =
     let z = c.args.self.now in
     let s = c.in-Structure in
     structure_is_apart z s.id s.kind s.buffer s.offset s.size (subst (λ k. v6 z k ≡ None) s.is c.requires.placed)
+
+pub make_structure-requires-clause-some : goal.make_structure-requires-clause-some
+make_structure-requires-clause-some c =
+    let z = c.args.self.now in
+    let s = c.in-Structure in
+    structure_is_some z s.id s.kind s.buffer s.offset s.size (subst (λ k. v2 z k ≡ None) s.is c.requires.sized)
