@@ -68,7 +68,9 @@ fn position_of_with_short_scratch(status: &Status, infos: &[Info]) -> Option<usi
     ensures value { result ≡ position (scratch_reaches_out status.now) infos.now }
     ensures few { IfSome result (λ k. k < 2 ^ 32) }
 {
-    infos.iter().position(|info| scratch_reaches_out(status, info))
+    infos
+        .iter()
+        .position(|info| scratch_reaches_out(status, info))
 }
 
 // Whether the scratch memory of an info isn't whole within its buffer.

@@ -15,11 +15,7 @@ use ray_status::{Status, has_unbuilt, info_at, is_deserialized};
 
 /// V13 of a build: the least info that updates from what isn't built, or came by `deserialize`. (The
 /// valid usage of vkCmdBuildAccelerationStructuresKHR; own: `deserialize`.)
-pub fn first_without_source(
-    rec: &Recording,
-    status: &Status,
-    infos: &Listed<Info>,
-) -> Option<Place>
+pub fn first_without_source(rec: &Recording, status: &Status, infos: &Listed<Info>) -> Option<Place>
     ensures { result ≡ first_part (lacks_built_source rec.now status.now) infos.now }
 {
     part(position_of_without_source(rec, status, infos.as_slice()))

@@ -1,4 +1,4 @@
-ghost use Rattle.std.specs.Prelude.{◌≡◌, ◌<◌, ◌^◌, ◌==◌, None, Some, if◌then◌else◌, option_map};
+ghost use Rattle.std.specs.Prelude.{◌≡◌, ◌<◌, ◌≤◌, ◌*◌, ◌^◌, ◌==◌, None, Some, if◌then◌else◌, length, option_map};
 ghost use Rattle.ray_rules.specs.Ranges.{boxes_range, count_of, index_range, inputs_needed, instances_range, primitives, range, transform_range, vertices_needed, vertices_range};
 
 use ray_bytes::Format;
@@ -30,6 +30,7 @@ pub fn count_of(geometry: &Geometry) -> u32
 /// How many primitives geometries have together.
 pub fn primitives(geometries: &[Geometry]) -> u128
     ensures value { result ≡ primitives geometries.now }
+    ensures counted { result ≤ length geometries.now * 2 ^ 32 }
     ensures limit { result < 2 ^ 100 }
 {
     let mut total = 0;
@@ -83,11 +84,7 @@ pub fn inputs_needed(geometry: &Geometry) -> [Option<ByteRange>; 3]
             count,
             primitive_offset,
             ..
-        } => [
-            boxes(content, stride, count, primitive_offset),
-            None,
-            None,
-        ],
+        } => [boxes(content, stride, count, primitive_offset), None, None],
         Geometry::Instances {
             content,
             count,

@@ -1,4 +1,4 @@
-ghost use Rattle.std.specs.Prelude.{◌≡◌, ◌+◌, ◌<◌, ◌^◌};
+ghost use Rattle.std.specs.Prelude.{◌≡◌, ◌+◌, ◌*◌, ◌<◌, ◌≤◌, ◌^◌};
 ghost use Rattle.ray_bytes.specs.StructureSizes.{rounded_up, structure_size};
 ghost use Rattle.ray_rules.specs.Ranges.{scratch_range, scratch_size};
 
@@ -16,10 +16,12 @@ pub fn structure_size(geometries: usize, primitives: u128) -> u128
     round_up(128 + 32 * geometries + 128 * primitives)
 }
 
-/// The scratch memory of an info. (Own: the formulas are those of `sizes_of` of ray_bytes, for
+/// The scratch memory of an info: some bytes, below byte 2^66. (Own: the formulas are those of `sizes_of` of ray_bytes, for
 /// numbers beyond the limits too.)
 pub fn scratch_range(info: &Info) -> ByteRange
-    ensures { result ≡ scratch_range info.now }
+    ensures value { result ≡ scratch_range info.now }
+    ensures some { 0 < result.size }
+    ensures fits { result.from + result.size ≤ 2 ^ 66 }
 {
     let primitives = primitives(info.geometries.as_slice());
     ByteRange {
@@ -32,7 +34,9 @@ pub fn scratch_range(info: &Info) -> ByteRange
 // The scratch memory that a build or an update of so many primitives takes.
 fn scratch_size(mode: BuildMode, primitives: u128) -> u128
     requires { primitives < 2 ^ 100 }
-    ensures { result ≡ scratch_size mode primitives }
+    ensures value { result ≡ scratch_size mode primitives }
+    ensures some { 0 < result }
+    ensures limit { result ≤ 64 * primitives + 512 }
 {
     match mode {
         BuildMode::Build => round_up(256 + 64 * primitives),
@@ -43,7 +47,9 @@ fn scratch_size(mode: BuildMode, primitives: u128) -> u128
 // The least multiple of 256 that is at least `size`.
 fn round_up(size: u128) -> u128
     requires { size < 2 ^ 120 }
-    ensures { result ≡ rounded_up size }
+    ensures value { result ≡ rounded_up size }
+    ensures least { size ≤ result }
+    ensures limit { result ≤ size + 255 }
 {
     (size + 255) / 256 * 256
 }

@@ -1,5 +1,5 @@
 -- One command more of a recording is looked at.
-use Rattle.std.proofs.Common.{◌≡◌, ◌+◌, ◌∷◌, ◌∙◌, ℕ, List, Option, Some, None, drop, ap, sym, slice_get}
+use Rattle.std.proofs.Common.{◌≡◌, ◌+◌, ◌∷◌, ◌∙◌, ℕ, List, Option, Some, None, drop, ap, slice_get}
 use Rattle.std.proofs.Common.{add-one, refl, suc}
 use Rattle.std.proofs.Math.Seq.{drop-cons}
 use Rattle.std.proofs.lemmas.Option.{get_or_from_slice_get, slice_get_within}
@@ -12,7 +12,7 @@ use Rattle.ray_rules.specs.Status.{Status, after}
 next : {X : Type 0} (xs : List X) (i : ℕ) (x : X) → slice_get xs i ≡ Some x → drop i xs ≡ x ∷ drop (i + 1) xs
 next xs i x there =
     rw (drop-cons xs i x (slice_get_within xs i x there), add-one)
-      (ap (λ y. y ∷ drop (suc i) xs) (get_or_from_slice_get xs i x x there))
+    (ap (λ y. y ∷ drop (suc i) xs) (get_or_from_slice_get xs i x x there))
 
 -- a command that is refused is the first
 pub stops : (rec : List Command) (i : ℕ) (z : Status) (c : Command) (r : Refusal) → slice_get rec i ≡ Some c

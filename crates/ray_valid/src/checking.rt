@@ -59,9 +59,9 @@ pub fn refusal_of(
 
     // The rule is the first of the table that is broken, or all are kept.
     ensures least { IfOk result (λ refusal. IfSome refusal (λ r.
-      IsLeastBroken (static_table rec.now status.now command.now) r)) }
+        IsLeastBroken (static_table rec.now status.now command.now) r)) }
     ensures kept { IfOk result (λ refusal. IfNone refusal
-      (AreKept (static_table rec.now status.now command.now))) }
+        (AreKept (static_table rec.now status.now command.now))) }
 {
     if let Some(place) = v1(status, command) {
         return Ok(Some(refused(i, 1, place)));

@@ -1,12 +1,12 @@
-ghost use Rattle.std.specs.Prelude.{◌≡◌, ◌<◌, ◌≤◌, ◌^◌, ◌==◌, [], IfOk, IfSome, length, map, option_map};
+ghost use Rattle.std.specs.Prelude.{◌≡◌, ◌<◌, ◌≤◌, ◌^◌, [], IfOk, IfSome, length, map, option_map};
 ghost use Rattle.ray_cmd.specs.declared.place.Place.TheVariants.{Part};
-ghost use Rattle.std.specs.List.{list_any};
-ghost use Rattle.ray_rules.specs.Conflicts.{conflict, first_conflict, first_region_conflict, is_source, reads_structure, source_of, sources_in, target_of, v16};
+ghost use Rattle.ray_rules.specs.Conflicts.{first_conflict, first_region_conflict, source_of, sources_in, target_of, v16};
 
 use crate::place::{part, whole};
+use crate::seen::Seen;
 use ray_cmd::{Command, Info, Place, Region};
 use ray_ranges::{Range, first_meeting};
-use ray_status::{meets, range, scratch_range};
+use ray_status::{meets, range};
 use std::alloc::{AllocError, Global};
 
 // V16: pieces of one command conflict.
@@ -15,12 +15,15 @@ pub(crate) fn v16(alloc: Global, command: &Command) -> Result<Option<Place>, All
     ensures { IfOk result (λ place. place ≡ v16 command.now) }
 {
     match command {
-        Command::Build { infos } => Ok(part(first_conflict(infos.as_slice()))),
+        Command::Build { infos } => Ok(part(first_conflict(alloc, infos.as_slice())?)),
         Command::Copy { src, dst, regions } => {
             first_region_conflict(alloc, *src, *dst, regions.as_slice())
         }
         Command::Trace {
-            rays, count, hits, ..
+            rays,
+            count,
+            hits,
+            ..
         } => {
             let count = u128::from(*count);
             Ok(whole(meets(
@@ -32,59 +35,21 @@ pub(crate) fn v16(alloc: Global, command: &Command) -> Result<Option<Place>, All
     }
 }
 
-// The number of the first info that conflicts with an earlier one.
-fn first_conflict(infos: &[Info]) -> Option<usize>
+// The number of the first info that conflicts with an earlier one. It takes n log n steps.
+fn first_conflict(alloc: Global, infos: &[Info]) -> Result<Option<usize>, AllocError>
     requires { length infos.now ≤ 67108864 }
-    ensures value { result ≡ first_conflict [] 0 infos.now }
-    ensures few { IfSome result (λ k. k < 2 ^ 32) }
+    ensures value { IfOk result (λ first. first ≡ first_conflict [] 0 infos.now) }
+    ensures few { IfOk result (λ first. IfSome first (λ k. k < 2 ^ 32)) }
 {
+    let mut seen = Seen::new(alloc);
     for k in 0..infos.len() {
-        if conflicts_with_any(&infos[k], &infos[..k]) {
-            return Some(k);
+        let info = &infos[k];
+        if seen.is_met(info) {
+            return Ok(Some(k));
         }
+        seen.add(info)?;
     }
-    None
-}
-
-// Whether an info conflicts with one of these.
-fn conflicts_with_any(info: &Info, infos: &[Info]) -> bool
-    ensures { result ≡ list_any (conflict info.now) infos.now }
-{
-    infos.iter().any(|other| conflict(info, other))
-}
-
-// Whether two infos conflict.
-fn conflict(info: &Info, other: &Info) -> bool
-    ensures { result ≡ conflict info.now other.now }
-{
-    info.dst == other.dst
-        || reads_structure(info, other.dst)
-        || reads_structure(other, info.dst)
-        || meets(scratch_range(info), scratch_range(other))
-}
-
-// Whether an info reads the structure of an id.
-fn reads_structure(info: &Info, id: u32) -> bool
-    ensures { result ≡ reads_structure info.now id }
-{
-    is_source(info.src, id) || has_id(info.uses.as_slice(), id)
-}
-
-// Whether the source of an update, where there is one, is the structure of an id.
-fn is_source(src: Option<u32>, id: u32) -> bool
-    ensures { result ≡ is_source src id }
-{
-    match src {
-        Some(src) => src == id,
-        None => false,
-    }
-}
-
-// Whether an id is among these.
-fn has_id(ids: &[u32], id: u32) -> bool
-    ensures { result ≡ list_any (λ u. u == id) ids.now }
-{
-    ids.iter().any(|other| *other == id)
+    Ok(None)
 }
 
 // The first region whose destination overlaps that of an earlier one, or the source of any one.

@@ -129,14 +129,12 @@ fn lacks_for_host(stages: Stages, access: Access) -> bool
     ensures { result ≡ lacks_for_host stages access }
 {
     let host = stages.contains(Stages::HOST);
-    (access.contains(Access::HOST_READ) && !host)
-        || (access.contains(Access::HOST_WRITE) && !host)
+    (access.contains(Access::HOST_READ) && !host) || (access.contains(Access::HOST_WRITE) && !host)
 }
 
 // Whether all reads or all writes are among the accesses, and no stage is there.
 fn lacks_for_memory(stages: Stages, access: Access) -> bool
     ensures { result ≡ lacks_for_memory stages access }
 {
-    (access.contains(Access::MEMORY_READ) || access.contains(Access::MEMORY_WRITE))
-        && stages.0 == 0
+    (access.contains(Access::MEMORY_READ) || access.contains(Access::MEMORY_WRITE)) && stages.0 == 0
 }

@@ -17,6 +17,7 @@ mod flags;
 mod names;
 mod phases;
 mod place;
+mod seen;
 mod shapes;
 mod sources;
 mod spans;

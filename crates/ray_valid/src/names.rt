@@ -36,12 +36,17 @@ pub(crate) fn v1(status: &Status, command: &Command) -> Option<Place>
                 || lacks_a_structure(status, uses.as_slice()),
         ),
         Command::Property {
-            structures, dst, ..
+            structures,
+            dst,
+            ..
         } => whole(
             lacks_a_structure(status, structures.as_slice()) || lacks_buffer(status, dst.buffer),
         ),
         Command::Trace {
-            top, rays, hits, ..
+            top,
+            rays,
+            hits,
+            ..
         } => whole(
             lacks_structure(status, *top)
                 || lacks_buffer(status, rays.buffer)

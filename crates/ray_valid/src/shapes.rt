@@ -26,7 +26,9 @@ pub(crate) fn v7(status: &Status, command: &Command) -> Option<Place>
             whole(uses_wrongly(status, *dst, uses.as_slice()))
         }
         Command::Property {
-            what, structures, ..
+            what,
+            structures,
+            ..
         } => whole(asks_wrongly(status, *what, structures.as_slice())),
         Command::Trace { top, .. } => whole(is_bottom_at(status, *top)),
         _ => None,

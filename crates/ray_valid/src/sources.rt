@@ -93,7 +93,9 @@ pub(crate) fn v18(rec: &Recording, status: &Status, command: &Command) -> Option
             whole(compacts_forbidden(rec, status, *mode, *src))
         }
         Command::Property {
-            what, structures, ..
+            what,
+            structures,
+            ..
         } => first_not_compactable(rec, status, *what, structures),
         _ => None,
     }
@@ -119,11 +121,7 @@ fn first_not_compactable(
     ensures { result ≡ first_not_compactable rec.now status.now what structures.now }
 {
     match what {
-        Asked::Compacted => part(position_of_not_compactable(
-            rec,
-            status,
-            structures.as_slice(),
-        )),
+        Asked::Compacted => part(position_of_not_compactable(rec, status, structures.as_slice())),
         Asked::Serialized | Asked::Handles | Asked::Size => None,
     }
 }

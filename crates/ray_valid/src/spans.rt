@@ -24,12 +24,7 @@ pub(crate) fn v4(status: &Status, command: &Command) -> Option<Place>
             buffer,
             offset,
             content,
-        } => whole(reaches_out(
-            status,
-            *buffer,
-            *offset,
-            content.as_slice().len() as u128,
-        )),
+        } => whole(reaches_out(status, *buffer, *offset, content.as_slice().len() as u128)),
         Command::Fill {
             buffer,
             offset,
@@ -51,7 +46,9 @@ pub(crate) fn v4(status: &Status, command: &Command) -> Option<Place>
             u128::from(src.size),
         )),
         Command::Property {
-            structures, dst, ..
+            structures,
+            dst,
+            ..
         } => whole(reaches_out(
             status,
             dst.buffer,
@@ -59,7 +56,10 @@ pub(crate) fn v4(status: &Status, command: &Command) -> Option<Place>
             8 * structures.as_slice().len() as u128,
         )),
         Command::Trace {
-            rays, count, hits, ..
+            rays,
+            count,
+            hits,
+            ..
         } => {
             let count = u128::from(*count);
             whole(
@@ -88,24 +88,14 @@ fn reaches_out(status: &Status, buffer: u32, from: u64, size: u128) -> bool
 }
 
 // The first region of which the source or the destination isn't whole within its buffer.
-fn first_region_out(
-    status: &Status,
-    src: u32,
-    dst: u32,
-    regions: &Listed<Region>,
-) -> Option<Place>
+fn first_region_out(status: &Status, src: u32, dst: u32, regions: &Listed<Region>) -> Option<Place>
     ensures { result ≡ first_part (region_reaches_out status.now src dst) regions.now }
 {
     part(position_of_region_out(status, src, dst, regions.as_slice()))
 }
 
 // The number of that region.
-fn position_of_region_out(
-    status: &Status,
-    src: u32,
-    dst: u32,
-    regions: &[Region],
-) -> Option<usize>
+fn position_of_region_out(status: &Status, src: u32, dst: u32, regions: &[Region]) -> Option<usize>
     requires { length regions.now ≤ 67108864 }
     ensures value { result ≡ position (region_reaches_out status.now src dst) regions.now }
     ensures few { IfSome result (λ k. k < 2 ^ 32) }
@@ -162,7 +152,9 @@ pub(crate) fn v31(command: &Command) -> Option<Place>
     match command {
         Command::Read { size, form, .. } => whole(*size == 0 || misses(record_size(*form), *size)),
         Command::Update {
-            offset, content, ..
+            offset,
+            content,
+            ..
         } => whole(is_no_update(*offset, content.as_slice().len())),
         Command::Fill { offset, size, .. } => whole(is_no_fill(*offset, *size)),
         Command::Copy { regions, .. } => first_empty(regions),

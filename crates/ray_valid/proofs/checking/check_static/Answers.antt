@@ -1,4 +1,4 @@
-use Rattle.std.proofs.Common.{◌≡◌, ◌∙◌, ◌+◌, Some, None, ap, sym, drop, rules}
+use Rattle.std.proofs.Common.{◌≡◌, ◌∙◌, ◌+◌, Some, None, ap, sym, drop}
 use Rattle.ray_rules.specs.Refusals.{static_refusal_from, static_refusal_of}
 use Rattle.ray_valid.proofs.Going.{stops, goes_on, not_some}
 use Rattle.ray_valid.proofs.checking.check_static.Goals as goal
