@@ -5,7 +5,8 @@
 //! command to the next as `after` says. The checkers of the static rules and of the order go over a
 //! recording with it.
 //!
-//! It stands on ray_rules (the definitions) and ray_cmd (the commands).
+//! It stands on ray_rules (the definitions), ray_cmd (the commands) and ray_ranges (where structures
+//! stand, so that a question on their bytes takes log n steps).
 #![tactic(auto)]
 
 mod facts;

@@ -22,5 +22,7 @@ mod shapes;
 mod sources;
 mod spans;
 mod structures;
+#[cfg(test)]
+mod tests;
 
 pub use crate::checking::{check_static, refusal_of};
