@@ -7,3 +7,4 @@ pub mod Status
 pub mod HexItems
 pub mod Readings
 pub mod Lines
+pub mod Verdicts

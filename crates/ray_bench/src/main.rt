@@ -11,12 +11,17 @@
 //! members, or of commands, or else `not-json` or `bad-shape I`. What `hex` does is the least that
 //! a reader of recordings does by `serde_json` and `hex`.
 //!
+//! `ray_bench static-rules` reads standard input as a recording and prints what the static rules say
+//! of it: the line of its refusal, as the program's `run` prints it, or `ok`; `not-json` or
+//! `bad-shape I` where it is none.
+//!
 //! Words that are none of its own give the line `bad-words` and status 3.
 //!
 //! The contract that `main` uses is that of `count_hits`: the count is that of `AreHits` of
 //! `specs/Tested`, exactly the pairs that are hits by `hit_of` of ray_geom, or the boxes that are met
 //! by its `IsInside`, on which it stands. That of `line` is the whole line of a reading, `line_of`
-//! of `specs/Lines`, which goes by `recording_of` of ray_cmd; `input` gives all the bytes.
+//! of `specs/Lines`, which goes by `recording_of` of ray_cmd, and that of `verdict` is `verdict_of` of
+//! `specs/Verdicts`, which goes by `static_refusal` of ray_rules; `input` gives all the bytes.
 #![tactic(auto)]
 
 mod bench_error;
@@ -33,6 +38,7 @@ mod spot;
 mod testing;
 #[cfg(test)]
 mod tests;
+mod verdict;
 mod work;
 
 use crate::bench_error::BenchError;
@@ -41,10 +47,14 @@ use crate::job::Job;
 use crate::line::line;
 use crate::reading::Reading;
 use crate::testing::count_hits;
+use crate::verdict::verdict;
 use ray_io::StdSource;
 use std::env;
 use std::process::ExitCode;
 use std::rt::Env;
+
+/// The word that asks what the static rules say of a recording.
+const STATIC_RULES: &str = "static-rules";
 
 fn main(rt: HostRuntime) -> ExitCode {
     match run(&rt) {
@@ -67,6 +77,10 @@ fn run<R: Env + AllocGlobal + Print + Input>(rt: &R) -> Result<(), BenchError> {
             report(rt, Job::LITTLE_BOX_SPANS)?;
             report(rt, Job::LITTLE_BOX_REACHES)
         }
+        [word] if word.as_str() == STATIC_RULES => {
+            let bytes = input(rt.alloc(), &mut StdSource::new(rt.reader()))?;
+            judge(rt, bytes.as_slice())
+        }
         [word] => {
             let reading = Reading::named(word.as_str()).ok_or(BenchError::BadWords)?;
             let bytes = input(rt.alloc(), &mut StdSource::new(rt.reader()))?;
@@ -88,5 +102,12 @@ fn report<R: AllocGlobal + Print>(rt: &R, job: Job) -> Result<(), BenchError> {
 fn tell<R: AllocGlobal + Print>(rt: &R, reading: Reading, bytes: &[u8]) -> Result<(), BenchError> {
     let line = line(rt.alloc(), reading, bytes)?;
     println!(rt; "{line}")?;
+    Ok(())
+}
+
+// Checks the recording of the bytes by the static rules, and prints the line of what they say.
+fn judge<R: AllocGlobal + Print>(rt: &R, bytes: &[u8]) -> Result<(), BenchError> {
+    let line = verdict(rt.alloc(), bytes)?;
+    print!(rt; "{line}")?;
     Ok(())
 }

@@ -28,6 +28,7 @@ mod stop;
 mod top_call;
 
 pub use gate::{Gate, NoGate};
+pub use line::refusal_line;
 pub use path_form::first_unbuilt;
 pub use run_fault::RunFault;
 pub use running::run_waves;

@@ -19,8 +19,12 @@ pub(crate) fn unbuilt_line(alloc: Global, command: u32) -> Result<String, AllocE
     format!(in alloc; "unbuilt {command}\n")
 }
 
-// The line of a refusal: `refused I RULE` and its place.
-pub(crate) fn refusal_line(alloc: Global, refusal: &Refusal) -> Result<String, AllocError>
+/// The line of a refusal: `refused I RULE` and its place, and a newline. (Own.)
+///
+/// # Errors
+///
+/// For want of memory alone.
+pub fn refusal_line(alloc: Global, refusal: &Refusal) -> Result<String, AllocError>
     ensures { IfOk result (λ line. string_bytes line ≡ lines.refusal_line refusal.now) }
 {
     let command = refusal.command;

@@ -13,7 +13,7 @@ struct Change {
     text: &'static str,
 }
 
-const CHANGES: [Change; 9] = [
+const CHANGES: [Change; 12] = [
     Change {
         name: "members in another order, with blanks",
         from: r#"{"op":"buffer","id":1,"#,
@@ -69,6 +69,27 @@ const CHANGES: [Change; 9] = [
         to: r#""count":1.0,"#,
         status: Status::BadRecording,
         text: "bad-shape 7\n",
+    },
+    Change {
+        name: "a read beyond the end of its buffer",
+        from: r#""offset":64,"size":80,"form""#,
+        to: r#""offset":65,"size":80,"form""#,
+        status: Status::Refused,
+        text: "refused 16 V4\n",
+    },
+    Change {
+        name: "ray flags that contradict each other",
+        from: r#""flags":[],"mask""#,
+        to: r#""flags":["opaque","no_opaque"],"mask""#,
+        status: Status::Refused,
+        text: "refused 11 V22\n",
+    },
+    Change {
+        name: "no wait before the read",
+        from: r#"{"op":"wait"},"#,
+        to: "",
+        status: Status::Refused,
+        text: "refused 15 V29\n",
     },
     Change {
         name: "indices of the triangle",

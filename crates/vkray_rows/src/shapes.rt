@@ -221,7 +221,8 @@ fn around(alloc: Global, before: &str, text: &str, after: &str) -> Result<String
     Ok(whole)
 }
 
-// An example is a command whose form isn't built, what is outside the shape is none.
+// An example is a command, which breaks a rule or whose form isn't built; what is outside the shape is
+// none.
 fn look<R: Threads + Sync>(
     rt: &R,
     alloc: Global,
@@ -231,7 +232,11 @@ fn look<R: Threads + Sync>(
 ) -> Result<(bool, bool), Fail> {
     let example = around(alloc, before, shape.example, after)?;
     let (status, sink) = answer(rt, alloc, &run(example.as_bytes()))?;
-    let reads = status == Status::Unbuilt && sink.bytes() == b"unbuilt 0\n".as_slice();
+    let reads = match status {
+        Status::Unbuilt => sink.bytes() == b"unbuilt 0\n".as_slice(),
+        Status::Refused => sink.bytes().starts_with(b"refused 0 V"),
+        _ => false,
+    };
     let outside = around(alloc, before, shape.outside, after)?;
     let (status, sink) = answer(rt, alloc, &run(outside.as_bytes()))?;
     let refuses = status == Status::BadRecording && sink.bytes() == b"bad-shape 0\n".as_slice();
