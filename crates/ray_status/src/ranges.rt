@@ -1,4 +1,4 @@
-ghost use Rattle.std.specs.Prelude.{◌≡◌, ◌+◌, nat_lt, IfSome};
+ghost use Rattle.std.specs.Prelude.{◌≡◌, ◌+◌, ◌≤◌, ◌^◌, ◌⊎◌, nat_lt, IfNone, IfSome};
 ghost use Rattle.ray_rules.specs.Ranges.{meets, place_of};
 ghost use Rattle.ray_status.specs.Parts.{structure_place};
 ghost use Rattle.ray_rules.specs.Structures.{structure_range};
@@ -37,7 +37,8 @@ pub fn structure_range(structure: &LiveStructure) -> ByteRange
 
 // The place of a range in its buffer, where 64 bits have its numbers.
 pub(crate) fn place_of(range: ByteRange) -> Option<Place>
-    ensures { IfSome result (λ place. place ≡ place_of range) }
+    ensures some { IfSome result (λ place. place ≡ place_of range) }
+    ensures none { IfNone result ((2 ^ 64 ≤ range.from) ⊎ (2 ^ 64 ≤ range.size)) }
 {
     if range.from <= u128::from(u64::MAX) && range.size <= u128::from(u64::MAX) {
         Some(Place {

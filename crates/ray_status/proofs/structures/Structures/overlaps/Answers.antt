@@ -9,7 +9,7 @@ pub returns-in-Some : goal.returns-in-Some
 returns-in-Some c =
     let place = place_of c.args.range in
     c.overlaps.ensures
-    ∙ (ap (overlaps_any c.self.inside.places) c.in-Some.ensures
+    ∙ (ap (overlaps_any c.self.inside.places) c.in-Some.ensures.some
     ∙ (ap (λ ps. overlaps_any ps place) c.self.invariant
     ∙ (any-places (overlaps place) c.self.inside.named.entries
     ∙ ap (λ es. overlaps_one es c.args.range) c.self.view_is)))
