@@ -103,8 +103,9 @@ const COMMANDS: [Shape; 19] = [
     Shape {
         name: "build",
         example: concat!(
-            r#"{"op":"build","infos":[{"mode":"update","dst":1,"src":0,"flags":["allow_update"#,
-            r#""],"scratch":{"buffer":2,"offset":0},"geometries":[],"uses":[0]}]}"#,
+            r#"{"op":"build","infos":[{"mode":"build","dst":1,"flags":[],"scratch":{"buffer""#,
+            r#":2,"offset":0},"geometries":[{"kind":"instances","data":{"buffer":0,"offset":"#,
+            r#"64},"count":1,"primitive_offset":0}],"uses":[0]}]}"#,
         ),
         fault: "`src` with mode `build`",
         outside: concat!(
@@ -145,8 +146,8 @@ const COMMANDS: [Shape; 19] = [
     Shape {
         name: "barrier",
         example: concat!(
-            r#"{"op":"barrier","src_stages":["all"],"src_access":["memory_write"],"dst_stages"#,
-            r#"":["host","all"],"dst_access":["host_read","memory_read","host_read"]}"#,
+            r#"{"op":"barrier","src_stages":["all"],"src_access":["memory_write"],"dst_stage"#,
+            r#"s":["host"],"dst_access":["host_read"]}"#,
         ),
         fault: "a stage among the accesses",
         outside: concat!(
