@@ -1,6 +1,6 @@
 -- What the output of an action is: computed from the memory at one moment. (Vulkan: acceleration structure builds, ray
 -- traversal, ray queries; own: the records, the limits, exact numbers.)
-use Rattle.std.specs.Prelude.{◌≡◌, Result, Ok, Err, ℕ, ℤ, pos, slice_index_or, take, drop, ◌*◌, ◌==◌, ◌&&◌, Bool, true, not, List, Option, Some, None, option_and_then, unwrap_or, if◌then◌else◌}
+use Rattle.std.specs.Prelude.{◌≡◌, Result, Ok, Err, ℕ, take, drop, ◌*◌, ◌==◌, ◌&&◌, Bool, true, not, List, Option, Some, None, option_and_then, unwrap_or, if◌then◌else◌}
 use Rattle.ray_geom.specs.Scene.{RayValue, TriValue, ray_value, tri_value}
 use Rattle.ray_geom.specs.Decided.{where_so, ray_decided, tri_decided}
 use Rattle.ray_geom.specs.HitValue.{HitValue, hit_of}
@@ -31,7 +31,7 @@ use Rattle.ray_flags.specs.declared.ray_flags.RayFlags.{RayFlags}
 use Rattle.ray_flags.specs.Admission.{opacity_of, is_culled, shows_front}
 use Rattle.ray_bytes.specs.Records.{vertex_of, instance_of, ray_of}
 use Rattle.ray_geom.specs.declared.vec3.Vec3.{Vec3}
-use Rattle.ray_geom.specs.Vector.{vec3}
+use Rattle.ray_geom.specs.Vector.{point_of}
 use Rattle.ray_state.specs.Memory.{Memory, StructureAt, bytes_at}
 use Rattle.ray_state.specs.Action.{Action, MakeBuffer, MakeStructure, BuildBottom, BuildTop, TraceRay, ShowHit, Rest, Unbuilt}
 
@@ -65,10 +65,6 @@ IsFetched outcome (Err fault) = Causes fault outcome
 abbrev pub IsTraced : Outcome → Result HitRecord FetchFault → Type 0
 IsTraced outcome (Ok hit) = outcome ≡ Gives (Hit hit)
 IsTraced outcome (Err fault) = Causes fault outcome
-
--- the point of three numbers
-abbrev pub point_of : List ℤ → Vec3
-point_of numbers = vec3 (slice_index_or numbers 0 (pos 0)) (slice_index_or numbers 1 (pos 0)) (slice_index_or numbers 2 (pos 0))
 
 -- vertex number k of those in the bytes: three signed 32-bit numbers
 abbrev pub vertex_in : List ℕ → ℕ → Vec3

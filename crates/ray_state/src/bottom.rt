@@ -5,7 +5,6 @@ ghost use Rattle.ray_state.specs.Memory.{memory_of, bytes_at};
 ghost use Rattle.ray_state.specs.Meaning.{IsBuilt, bottom_of, bottom_with, is_inactive, triangle_within, vertex_in};
 
 use crate::contents::Contents;
-use crate::point::point;
 use crate::state::State;
 use ray_bytes::{DataFault, DataRule, Format, VertexView, is_inactive_mark};
 use ray_cmd::Spot;
@@ -78,7 +77,7 @@ fn vertex(bytes: &[u8], k: u64) -> Vec3
     requires there { k < 3 }
     ensures { result ≡ vertex_in bytes.now k }
 {
-    point(corner(bytes, k))
+    Vec3::from_words(corner(bytes, k))
 }
 
 // Vertex number `k` of 36 bytes.

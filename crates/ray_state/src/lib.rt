@@ -25,7 +25,6 @@ mod instance;
 mod output;
 mod piece;
 mod piece_out;
-mod point;
 mod state;
 mod storing;
 mod structure;

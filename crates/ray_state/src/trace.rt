@@ -7,13 +7,12 @@ ghost use Rattle.ray_state.specs.Meaning.{ray_within, contents_at, instance_in, 
 
 use crate::contents::Contents;
 use crate::instance::Instance;
-use crate::point::point;
 use crate::state::State;
 use bitflags::Flags;
 use ray_bytes::{HitRecord, RayRecord, RayView};
 use ray_cmd::Spot;
 use ray_flags::{InstanceFlags, Kind, RayFlags, culled, effective, shows_front};
-use ray_geom::{Ray, Steps, Tri, TriHit, hit_tri};
+use ray_geom::{Ray, Steps, Tri, TriHit, Vec3, hit_tri};
 use std::sync::ledger::Ledger;
 
 // The flags of a ray that has none.
@@ -34,7 +33,12 @@ fn ray_from(bytes: &[u8]) -> Option<Ray>
     ensures { result ≡ ray_within bytes.now }
 {
     let ray = record_in(bytes);
-    Ray::new(point(ray.origin), point(ray.dir), ray.tmin, ray.tmax)
+    Ray::new(
+        Vec3::from_words(ray.origin),
+        Vec3::from_words(ray.dir),
+        ray.tmin,
+        ray.tmax,
+    )
 }
 
 // The record of 40 bytes.

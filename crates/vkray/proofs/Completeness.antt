@@ -1,8 +1,7 @@
 -- A good call is answered: each other answer is contradicted.
-use Rattle.std.proofs.Common.{◌≡◌, [], ℕ, ◌+◌, ◌<◌, ◌≤◌, List, length, drop, Option, Some, None, Result, Ok, Err, refl, ap, sym, subst, ◌∙◌, ◌⊎◌, inl, inr, arith, Global}
+use Rattle.std.proofs.Common.{◌≡◌, [], ℕ, ◌+◌, ◌<◌, List, length, drop, Option, Some, None, Ok, Err, ap, sym, subst, ◌∙◌, inl, inr, arith, Global}
 use Rattle.std.specs.Prelude.{String, IfSome}
 use Rattle.ray_cmd.specs.declared.command.Command.{Command}
-use Rattle.ray_cmd.specs.Recordings.{recording_of}
 use Rattle.ray_rules.specs.Refusals.{static_refusal}
 use Rattle.ray_state.specs.Run.{text_before}
 use Rattle.vkray.specs.declared.status.Status.{Status}
@@ -10,7 +9,7 @@ use Rattle.vkray.specs.declared.status.Status.TheVariants as statuses
 use Rattle.vkray.specs.declared.stop.Stop.{Stop}
 use Rattle.vkray.specs.declared.stop.Stop.TheVariants.{BadWords, ReadFault, TooLong, NotJson, BadShape, Unbuilt, Refused, NoMemory}
 use Rattle.vkray.specs.Answer.{Ending, answer_of, data_refusal, refused_or, run_of, run_of_reading, run_with, unbuilt_in}
-use Rattle.vkray.specs.Call.{Reading, Writing, Answers, IsAnswerOfInput, IsCompleted, IsEnding, IsGoodCall, IsRead, IsSent, IsTooLong, IsWritten, most_bytes}
+use Rattle.vkray.specs.Call.{Reading, Writing, Answers, IsAnswerOfInput, IsCompleted, IsEnding, IsGoodCall, IsRead, IsSent, IsTooLong, most_bytes}
 use Rattle.vkray.specs.Written.{status_of, text_of}
 
 -- the run of a recording that breaks no rule and whose commands have built forms is its text

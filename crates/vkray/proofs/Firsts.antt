@@ -1,5 +1,5 @@
 -- The first number below another that has something.
-use Rattle.std.proofs.Common.{◌≡◌, ◌<◌, ◌≤◌, ◌+◌, ◌∙◌, ◌⊎◌, ℕ, zero, suc, true, false, List, length, Option, Some, None, refl, ap, sym, subst, arith, inl, inr, add-one}
+use Rattle.std.proofs.Common.{◌≡◌, ◌<◌, ◌≤◌, ◌+◌, ◌∙◌, ℕ, zero, suc, List, length, Option, Some, None, refl, ap, sym, arith, inl, inr}
 use Rattle.std.proofs.lemmas.Bool.{cases_lt}
 use Rattle.std.specs.Option.{option_or}
 use Rattle.std.specs.Prelude.{IfOk, IfSome, IfNone, OnOk, Result, Ok, Err, Vec, if◌then◌else◌, option_map}
@@ -8,13 +8,13 @@ use Rattle.ray_cmd.specs.declared.command.Command.{Command}
 use Rattle.ray_cmd.specs.declared.refusal.Refusal.{Refusal}
 use Rattle.ray_cmd.specs.declared.rule.Rule.{Rule}
 use Rattle.ray_cmd.specs.declared.rule.Rule.TheVariants.{X}
-use Rattle.ray_state.specs.Meaning.{Breaks, Fault}
-use Rattle.ray_state.specs.Run.{fault_of, outcome_at, text_before, IsClean, IsRefusal}
+use Rattle.ray_state.specs.Meaning.{Fault}
+use Rattle.ray_state.specs.Run.{fault_of, text_before, IsClean, IsRefusal}
 use Rattle.vkray.specs.declared.run_fault.RunFault.{RunFault}
 use Rattle.vkray.specs.declared.run_fault.RunFault.TheVariants.{Refused, NoMemory}
 use Rattle.vkray.specs.Endings.{IsRunBelow}
 use Rattle.vkray.specs.Answer.{first_below, data_refusal, data_refusal_at, unbuilt_at, unbuilt_in}
-use Rattle.vkray.specs.PathForm.{agrees_at, IsBuilt, IsFirstUnbuilt}
+use Rattle.vkray.specs.PathForm.{IsBuilt, IsFirstUnbuilt}
 
 -- none has anything
 pub none_below : {A : Type 0} (f : ℕ → Option A) (n : ℕ) → ((k : ℕ) → k < n → f k ≡ None) → first_below f n ≡ None

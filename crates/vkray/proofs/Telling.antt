@@ -1,5 +1,5 @@
 -- From why there is no text to what is written.
-use Rattle.std.proofs.Common.{◌≡◌, ℕ, List, Result, Ok, Err, Global, Vec, true, sym, subst}
+use Rattle.std.proofs.Common.{◌≡◌, ℕ, List, Result, Ok, Err, Global, Vec, true, subst}
 use Rattle.std.specs.Prelude.{String, IfOk, OnOk}
 use Rattle.std.specs.declared.alloc.AllocError.{AllocError}
 use Rattle.vkray.specs.declared.reply.Reply.{Reply}

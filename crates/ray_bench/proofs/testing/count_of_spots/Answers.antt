@@ -1,6 +1,6 @@
-use Rattle.std.proofs.Common.{◌≡◌, ◌+◌, sym, subst, true, false, arith, rules}
+use Rattle.std.proofs.Common.{◌≡◌, ◌+◌, sym, subst, false, arith, rules}
 use Rattle.std.specs.Prelude.{IsTrue}
-use Rattle.ray_bench.specs.Spots.{IsMet, AreMet}
+use Rattle.ray_bench.specs.Spots.{AreMet}
 use Rattle.ray_bench.proofs.Spots.{AreMet-some, AreMet-none}
 use Rattle.ray_bench.proofs.testing.count_of_spots.Goals as goal
 use Rattle.ray_bench.proofs.testing.count_of_spots.Goals.{then-is_met, else-is_met}

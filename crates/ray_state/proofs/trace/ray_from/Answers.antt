@@ -9,8 +9,8 @@ use Rattle.ray_state.proofs.trace.ray_from.Goals as goal
 pub returns : goal.returns
 returns c =
     let r = c.record_in-ray.result in
-    let read : RayValue = ray_value c.point.result c.point-2.result r.tmin r.tmax in
-    let same : read ≡ recorded_ray r = λ i. ray_value (c.point.ensures i) (c.point-2.ensures i) r.tmin r.tmax in
+    let read : RayValue = ray_value c.from_words.result c.from_words-2.result r.tmin r.tmax in
+    let same : read ≡ recorded_ray r = λ i. ray_value (c.from_words.ensures i) (c.from_words-2.ensures i) r.tmin r.tmax in
     where_so-SomeIff (ray_decided read) c.new.result read c.new.ensures
     ∙ (ap (λ (r : RayValue). where_so (ray_decided r) r) same
     ∙ ap (λ (r : RayRecord). where_so (ray_decided (recorded_ray r)) (recorded_ray r)) c.record_in-ray.ensures)

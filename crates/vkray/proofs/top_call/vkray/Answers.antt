@@ -1,4 +1,4 @@
-use Rattle.std.proofs.Common.{inl, inr}
+use Rattle.std.proofs.Common.{inr}
 use Rattle.vkray.proofs.Completeness.{completed}
 use Rattle.vkray.proofs.Telling.{told_of}
 use Rattle.vkray.proofs.top_call.vkray.Goals as goal
