@@ -1,0 +1,223 @@
+-- Each kind of step keeps the claim rule.
+use Rattle.std.proofs.Common.{◌≡◌, ℕ, ◌+◌, ◌%◌, ◌^◌, ◌<◌, ◌≤◌, Bool, true, false, cond, min, ◌||◌, List, [], ◌∷◌, ◌++◌, length, get_or, set, sym, refl, ap, ◌∙◌, subst, arith, length-set, length-append, get_or-set_same, ⊎_elim, ◌⊎◌, inl, inr, true≢false}
+use Rattle.std.proofs.Math.Nat.{min-eq_right, min-le_right}
+use mathlib.Core.Option.{none, some, some-injective, some-ne-none}
+use mathlib.Core.Logic.{dite}
+use native.Mathlib.Decide.{dec_le}
+use lib.ListN.{get_elem?}
+use Rattle.atomic_table.specs.Table.{State, Me, step, keeps, stepped, Allows, Splits, Joins, Final, Seen}
+use Rattle.atomic_table.proofs.Lists.{at_set, at_snoc}
+use Rattle.ray_claim.specs.declared.rule.View.{View}
+use Rattle.ray_claim.specs.Rule.{times, once_below, mark, IsClaimed, HasClaims}
+use Rattle.ray_claim.specs.Steps.{knows, cut, fresh, both, spent, Draws}
+use Rattle.ray_claim.proofs.Sums.{total_set, total_snoc, part_le, marks_le, times_append, once_more, once_full, short, short_of_min}
+
+-- a fact about each view after a change of one
+each_set : (F : View → Type 0) (views : List View) (id : ℕ) (w : View) → F w → ((j : ℕ) (v : View) → get_elem? views j ≡ some v → F v)
+    → (j : ℕ) (v : View) → get_elem? (set views id w) j ≡ some v → F v
+each_set F views id w mine all j v at = ⊎_elim (λ t. subst F t.1 mine) (λ t. all j v t.1) (at_set views id j w v at)
+
+-- a fact about each view after one is added
+each_snoc : (F : View → Type 0) (views : List View) (w : View) → F w → ((j : ℕ) (v : View) → get_elem? views j ≡ some v → F v)
+    → (j : ℕ) (v : View) → get_elem? (views ++ w ∷ []) j ≡ some v → F v
+each_snoc F views w mine all j v at = ⊎_elim (λ t. all j v t) (λ e. subst F e mine) (at_snoc views w v j at)
+
+-- the mark of a view by its two parts
+abbrev marked : Bool → Bool → ℕ
+marked ended spent = cond (ended || spent) 1 0
+
+-- the word doesn't wrap
+no_wrap : (n c : ℕ) (views : List View) → n < 2 ^ 32 → IsClaimed n c views → (c + 1) % 2 ^ 64 ≡ c + 1
+no_wrap n c views small r = let most = r.at_most in let seats = r.seats in let marks = marks_le views in omega arith
+
+-- the rule of the table, where the word becomes k and one view becomes w
+placed : (n : ℕ) (s : State (Unit {0}) View) (k id : ℕ) (held : List (ℕ × Unit {0})) (w : View) → length s.words ≡ 1
+    → IsClaimed n k (set s.views id w) → HasClaims n (stepped s 0 k id held w keeps)
+placed n s k id held w one r =
+    (length-set s.words 0 k ∙ one, subst (λ m. IsClaimed n m (set s.views id w)) (sym (get_or-set_same s.words 0 k 0 (omega arith))) r)
+
+module _ (n c : ℕ) (views : List View) (id : ℕ) (v : View) (r : IsClaimed n c views) (at : get_elem? views id ≡ some v) (going : v.ended ≡ false) (unspent : v.spent ≡ false) where
+  unmarked : mark v ≡ 0
+  unmarked = ap (λ (m : Bool × Bool). marked m.0 m.1) (λ i. (going i, unspent i))
+
+  -- a draw that finds a number
+  drawn_one : c < n → IsClaimed n (c + 1) (set views id (knows (v.drawn ++ c ∷ []) v.ended v.spent v.splits))
+  drawn_one less = let w : View = knows (v.drawn ++ c ∷ []) v.ended v.spent v.splits in record {
+    each_once = λ x.
+        let t = total_set (λ u. times x u.drawn) views id v w at in
+        let longer = times_append x v.drawn (c ∷ []) in
+        let more = once_more x c n less in
+        let old = r.each_once x in
+        omega arith;
+    ended = each_set (λ u. u.ended ≡ true → n ≤ c + 1) views id w (λ e. absurd (true≢false (sym e ∙ going))) (λ j u there e. let le = r.ended j u there e in omega arith);
+    at_most = omega arith;
+    seats = let t = total_set (λ u. u.splits) views id v w at in let l = length-set views id w in let old = r.seats in omega arith;
+    spent = each_set (λ u. u.spent ≡ true → (u.drawn ≡ []) × (u.splits ≡ 0)) views id w (λ e. absurd (true≢false (sym e ∙ unspent))) r.spent;
+  }
+
+  -- a draw that finds none
+  drawn_none : n ≤ c → IsClaimed n (c + 1) (set views id (knows v.drawn true v.spent v.splits))
+  drawn_none full = let w : View = knows v.drawn true v.spent v.splits in record {
+    each_once = λ x.
+        let t = total_set (λ u. times x u.drawn) views id v w at in
+        let same = once_full x c n full in
+        let old = r.each_once x in
+        omega arith;
+    ended = each_set (λ u. u.ended ≡ true → n ≤ c + 1) views id w (λ _. omega arith) (λ j u there e. let le = r.ended j u there e in omega arith);
+    at_most =
+        let t = total_set mark views id v w at in
+        let was = unmarked in
+        let now : mark w ≡ 1 = refl in
+        let old = r.at_most in
+        omega arith;
+    seats = let t = total_set (λ u. u.splits) views id v w at in let l = length-set views id w in let old = r.seats in omega arith;
+    spent = each_set (λ u. u.spent ≡ true → (u.drawn ≡ []) × (u.splits ≡ 0)) views id w (λ e. absurd (true≢false (sym e ∙ unspent))) r.spent;
+  }
+
+-- what a seat has drawn stands there once, below the lesser of c and n
+drawn_once : (n c : ℕ) (views : List View) (id : ℕ) (v : View) → IsClaimed n c views → get_elem? views id ≡ some v
+    → (x : ℕ) → times x v.drawn ≤ once_below x (min c n)
+drawn_once n c views id v r at x = let old = r.each_once x in let part = part_le (λ u. times x u.drawn) views id v at in omega arith
+
+-- a draw keeps the rule, and tells what it tells
+pub draws : (n slots id : ℕ) (me : Me (Unit {0}) View) → n < 2 ^ 32 → me.0.ended ≡ false → me.0.spent ≡ false
+    → Allows (HasClaims n) slots id me 0 (λ x. (x + 1) % 2 ^ 64) (Draws n (step slots 0 1 0 none) me)
+draws n slots id me small going unspent s r _ at _ =
+    let c : ℕ = get_or s.words 0 0 in
+    let v : View = me.0 in
+    let fit = no_wrap n c s.views small r.1 in
+    dite (dec_le n c)
+    (λ full. let w : View = knows v.drawn true v.spent v.splits in (
+      w,
+      keeps,
+      tt,
+      rw fit (placed n s (c + 1) id me.1 w r.0 (drawn_none n c s.views id v r.1 at going unspent full)),
+      (refl, refl, refl, (λ less. absurd (omega arith)), λ _. (refl, refl)),
+    ))
+    (λ more. let w : View = knows (v.drawn ++ c ∷ []) v.ended v.spent v.splits in
+    let new = drawn_one n c s.views id v r.1 at going unspent (omega arith) in (
+      w,
+      keeps,
+      tt,
+      rw fit (placed n s (c + 1) id me.1 w r.0 new),
+      (refl, refl, refl, (λ _. (refl, refl, grown n c s.views id v w at new)), λ full. absurd (more full)),
+    ))
+  where
+    grown : (n c : ℕ) (views : List View) (id : ℕ) (v w : View) → get_elem? views id ≡ some v → IsClaimed n (c + 1) (set views id w) → length w.drawn ≤ n
+    grown n c views id v w at new = short_of_min (c + 1) n w.drawn (λ x.
+        let old = new.each_once x in
+        let t = total_set (λ u. times x u.drawn) views id v w at in
+        let part = part_le (λ u. times x u.drawn) views id v at in
+        omega arith)
+
+-- the same, where the play is told n by another name
+pub draws_at : (n m slots id : ℕ) (me : Me (Unit {0}) View) → m ≡ n → n < 2 ^ 32 → me.0.ended ≡ false → me.0.spent ≡ false
+    → Allows (HasClaims n) slots id me 0 (λ x. (x + 1) % 2 ^ 64) (Draws m (step slots 0 1 0 none) me)
+draws_at n m slots id me same small going unspent =
+    subst (λ k. Allows (HasClaims n) slots id me 0 (λ x. (x + 1) % 2 ^ 64) (Draws k (step slots 0 1 0 none) me)) (sym same) (draws n slots id me small going unspent)
+
+pub splits : (n id : ℕ) (v : View) → v.spent ≡ false → 0 < v.splits → Splits (HasClaims n) id v (cut v) (fresh v)
+splits n id v unspent left s r at = (
+  r.0,
+  record {
+    each_once = λ x.
+        let t = total_set (λ u. times x u.drawn) s.views id v (cut v) at in
+        let a = total_snoc (λ u. times x u.drawn) (set s.views id (cut v)) (fresh v) in
+        let old = r.1.each_once x in
+        omega arith;
+    ended = each_snoc (λ u. u.ended ≡ true → n ≤ get_or s.words 0 0) (set s.views id (cut v)) (fresh v) (r.1.ended id v at)
+        (each_set (λ u. u.ended ≡ true → n ≤ get_or s.words 0 0) s.views id (cut v) (r.1.ended id v at) r.1.ended);
+    at_most =
+        let t = total_set mark s.views id v (cut v) at in
+        let a = total_snoc mark (set s.views id (cut v)) (fresh v) in
+        let old = r.1.at_most in
+        omega arith;
+    seats =
+        let t = total_set (λ u. u.splits) s.views id v (cut v) at in
+        let a = total_snoc (λ u. u.splits) (set s.views id (cut v)) (fresh v) in
+        let l = length-set s.views id (cut v) in
+        let m = length-append (set s.views id (cut v)) (fresh v ∷ []) in
+        let old = r.1.seats in
+        omega arith;
+    spent = each_snoc (λ u. u.spent ≡ true → (u.drawn ≡ []) × (u.splits ≡ 0)) (set s.views id (cut v)) (fresh v) (λ e. absurd (true≢false (sym e)))
+        (each_set (λ u. u.spent ≡ true → (u.drawn ≡ []) × (u.splits ≡ 0)) s.views id (cut v) (λ e. absurd (true≢false (sym e ∙ unspent))) r.1.spent);
+  },
+)
+
+or_true : (a b : Bool) → (a || b) ≡ true → (a ≡ true) ⊎ (b ≡ true)
+or_true true b e = inl refl
+or_true false b e = inr e
+
+-- a join has as many marks as before, at least
+more_marks : (a b p q : Bool) → p ≡ false → q ≡ false → marked a p + marked b q ≤ marked (a || b) p + 1
+more_marks true true p q e f = omega arith
+more_marks true false p q e f = subst (λ z. marked true p + marked false z ≤ marked true p + 1) (sym f) (omega arith)
+more_marks false true p q e f = subst (λ z. marked false z + marked true q ≤ marked true z + 1) (sym e) (omega arith)
+more_marks false false p q e f = subst (λ z. marked false p + marked false z ≤ marked false p + 1) (sym f) (omega arith)
+
+pub joins : (n id other : ℕ) (v w : View) → v.spent ≡ false → w.spent ≡ false → Joins (HasClaims n) id v other w (both v w) spent
+joins n id other v w unspent_v unspent_w s r at apart there =
+    let b : View = both v w in
+    let was : get_elem? s.views other ≡ some w = ⊎_elim (λ t. absurd (apart t.0)) (λ t. t.1) (at_set s.views id other b w there) in
+    let ws : List View = set s.views id b in (
+      r.0,
+      record {
+        each_once = λ x.
+            let t = total_set (λ u. times x u.drawn) s.views id v b at in
+            let a = total_set (λ u. times x u.drawn) ws other w spent there in
+            let longer = times_append x v.drawn w.drawn in
+            let old = r.1.each_once x in
+            omega arith;
+        ended = each_set (λ u. u.ended ≡ true → n ≤ get_or s.words 0 0) ws other spent (λ e. absurd (true≢false (sym e)))
+            (each_set (λ u. u.ended ≡ true → n ≤ get_or s.words 0 0) s.views id b
+            (λ e. ⊎_elim (r.1.ended id v at) (r.1.ended other w was) (or_true v.ended w.ended e)) r.1.ended);
+        at_most =
+            let t = total_set mark s.views id v b at in
+            let a = total_set mark ws other w spent there in
+            let m = more_marks v.ended w.ended v.spent w.spent unspent_v unspent_w in
+            let old = r.1.at_most in
+            omega arith;
+        seats =
+            let t = total_set (λ u. u.splits) s.views id v b at in
+            let a = total_set (λ u. u.splits) ws other w spent there in
+            let l = length-set s.views id b in
+            let m = length-set ws other spent in
+            let old = r.1.seats in
+            omega arith;
+        spent = each_set (λ u. u.spent ≡ true → (u.drawn ≡ []) × (u.splits ≡ 0)) ws other spent (λ _. (refl, refl))
+            (each_set (λ u. u.spent ≡ true → (u.drawn ≡ []) × (u.splits ≡ 0)) s.views id b (λ e. absurd (true≢false (sym e ∙ unspent_v))) r.1.spent);
+      },
+    )
+
+-- what a seat knows when the table is closed
+pub record IsClosed (n : ℕ) (v : View) (answer : ℕ) : Type 0 where
+  pub once : (x : ℕ) → times x v.drawn ≤ once_below x answer
+  pub counted : length v.drawn ≤ answer
+  pub limited : answer ≤ n
+  pub ended : v.ended ≡ true → answer ≡ n
+
+first_word : (ws : List ℕ) (c : ℕ) → get_elem? ws 0 ≡ some c → get_or ws 0 0 ≡ c
+first_word [] c at = absurd (some-ne-none c (sym at))
+first_word (x ∷ xs) c at = some-injective x c at
+
+closed : (n c : ℕ) (views : List View) (id : ℕ) (v : View) → IsClaimed n c views → get_elem? views id ≡ some v → IsClosed n v (min c n)
+closed n c views id v r at = let once = drawn_once n c views id v r at in record {
+  once = once;
+  counted = short (min c n) v.drawn once;
+  limited = min-le_right c n;
+  ended = λ e. min-eq_right (r.ended id v at e);
+}
+
+pub closes : (n id : ℕ) (v : View) (ws : List ℕ) (xs : List (Unit {0})) (c : ℕ) → Final (Seen (HasClaims n) id v) ws xs → get_elem? ws 0 ≡ some c → IsClosed n v (min c n)
+closes n id v ws xs c final word =
+    let s : State (Unit {0}) View = final.0 in
+    let is : get_or s.words 0 0 ≡ c = ap (λ (l : List ℕ). get_or l 0 0) final.2 ∙ first_word ws c word in
+    closed n c s.views id v (subst (λ k. IsClaimed n k s.views) is final.1.0.1) final.1.1
+
+-- the same of the list and the answer by the names that a caller has for them
+pub closes_at : (n m id : ℕ) (v : View) (drawn ws : List ℕ) (xs : List (Unit {0})) (c answer : ℕ) → Final (Seen (HasClaims m) id v) ws xs → get_elem? ws 0 ≡ some c
+    → m ≡ n → v.drawn ≡ drawn → answer ≡ min c n → ((x : ℕ) → times x drawn ≤ once_below x answer) × (length drawn ≤ answer)
+closes_at n m id v drawn ws xs c answer final word same is least =
+    let P : List ℕ × ℕ → Type 0 = λ z. ((x : ℕ) → times x z.0 ≤ once_below x z.1) × (length z.0 ≤ z.1) in
+    let end = closes m id v ws xs c final word in
+    subst P (λ i. (is i, (ap (min c) same ∙ sym least) i)) (end.once, end.counted)

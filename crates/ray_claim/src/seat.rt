@@ -1,0 +1,29 @@
+use crate::rule::View;
+use atomic_table::Seat;
+use std::marker::Model;
+
+/// The token of one caller that draws. It takes no memory. Contracts see the numbers that were
+/// drawn by it, in order, whether it is ended, how often it can still be split, and the table to
+/// which it belongs; it is ended where a draw by it had no number, and where an ended seat was
+/// joined into it or it was split from one. (Own.)
+#[derive(Drop)]
+pub struct ClaimSeat {
+    pub(crate) seat: Seat<(), View>,
+    pub(crate) ended: bool,
+}
+
+impl Model for ClaimSeat {
+    ghost use Rattle.std.specs.Prelude.{◌≡◌, false, []};
+    ghost use Rattle.ray_claim.specs.Seats.{SeatView};
+
+    ghost Value = { SeatView };
+
+    ghost view = { λ s. record {
+      table = s.seat.table_id;
+      drawn = s.seat.me.0.drawn;
+      ended = s.seat.me.0.ended;
+      splits = s.seat.me.0.splits;
+    } };
+
+    ghost invariant = { λ s. (s.seat.me.1 ≡ []) × (s.seat.me.0.spent ≡ false) × (s.ended ≡ s.seat.me.0.ended) };
+}
