@@ -1,14 +1,135 @@
+ghost use Rattle.std.specs.Prelude.{◌≡◌};
+ghost use Rattle.std.specs.Thread.{IsSync};
+
 use crate::{ClaimSeat, Claims};
-use std::alloc::AllocError;
-use std::test::Fail;
+use std::alloc::{AllocError, Global};
+use std::thread::{self, Threads};
 
 #[test]
 fn two_numbers_and_no_more(rt: HostRuntime) -> Result<(), AllocError> {
     let (claims, mut seat) = Claims::new(rt.alloc(), 2)?;
+    let mut late = claims.split(&mut seat)?;
     assert!(rt; claims.draw(&mut seat) == Some(0));
     assert!(rt; claims.draw(&mut seat) == Some(1));
-    assert!(rt; claims.draw(&mut seat) == None);
-    assert!(rt; claims.draw(&mut seat) == None);
+    assert!(rt; claims.draw(&mut late).is_none());
+    assert!(rt; claims.draw(&mut seat).is_none());
+    assert!(rt; claims.draw(&mut seat).is_none());
+    assert!(rt; claims.join(&mut seat, late).is_ok());
     assert!(rt; claims.close(seat) == 2);
+    Ok(())
+}
+
+#[test]
+fn no_number_below_0(rt: HostRuntime) -> Result<(), AllocError> {
+    let (claims, mut seat) = Claims::new(rt.alloc(), 0)?;
+    assert!(rt; claims.draw(&mut seat).is_none());
+    assert!(rt; claims.close(seat) == 0);
+    Ok(())
+}
+
+// A seat after its thread, and what it drew.
+#[derive(Drop)]
+struct Worked {
+    seat: ClaimSeat,
+    numbers: Result<Vec<u32>, AllocError>,
+}
+
+// Draws until no number is left.
+fn draw_all(alloc: Global, claims: &Claims, seat: &mut ClaimSeat) -> Result<Vec<u32>, AllocError>
+    requires { seat.old.table ≡ claims.now.table }
+    ensures { seat.new.table ≡ seat.old.table }
+{
+    let mut numbers = Vec::new(alloc);
+    while let Some(number) = claims.draw(seat) {
+        numbers.push(number)?;
+    }
+    Ok(numbers)
+}
+
+// The work of one thread.
+fn work(alloc: Global, claims: &Claims, mut seat: ClaimSeat) -> Worked
+    requires { seat.table ≡ claims.now.table }
+    ensures { result.seat.table ≡ claims.now.table }
+{
+    let numbers = draw_all(alloc, claims, &mut seat);
+    Worked { seat, numbers }
+}
+
+// Puts together what two threads did.
+fn together(claims: &Claims, first: Worked, second: Worked) -> Worked
+    requires first { first.seat.table ≡ claims.now.table }
+    requires second { second.seat.table ≡ claims.now.table }
+    ensures { result.seat.table ≡ claims.now.table }
+{
+    let Worked { mut seat, numbers } = first;
+    let _ = claims.join(&mut seat, second.seat);
+    let numbers = joined(numbers, second.numbers);
+    Worked { seat, numbers }
+}
+
+// The numbers of both.
+fn joined(
+    first: Result<Vec<u32>, AllocError>,
+    second: Result<Vec<u32>, AllocError>,
+) -> Result<Vec<u32>, AllocError> {
+    let mut all = first?;
+    let more = second?;
+    all.extend_from_slice(more.as_slice())?;
+    Ok(all)
+}
+
+// Two threads draw, each with a seat of its own.
+fn by_two<R: Threads + Sync>(
+    rt: &R,
+    alloc: Global,
+    claims: &Claims,
+    one: ClaimSeat,
+    other: ClaimSeat,
+) -> Worked
+    requires one { one.table ≡ claims.now.table }
+    requires other { other.table ≡ claims.now.table }
+    ensures { result.seat.table ≡ claims.now.table }
+{
+    let (one, other) = thread::join(
+        rt,
+        move || work(alloc, claims, one),
+        move || work(alloc, claims, other),
+    );
+    together(claims, one, other)
+}
+
+// Four threads draw all numbers below n: the numbers, in order, and what `close` answers.
+fn by_four<R: Threads + Sync>(
+    rt: &R,
+    alloc: Global,
+    n: u32,
+) -> Result<(Vec<u32>, u64), AllocError> {
+    let (claims, mut seat) = Claims::new(alloc, n)?;
+    let second = claims.split(&mut seat)?;
+    let third = claims.split(&mut seat)?;
+    let fourth = claims.split(&mut seat)?;
+    let shared = &claims;
+    let (left, right) = thread::join(
+        rt,
+        move || -> Worked
+            requires { IsSync R.row × (seat.table ≡ shared.now.table) × (second.table ≡ shared.now.table) }
+            ensures { result.seat.table ≡ shared.entry.now.table }
+        { by_two(rt, alloc, shared, seat, second) },
+        move || -> Worked
+            requires { IsSync R.row × (third.table ≡ shared.now.table) × (fourth.table ≡ shared.now.table) }
+            ensures { result.seat.table ≡ shared.entry.now.table }
+        { by_two(rt, alloc, shared, third, fourth) },
+    );
+    let Worked { seat, numbers } = together(shared, left, right);
+    let mut numbers = numbers?;
+    numbers.as_mut_slice().sort_unstable();
+    Ok((numbers, claims.close(seat)))
+}
+
+#[test]
+fn four_threads_draw_each_number_once(rt: HostRuntime) -> Result<(), AllocError> {
+    let (numbers, count) = by_four(&rt, rt.alloc(), 10_000)?;
+    assert!(rt; count == 10_000);
+    assert!(rt; numbers.as_slice().iter().copied().eq(0..10_000));
     Ok(())
 }
