@@ -4,6 +4,7 @@ use Rattle.std.specs.Prelude.{◌≡◌, ℕ, ◌+◌, ◌-◌, ◌<◌, ◌≤�
 use Rattle.atomic_table.specs.Table.{Me, Step}
 use Rattle.ray_claim.specs.declared.rule.View.{View}
 
+-- a view of these parts
 abbrev pub knows : List ℕ → Bool → Bool → ℕ → View
 knows drawn ended spent splits =
     record { drawn = drawn; ended = ended; spent = spent; splits = splits }

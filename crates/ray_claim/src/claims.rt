@@ -25,7 +25,8 @@ impl Model for Claims {
 
     ghost view = { λ c. record { table = c.table.shared.table_id; n = c.n } };
 
-    ghost invariant = { λ c. (c.table.shared.table_id.words ≡ 1) × (c.table.shared.table_id.slots ≡ 0)
+    ghost invariant = { λ c. (c.table.shared.table_id.words ≡ 1)
+        × (c.table.shared.table_id.slots ≡ 0)
         × (c.table.shared.key ≡ c.n) × (c.n < 2 ^ 32) };
 }
 
@@ -84,7 +85,8 @@ impl Claims {
         requires own { seat.old.table ≡ self.now.table }
         requires left { 0 < seat.old.splits }
         ensures ok { IsOk result }
-        ensures old { seat.new ≡ seat_view seat.old.table seat.old.drawn seat.old.ended (seat.old.splits - 1) }
+        ensures old { seat.new ≡ seat_view seat.old.table seat.old.drawn seat.old.ended
+            (seat.old.splits - 1) }
         ensures new { IfOk result (λ s. s ≡ seat_view seat.old.table [] seat.old.ended 0) }
     {
         let ended = seat.ended;
@@ -92,9 +94,9 @@ impl Claims {
         Ok(ClaimSeat { seat, ended })
     }
 
-    /// Puts what `from` has drawn behind what `into` has, and adds its splits. `into` is ended where
-    /// either was. The refusal, which would hand `from` back, never comes (`ok`): a join takes no
-    /// memory.
+    /// Puts what `from` has drawn behind what `into` has, and adds its splits. `into` is ended
+    /// where either was. The refusal, which would hand `from` back, never comes (`ok`): a join
+    /// takes no memory.
     pub fn join(&self, into: &mut ClaimSeat, from: ClaimSeat) -> Result<(), ClaimSeat>
         requires own { into.old.table ≡ self.now.table }
         requires from { from.table ≡ self.now.table }

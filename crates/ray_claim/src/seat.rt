@@ -14,16 +14,13 @@ pub struct ClaimSeat {
 
 impl Model for ClaimSeat {
     ghost use Rattle.std.specs.Prelude.{◌≡◌, false, []};
-    ghost use Rattle.ray_claim.specs.Seats.{SeatView};
+    ghost use Rattle.ray_claim.specs.Seats.{SeatView, seat_view};
 
     ghost Value = { SeatView };
 
-    ghost view = { λ s. record {
-      table = s.seat.table_id;
-      drawn = s.seat.me.0.drawn;
-      ended = s.seat.me.0.ended;
-      splits = s.seat.me.0.splits;
-    } };
+    ghost view = { λ s. seat_view s.seat.table_id s.seat.me.0.drawn s.seat.me.0.ended
+        s.seat.me.0.splits };
 
-    ghost invariant = { λ s. (s.seat.me.1 ≡ []) × (s.seat.me.0.spent ≡ false) × (s.ended ≡ s.seat.me.0.ended) };
+    ghost invariant = { λ s. (s.seat.me.1 ≡ []) × (s.seat.me.0.spent ≡ false)
+        × (s.ended ≡ s.seat.me.0.ended) };
 }

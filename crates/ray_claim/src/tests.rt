@@ -1,5 +1,6 @@
 ghost use Rattle.std.specs.Prelude.{◌≡◌};
 ghost use Rattle.std.specs.Thread.{IsSync};
+ghost use Rattle.ray_claim.specs.Seats.{AreOf};
 
 use crate::{ClaimSeat, Claims};
 use std::alloc::{AllocError, Global};
@@ -112,11 +113,11 @@ fn by_four<R: Threads + Sync>(
     let (left, right) = thread::join(
         rt,
         move || -> Worked
-            requires { IsSync R.row × (seat.table ≡ shared.now.table) × (second.table ≡ shared.now.table) }
+            requires { IsSync R.row × AreOf shared.now.table seat second }
             ensures { result.seat.table ≡ shared.entry.now.table }
         { by_two(rt, alloc, shared, seat, second) },
         move || -> Worked
-            requires { IsSync R.row × (third.table ≡ shared.now.table) × (fourth.table ≡ shared.now.table) }
+            requires { IsSync R.row × AreOf shared.now.table third fourth }
             ensures { result.seat.table ≡ shared.entry.now.table }
         { by_two(rt, alloc, shared, third, fourth) },
     );
