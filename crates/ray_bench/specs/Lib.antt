@@ -8,3 +8,4 @@ pub mod HexItems
 pub mod Readings
 pub mod Lines
 pub mod Verdicts
+pub mod Drawers

@@ -15,6 +15,9 @@
 //! of it: the line of its refusal, as the program's `run` prints it, or `ok`; `not-json` or
 //! `bad-shape I` where it is none.
 //!
+//! `ray_bench draws 4 20000000` draws that many numbers of one shared word by four threads, or by
+//! one where the digit is 1, and prints how many were drawn.
+//!
 //! Words that are none of its own give the line `bad-words` and status 3.
 //!
 //! The contract that `main` uses is that of `count_hits`: the count is that of `AreHits` of
@@ -26,6 +29,7 @@
 
 mod bench_error;
 mod counted;
+mod drawing;
 mod field;
 mod hex_items;
 mod input;
@@ -42,6 +46,7 @@ mod verdict;
 mod work;
 
 use crate::bench_error::BenchError;
+use crate::drawing::{Drawers, count_drawn};
 use crate::input::input;
 use crate::job::Job;
 use crate::line::line;
@@ -52,9 +57,13 @@ use ray_io::StdSource;
 use std::env;
 use std::process::ExitCode;
 use std::rt::Env;
+use std::thread::Threads;
 
 /// The word that asks what the static rules say of a recording.
 const STATIC_RULES: &str = "static-rules";
+
+/// The word that asks for draws.
+const DRAWS: &str = "draws";
 
 fn main(rt: HostRuntime) -> ExitCode {
     match run(&rt) {
@@ -68,14 +77,16 @@ fn main(rt: HostRuntime) -> ExitCode {
 }
 
 // What the words ask for.
-fn run<R: Env + AllocGlobal + Print + Input>(rt: &R) -> Result<(), BenchError> {
+fn run<R: Env + AllocGlobal + Print + Input + Threads + Sync>(rt: &R) -> Result<(), BenchError> {
     let words: Vec<String> = env::args(rt)?.skip(1).collect(rt.alloc())?;
     match words.as_slice() {
         [] => {
             report(rt, Job::LITTLE_PAIRS)?;
             report(rt, Job::LITTLE_HITS)?;
             report(rt, Job::LITTLE_BOX_SPANS)?;
-            report(rt, Job::LITTLE_BOX_REACHES)
+            report(rt, Job::LITTLE_BOX_REACHES)?;
+            draw(rt, "1", "300")?;
+            draw(rt, "4", "300")
         }
         [word] if word.as_str() == STATIC_RULES => {
             let bytes = input(rt.alloc(), &mut StdSource::new(rt.reader()))?;
@@ -87,8 +98,26 @@ fn run<R: Env + AllocGlobal + Print + Input>(rt: &R) -> Result<(), BenchError> {
             tell(rt, reading, bytes.as_slice())
         }
         [work, number] => report(rt, Job::parse(work.as_str(), number.as_str())?),
+        [word, threads, number] if word.as_str() == DRAWS => {
+            draw(rt, threads.as_str(), number.as_str())
+        }
         _ => Err(BenchError::BadWords),
     }
+}
+
+// Draws the numbers below a number, by so many threads, and prints how many were drawn.
+fn draw<R: AllocGlobal + Print + Threads + Sync>(
+    rt: &R,
+    threads: &str,
+    number: &str,
+) -> Result<(), BenchError> {
+    let drawers = Drawers::named(threads).ok_or(BenchError::BadWords)?;
+    let Ok(number) = number.parse::<u32>() else {
+        return Err(BenchError::BadWords);
+    };
+    let count = count_drawn(rt, rt.alloc(), drawers, number)?;
+    println!(rt; "draws {count}")?;
+    Ok(())
 }
 
 // Does the job and prints its line.
