@@ -1,0 +1,4 @@
+pub mod Advance
+pub mod Limits
+pub mod Chains
+pub mod Steps

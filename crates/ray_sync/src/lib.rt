@@ -1,0 +1,24 @@
+//! The order that barriers and waits give, decided: which command of a recording is ordered before
+//! which, and the wave of each, which is the length of the longest chain of commands that ends
+//! there.
+//!
+//! The layer above uses [`order_of`], whose clause says that what it gives is the order of the
+//! recording's commands, and with it [`Order::before`] and [`Order::wave`], which are `before` and
+//! `IsLongest` of ray_rules.
+//!
+//! It stands on ray_rules (the definitions) and ray_cmd (the commands). The set of earlier commands
+//! that have been handed on to a stage is always those below one number, of the commands of one
+//! stage; so a number for each two stages is all that is kept.
+#![tactic(auto)]
+
+mod front;
+mod fronts;
+mod kind;
+mod order;
+mod per_kind;
+mod sets;
+mod source;
+#[cfg(test)]
+mod tests;
+
+pub use crate::order::{Order, order_of};
