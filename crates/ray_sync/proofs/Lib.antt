@@ -1,4 +1,5 @@
 pub mod Advance
+pub mod Coverage
 pub mod Limits
 pub mod Chains
 pub mod Steps

@@ -4,7 +4,7 @@
 //!
 //! The layer above uses [`order_of`], whose clause says that what it gives is the order of the
 //! recording's commands, and with it [`Order::before`] and [`Order::wave`], which are `before` and
-//! `IsLongest` of ray_rules.
+//! `IsLongest` of ray_rules. [`covered_is_ordered`] is the law that what is covered is ordered.
 //!
 //! It stands on ray_rules (the definitions) and ray_cmd (the commands). The set of earlier commands
 //! that have been handed on to a stage is always those below one number, of the commands of one
@@ -14,6 +14,7 @@
 mod front;
 mod fronts;
 mod kind;
+mod laws;
 mod order;
 mod per_kind;
 mod sets;
@@ -21,4 +22,5 @@ mod source;
 #[cfg(test)]
 mod tests;
 
+pub use crate::laws::covered_is_ordered;
 pub use crate::order::{Order, order_of};
