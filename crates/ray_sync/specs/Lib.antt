@@ -1,3 +1,4 @@
+pub mod Carrying
 pub mod Covering
 pub mod Fronts
 pub mod Kinds

@@ -60,7 +60,7 @@ impl Front {
     }
 
     // The same once what the commands below a number did has reached these stages.
-    fn raised(self, stages: Stages, number: u32) -> Front
+    pub(crate) fn raised(self, stages: Stages, number: u32) -> Front
         ensures { result ≡ raised stages number self }
     {
         Front {
@@ -72,7 +72,7 @@ impl Front {
     }
 
     // The same after a `wait`, which is command number `n`.
-    fn waited(self, n: u32) -> Front
+    pub(crate) fn waited(self, n: u32) -> Front
         ensures { result ≡ waited n self }
     {
         Front {
@@ -104,7 +104,7 @@ impl Front {
 
     // Below which number a barrier, command number `n`, takes up what the commands did: all where
     // it takes it up directly, and else what has reached one of its source stages.
-    fn taken_up(self, direct: bool, n: u32, stages: Stages) -> u32
+    pub(crate) fn taken_up(self, direct: bool, n: u32, stages: Stages) -> u32
         ensures { result ≡ taken_up direct n stages self }
     {
         if direct { n } else { self.met(stages) }

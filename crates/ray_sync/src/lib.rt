@@ -5,12 +5,15 @@
 //! The layer above uses [`order_of`], whose clause says that what it gives is the order of the
 //! recording's commands, and with it [`Order::before`] and [`Order::wave`], which are `before` and
 //! `IsLongest` of ray_rules. [`covered_is_ordered`] is the law that what is covered is ordered.
+//! [`Carried`] says from a command to the next to which accesses what commands wrote is covered. It
+//! awaits the check of hazards.
 //!
 //! It stands on ray_rules (the definitions) and ray_cmd (the commands). The set of earlier commands
 //! that have been handed on to a stage is always those below one number, of the commands of one
 //! stage; so a number for each two stages is all that is kept.
 #![tactic(auto)]
 
+mod carried;
 mod front;
 mod fronts;
 mod kind;
@@ -22,5 +25,8 @@ mod source;
 #[cfg(test)]
 mod tests;
 
+pub use crate::carried::Carried;
+pub use crate::front::Front;
 pub use crate::laws::covered_is_ordered;
 pub use crate::order::{Order, order_of};
+pub use crate::source::Source;

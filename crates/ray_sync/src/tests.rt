@@ -1,5 +1,6 @@
-use crate::order_of;
+use crate::{Carried, Source, order_of};
 use ray_cmd::read_recording;
+use ray_rules::{AccessType, Stage};
 use std::alloc::AllocError;
 
 // Two fills of one range and a copy of it, with a barrier of transfers between the second fill and
@@ -23,6 +24,26 @@ fn order_of_a_barrier(rt: HostRuntime) -> Result<(), AllocError> {
             assert!(rt; !order.before(0, 1));
             assert!(rt; order.wave(1) == 0);
             assert!(rt; order.wave(3) == 1);
+        }
+        Err(_) => assert!(rt; false),
+    }
+    Ok(())
+}
+
+#[test]
+fn coverage_by_a_barrier(rt: HostRuntime) -> Result<(), AllocError> {
+    match read_recording(rt.alloc(), COMMANDS.as_bytes()) {
+        Ok(rec) => {
+            assert!(rt; rec.len() == 4);
+            let mut carried = Carried::none(Source {
+                stage: Stage::Transfer,
+                access: Some(AccessType::TransferWrite),
+            });
+            for n in 0..3 {
+                carried = carried.after(n, rec.command(n));
+            }
+            assert!(rt; carried.covers(1, Stage::Transfer, AccessType::TransferRead));
+            assert!(rt; !carried.covers(1, Stage::Transfer, AccessType::TransferWrite));
         }
         Err(_) => assert!(rt; false),
     }
