@@ -1,10 +1,11 @@
 //! Marks of cells that only rise: each range of cells is given a mark that is at least all marks
 //! before it, and asked for the greatest mark in it.
 //!
-//! [`Marks`] is the one type. Contracts see it as the list of the cells' marks. The layer above uses the clauses of [`Marks::mark`] and [`Marks::greatest`], each of which
-//! takes a logarithm of the number of cells in steps.
+//! [`Marks`] is the one type. Contracts see it as the list of the cells' marks. The layer above uses
+//! the clauses of [`Marks::mark`] and [`Marks::greatest`]: `is_marked` and `IsGreatest`, which go
+//! over that list. Each takes a number of steps that is logarithmic in the number of cells.
 //!
-//! It stands on std alone.
+//! It stands on std alone. It awaits the check of hazards.
 #![tactic(auto)]
 
 mod marks;

@@ -1,4 +1,4 @@
-ghost use Rattle.std.specs.Prelude.{◌≡◌, ◌≤◌, ◌<◌, ◌^◌, ◌*◌, ℕ, IfOk, length, replicate};
+ghost use Rattle.std.specs.Prelude.{◌≡◌, ◌≤◌, ◌^◌, ℕ, IfOk, length, replicate};
 ghost use Rattle.ray_marks.specs.Rising.{IsGreatest, is_marked, mark_of};
 ghost use Rattle.ray_marks.specs.Tree.{IsOver, cells_of, size_of, marks_of, no_mark};
 
