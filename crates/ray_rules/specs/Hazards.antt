@@ -6,6 +6,10 @@ use Rattle.std.specs.Option.{option_map_or}
 use Rattle.ray_cmd.specs.declared.command.Command.{Command}
 use Rattle.ray_cmd.specs.declared.place.Place.{Place}
 use Rattle.ray_cmd.specs.declared.place.Place.TheVariants.{Earlier}
+use Rattle.ray_ranges.specs.declared.range.Range.{Range}
+use Rattle.ray_ranges.specs.Meeting.{meets}
+use Rattle.ray_ranges.specs.Places.{bytes_of}
+use Rattle.ray_rules.specs.declared.byte_range.ByteRange.{ByteRange}
 use Rattle.ray_rules.specs.declared.live_buffer.LiveBuffer.{LiveBuffer}
 use Rattle.ray_rules.specs.declared.live_structure.LiveStructure.{LiveStructure}
 use Rattle.ray_rules.specs.declared.reach.Reach.{Reach}
@@ -16,7 +20,7 @@ use Rattle.ray_rules.specs.declared.touch.Touch.{Touch}
 use Rattle.ray_rules.specs.Access.{Accesses, accesses_of, host_reads, no_access, stage_of}
 use Rattle.ray_rules.specs.Ids.{look}
 use Rattle.ray_rules.specs.Order.{is_covered, is_ordered_to}
-use Rattle.ray_rules.specs.Ranges.{meets}
+use Rattle.ray_rules.specs.Ranges.{place_of}
 use Rattle.ray_rules.specs.Status.{Status, after, at_first}
 
 -- the status after one more command, where there is one
@@ -37,19 +41,31 @@ accesses_at rec i = option_map_or (accesses_of rec (status_at rec i)) (slice_get
 abbrev pub stage_at : List Command → ℕ → Option Stage
 stage_at rec i = option_map_or stage_of (slice_get rec i) None
 
--- the number of the command that made the buffer, or the structure, of an id
-abbrev pub maker_of_buffer : Status → ℕ → ℕ
-maker_of_buffer z id = option_map_or (λ (b : LiveBuffer). b.made) (look z.buffers id) 0
+-- the number of the command that made the buffer, or the structure, of an id, where it is live
+abbrev pub maker_of_buffer : Status → ℕ → Option ℕ
+maker_of_buffer z id = option_map (λ (b : LiveBuffer). b.made) (look z.buffers id)
 
-abbrev pub maker_of_structure : Status → ℕ → ℕ
-maker_of_structure z id = option_map_or (λ (s : LiveStructure). s.made) (look z.structures id) 0
+abbrev pub maker_of_structure : Status → ℕ → Option ℕ
+maker_of_structure z id = option_map (λ (s : LiveStructure). s.made) (look z.structures id)
+
+-- whether what two commands made is there, and is one thing. What was made anew under an old id is
+-- another thing
+abbrev pub is_one : Option ℕ → Option ℕ → Bool
+is_one (Some a) (Some b) = a == b
+is_one _ _ = false
+
+-- the bytes of a range, by their numbers in its buffer
+abbrev pub bytes_in : ByteRange → Range
+bytes_in r = bytes_of (place_of r)
 
 -- whether what is reached where one status stands shares something with what is reached where another
--- does: bytes of one buffer, or one structure. What was made anew under an old id is another thing
+-- does: bytes of one buffer, or one structure
 abbrev pub shares : Status → Status → Reach → Reach → Bool
-shares z w (Bytes r) (Bytes s) = maker_of_buffer z r.buffer == maker_of_buffer w s.buffer && meets r s
-shares z w (Structure a) (Structure b) = a == b && maker_of_structure z a == maker_of_structure w b
-shares z w (Scratch r) (Scratch s) = maker_of_buffer z r.buffer == maker_of_buffer w s.buffer && meets r s
+shares z w (Bytes r) (Bytes s) =
+    is_one (maker_of_buffer z r.buffer) (maker_of_buffer w s.buffer) && meets (bytes_in r) (bytes_in s)
+shares z w (Structure a) (Structure b) = is_one (maker_of_structure z a) (maker_of_structure w b)
+shares z w (Scratch r) (Scratch s) =
+    is_one (maker_of_buffer z r.buffer) (maker_of_buffer w s.buffer) && meets (bytes_in r) (bytes_in s)
 shares z w _ _ = false
 
 -- whether a touch by command number i shares something with one by command number j

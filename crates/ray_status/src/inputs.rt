@@ -1,6 +1,8 @@
-ghost use Rattle.std.specs.Prelude.{◌≡◌, ◌<◌, ◌≤◌, ◌*◌, ◌^◌, ◌==◌, None, Some, if◌then◌else◌, length, option_map};
-ghost use Rattle.ray_rules.specs.Ranges.{boxes_range, count_of, index_range, inputs_needed, instances_range, primitives, range, transform_range, vertices_needed, vertices_range};
+ghost use Rattle.std.specs.Prelude.{◌≡◌, ◌<◌, ◌≤◌, ◌*◌, ◌^◌, ◌==◌, None, Some, if◌then◌else◌, length, option_map, All, IfSome};
+ghost use Rattle.ray_rules.specs.Ranges.{boxes_range, count_of, cut, index_range, indexed_range, inputs_needed, inputs_read, instances_range, primitives, range, transform_range, vertices_needed, vertices_range, vertices_read};
+ghost use Rattle.ray_status.specs.Limits.{Fits, FitsIf};
 
+use crate::status::Status;
 use ray_bytes::Format;
 use ray_cmd::{Geometry, Index, Spot};
 use ray_rules::ByteRange;
@@ -93,9 +95,65 @@ pub fn inputs_needed(geometry: &Geometry) -> [Option<ByteRange>; 3]
     }
 }
 
+/// What a geometry reads: vertices, boxes or instances; indices; the transform. A geometry of no
+/// primitives reads nothing. Own.
+#[tactic(auto, unfolding(ray_rules::specs::Ranges::inputs_read))]
+pub fn inputs_read(status: &Status, geometry: &Geometry) -> [Option<ByteRange>; 3]
+    ensures value { result ≡ inputs_read status.now.buffers geometry.now }
+    ensures fits { All FitsIf result }
+{
+    match *geometry {
+        Geometry::Triangles {
+            format,
+            vertex,
+            stride,
+            max_vertex,
+            index,
+            transform,
+            count,
+            primitive_offset,
+            first_vertex,
+            transform_offset,
+            ..
+        } => {
+            if count == 0 {
+                return [None, None, None];
+            }
+            [
+                Some(vertices_read(
+                    status,
+                    vertex,
+                    stride,
+                    format,
+                    max_vertex,
+                    index,
+                    count,
+                    primitive_offset,
+                    first_vertex,
+                )),
+                indices(index, primitive_offset, count),
+                transform_of(transform, transform_offset),
+            ]
+        }
+        Geometry::Boxes {
+            content,
+            stride,
+            count,
+            primitive_offset,
+            ..
+        } => [boxes(content, stride, count, primitive_offset), None, None],
+        Geometry::Instances {
+            content,
+            count,
+            primitive_offset,
+        } => [instances(content, count, primitive_offset), None, None],
+    }
+}
+
 // The boxes of a geometry, where it has any.
 fn boxes(content: Spot, stride: u32, count: u32, primitive_offset: u32) -> Option<ByteRange>
-    ensures { result ≡ (if count == 0 then None else Some (boxes_range content stride count primitive_offset)) }
+    ensures fits { FitsIf result }
+    ensures value { result ≡ (if count == 0 then None else Some (boxes_range content stride count primitive_offset)) }
 {
     if count == 0 {
         return None;
@@ -109,7 +167,8 @@ fn boxes(content: Spot, stride: u32, count: u32, primitive_offset: u32) -> Optio
 
 // The instances of a geometry, where it has any.
 fn instances(content: Spot, count: u32, primitive_offset: u32) -> Option<ByteRange>
-    ensures { result ≡ (if count == 0 then None else Some (instances_range content count primitive_offset)) }
+    ensures fits { FitsIf result }
+    ensures value { result ≡ (if count == 0 then None else Some (instances_range content count primitive_offset)) }
 {
     if count == 0 {
         return None;
@@ -123,7 +182,8 @@ fn instances(content: Spot, count: u32, primitive_offset: u32) -> Option<ByteRan
 
 // The indices of so many triangles, where there are any.
 fn indices(index: Option<Index>, primitive_offset: u32, count: u32) -> Option<ByteRange>
-    ensures { result ≡ option_map (λ x. index_range x primitive_offset count) index }
+    ensures fits { FitsIf result }
+    ensures value { result ≡ option_map (λ x. index_range x primitive_offset count) index }
 {
     match index {
         Some(index) => Some(ByteRange {
@@ -137,7 +197,8 @@ fn indices(index: Option<Index>, primitive_offset: u32, count: u32) -> Option<By
 
 // The transform of a geometry, where it has one.
 fn transform_of(transform: Option<Spot>, transform_offset: u32) -> Option<ByteRange>
-    ensures { result ≡ option_map (transform_range transform_offset) transform }
+    ensures fits { FitsIf result }
+    ensures value { result ≡ option_map (transform_range transform_offset) transform }
 {
     match transform {
         Some(spot) => Some(ByteRange {
@@ -188,7 +249,8 @@ fn vertices(
     first_vertex: u32,
     count: u32,
 ) -> ByteRange
-    ensures { result ≡ vertices_range vertex stride format primitive_offset first_vertex count }
+    ensures value { result ≡ vertices_range vertex stride format primitive_offset first_vertex count }
+    ensures fits { Fits result }
 {
     let stride = u128::from(stride);
     ByteRange {
@@ -198,4 +260,65 @@ fn vertices(
             + u128::from(first_vertex) * stride,
         size: (3 * u128::from(count)).saturating_sub(1) * stride + u128::from(format.size()),
     }
+}
+
+// The vertices that triangles read, with or without indices.
+fn vertices_read(
+    status: &Status,
+    vertex: Spot,
+    stride: u32,
+    format: Format,
+    max_vertex: u32,
+    index: Option<Index>,
+    count: u32,
+    primitive_offset: u32,
+    first_vertex: u32,
+) -> ByteRange
+    ensures value { result ≡ vertices_read status.now.buffers vertex stride format max_vertex index count primitive_offset first_vertex }
+    ensures fits { Fits result }
+{
+    match index {
+        Some(_) => indexed(status, vertex, stride, format, first_vertex, max_vertex),
+        None => vertices(
+            vertex,
+            stride,
+            format,
+            primitive_offset,
+            first_vertex,
+            count,
+        ),
+    }
+}
+
+// The vertices that indices may name, cut at the end of the buffer.
+fn indexed(
+    status: &Status,
+    vertex: Spot,
+    stride: u32,
+    format: Format,
+    first_vertex: u32,
+    max_vertex: u32,
+) -> ByteRange
+    ensures value { result ≡ indexed_range status.now.buffers vertex stride format first_vertex max_vertex }
+    ensures fits { Fits result }
+{
+    let stride = u128::from(stride);
+    cut(
+        status,
+        ByteRange {
+            buffer: vertex.buffer,
+            from: u128::from(vertex.offset) + u128::from(first_vertex) * stride,
+            size: u128::from(max_vertex) * stride + u128::from(format.size()),
+        },
+    )
+}
+
+// A range, cut at the end of its buffer.
+fn cut(status: &Status, range: ByteRange) -> ByteRange
+    ensures value { result ≡ cut status.now.buffers range }
+    ensures fits { Fits range → Fits result }
+{
+    let left = status.size_of_buffer(range.buffer).saturating_sub(range.from);
+    let size = if range.size < left { range.size } else { left };
+    ByteRange { size, ..range }
 }

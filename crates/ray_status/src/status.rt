@@ -1,6 +1,7 @@
 ghost use Rattle.std.specs.Prelude.{◌≡◌, ◌+◌, ◌<◌, ◌≤◌, false, None, OnOk, length};
 ghost use Rattle.ray_cmd.specs.declared.thing.Thing.TheVariants.{Buffer};
 ghost use Rattle.ray_rules.specs.Buffers.{holds_structure};
+ghost use Rattle.ray_rules.specs.Hazards.{maker_of_buffer, maker_of_structure};
 ghost use Rattle.ray_rules.specs.Ids.{look};
 ghost use Rattle.ray_rules.specs.Ranges.{is_outside, size_at};
 ghost use Rattle.ray_rules.specs.Status.{at_first, built_at, fill_in, in_phase, live_bytes, submitted, waited, with_buffer, with_structure, without_thing};
@@ -63,6 +64,26 @@ impl Status {
         self.buffers.get(&id).copied()
     }
 
+    /// The number of the command that made the buffer of an id, where it is live.
+    pub fn maker_of_buffer(&self, id: u32) -> Option<u32>
+        ensures { result ≡ maker_of_buffer self.now id }
+    {
+        match self.buffer(id) {
+            Some(buffer) => Some(buffer.made),
+            None => None,
+        }
+    }
+
+    /// The number of the command that made the structure of an id, where it is live.
+    pub fn maker_of_structure(&self, id: u32) -> Option<u32>
+        ensures { result ≡ maker_of_structure self.now id }
+    {
+        match self.structure(id) {
+            Some(structure) => Some(structure.made),
+            None => None,
+        }
+    }
+
     /// Whether a range isn't whole within its buffer. A buffer that isn't live has no bytes.
     pub fn is_outside(&self, range: ByteRange) -> bool
         ensures { result ≡ is_outside self.now.buffers range }
@@ -72,7 +93,7 @@ impl Status {
     }
 
     // How many bytes a buffer has: none where it isn't live.
-    fn size_of_buffer(&self, id: u32) -> u128
+    pub(crate) fn size_of_buffer(&self, id: u32) -> u128
         ensures { result ≡ size_at self.now.buffers id }
     {
         match self.buffer(id) {

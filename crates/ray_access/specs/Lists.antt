@@ -1,0 +1,32 @@
+-- Lists of touches, with their numbers. (Own.)
+use Rattle.std.specs.Prelude.{◌≡◌, ◌++◌, List, [], ◌∷◌, Option, map, All}
+use Rattle.std.specs.Option.{option_map_or}
+use Rattle.ray_rules.specs.declared.access_type.AccessType.TheVariants.{ShaderRead}
+use Rattle.ray_rules.specs.declared.byte_range.ByteRange.{ByteRange}
+use Rattle.ray_rules.specs.declared.reach.Reach.TheVariants.{Bytes}
+use Rattle.ray_rules.specs.declared.touch.Touch.{Touch}
+use Rattle.ray_rules.specs.Access.{Accesses}
+use Rattle.ray_rules.specs.Status.{Status}
+use Rattle.ray_access.specs.declared.touched.Touched.{Touched}
+use Rattle.ray_access.specs.declared.touches.Touches.{Touches}
+use Rattle.ray_access.specs.Axis.{TouchFits, touched}
+
+-- the read of an input, where there is one
+abbrev pub input_touches : Option ByteRange → List Touch
+input_touches range = option_map_or (λ r. record { access = ShaderRead; reach = Bytes r } ∷ []) range []
+
+-- a list is that of these touches where a status stands, each of which has its numbers within its
+-- stretch
+pub record AreTouched (z : Status) (ts : List Touch) (list : List Touched) : Type 0 where
+  pub are : list ≡ map (touched z) ts
+  pub fit : All TouchFits ts
+
+-- a list has these touches more
+pub record Adds (z : Status) (ts : List Touch) (old new : List Touched) : Type 0 where
+  pub are : new ≡ old ++ map (touched z) ts
+  pub fit : All TouchFits ts
+
+-- the reads and the writes of what is accessed
+pub record AreOf (z : Status) (accesses : Accesses) (touches : Touches) : Type 0 where
+  pub reads : AreTouched z accesses.reads touches.reads.items
+  pub writes : AreTouched z accesses.writes touches.writes.items

@@ -1,0 +1,261 @@
+ghost use Rattle.std.specs.Prelude.{◌≡◌, ◌<◌, ◌≤◌, ◌+◌, ◌*◌, ◌^◌, IfOk, [], ◌∷◌, length, map};
+ghost use Rattle.ray_rules.specs.declared.access_type.AccessType.TheVariants.{HostRead, StructureRead, StructureWrite, TransferRead, TransferWrite};
+ghost use Rattle.ray_rules.specs.Access.{all_accesses, at_bytes, at_structure, info_accesses, ray_accesses, region_accesses, structure_reads, uses_at};
+ghost use Rattle.ray_access.specs.Axis.{TouchFits};
+ghost use Rattle.ray_access.specs.Lists.{AreOf, AreTouched};
+
+use crate::infos::{add_info_reads, add_info_writes};
+use crate::lists::{add, add_structures, structure_read};
+use crate::touched::Touched;
+use crate::touches::Touches;
+use ray_cmd::{Info, Recording, Region, Spot, Stretch};
+use ray_rules::{AccessType, Reach, Touch};
+use ray_status::{Status, range, uses_of};
+use std::alloc::{AllocError, Global};
+
+// An access of bytes.
+fn bytes(access: AccessType, buffer: u32, from: u64, size: u64) -> Touch
+    ensures value { result ≡ at_bytes access buffer from size }
+    ensures fits { TouchFits result }
+{
+    Touch {
+        access,
+        reach: Reach::Bytes(range(buffer, from, u128::from(size))),
+    }
+}
+
+// An access of all records of these sizes from a spot on.
+fn records(access: AccessType, spot: Spot, size: u64, count: u32) -> Touch
+    requires { size < 2 ^ 10 }
+    ensures value { result ≡ at_bytes access spot.buffer (spot.offset + size * 0) (size * count) }
+    ensures fits { TouchFits result }
+{
+    bytes(access, spot.buffer, spot.offset, size * u64::from(count))
+}
+
+// The write of a structure.
+fn structure_write(id: u32) -> Touch
+    ensures value { result ≡ at_structure StructureWrite id }
+    ensures fits { TouchFits result }
+{
+    Touch {
+        access: AccessType::StructureWrite,
+        reach: Reach::Structure(id),
+    }
+}
+
+// The write of an update or of a fill.
+#[tactic(auto, using(crate::proofs::Joining::begun))]
+pub(crate) fn one_write(
+    alloc: Global,
+    status: &Status,
+    buffer: u32,
+    offset: u64,
+    size: u64,
+) -> Result<Touches, AllocError>
+    ensures { IfOk result
+        (AreOf status.now (record { reads = []; writes = at_bytes TransferWrite buffer offset size ∷ [] })) }
+{
+    let reads = Vec::new(alloc);
+    let mut writes = Vec::new(alloc);
+    let access = AccessType::TransferWrite;
+    add(&mut writes, status, bytes(access, buffer, offset, size))?;
+    Ok(Touches {
+        reads,
+        writes,
+    })
+}
+
+// The sources and the destinations of a copy.
+#[tactic(auto, using(crate::proofs::Joining::adds_none, crate::proofs::Joining::adds_next))]
+pub(crate) fn copy(
+    alloc: Global,
+    status: &Status,
+    src: u32,
+    dst: u32,
+    regions: &[Region],
+) -> Result<Touches, AllocError>
+    ensures { IfOk result (AreOf status.now (all_accesses (map (region_accesses src dst) regions.now))) }
+{
+    let mut reads = Vec::new(alloc);
+    let mut writes = Vec::new(alloc);
+    for region in regions {
+        let read = AccessType::TransferRead;
+        let write = AccessType::TransferWrite;
+        let size = region.size;
+        add(&mut reads, status, bytes(read, src, region.src_offset, size))?;
+        add(&mut writes, status, bytes(write, dst, region.dst_offset, size))?;
+    }
+    Ok(Touches {
+        reads,
+        writes,
+    })
+}
+
+// What the infos of a build read and write.
+#[tactic(auto, using(crate::proofs::Joining::adds_none))]
+pub(crate) fn build(
+    alloc: Global,
+    status: &Status,
+    infos: &[Info],
+) -> Result<Touches, AllocError>
+    ensures { IfOk result (AreOf status.now (all_accesses (map (info_accesses status.now.buffers) infos.now))) }
+{
+    let mut reads = Vec::new(alloc);
+    let mut writes = Vec::new(alloc);
+    for info in infos {
+        add_info_reads(&mut reads, status, info)?;
+        add_info_writes(&mut writes, status, info)?;
+    }
+    Ok(Touches {
+        reads,
+        writes,
+    })
+}
+
+// The source and the destination of a copy of a structure.
+#[tactic(auto, using(crate::proofs::Joining::begun))]
+pub(crate) fn copy_structure(
+    alloc: Global,
+    status: &Status,
+    src: u32,
+    dst: u32,
+) -> Result<Touches, AllocError>
+    ensures { IfOk result (AreOf status.now
+        (record { reads = at_structure StructureRead src ∷ []; writes = at_structure StructureWrite dst ∷ [] })) }
+{
+    let mut reads = Vec::new(alloc);
+    let mut writes = Vec::new(alloc);
+    add(&mut reads, status, structure_read(src))?;
+    add(&mut writes, status, structure_write(dst))?;
+    Ok(Touches {
+        reads,
+        writes,
+    })
+}
+
+// The structure that is serialized, and its bytes.
+#[tactic(auto, using(crate::proofs::Joining::begun))]
+pub(crate) fn serialize(
+    alloc: Global,
+    status: &Status,
+    src: u32,
+    dst: Stretch,
+) -> Result<Touches, AllocError>
+    ensures { IfOk result (AreOf status.now (record {
+        reads = at_structure StructureRead src ∷ [];
+        writes = at_bytes TransferWrite dst.buffer dst.offset dst.size ∷ [] })) }
+{
+    let mut reads = Vec::new(alloc);
+    let mut writes = Vec::new(alloc);
+    let access = AccessType::TransferWrite;
+    add(&mut reads, status, structure_read(src))?;
+    add(&mut writes, status, bytes(access, dst.buffer, dst.offset, dst.size))?;
+    Ok(Touches {
+        reads,
+        writes,
+    })
+}
+
+// The serialized bytes, the structures that they may refer to, and the structure that is made.
+#[tactic(auto, using(crate::proofs::Joining::begun, crate::proofs::Joining::adds_then))]
+pub(crate) fn deserialize(
+    alloc: Global,
+    status: &Status,
+    src: Stretch,
+    dst: u32,
+    uses: &[u32],
+) -> Result<Touches, AllocError>
+    ensures { IfOk result (AreOf status.now (record {
+        reads = at_bytes TransferRead src.buffer src.offset src.size ∷ structure_reads uses.now;
+        writes = at_structure StructureWrite dst ∷ [] })) }
+{
+    let mut reads = Vec::new(alloc);
+    let mut writes = Vec::new(alloc);
+    let access = AccessType::TransferRead;
+    add(&mut reads, status, bytes(access, src.buffer, src.offset, src.size))?;
+    add_structures(&mut reads, status, uses)?;
+    add(&mut writes, status, structure_write(dst))?;
+    Ok(Touches {
+        reads,
+        writes,
+    })
+}
+
+// The structures that are asked, and the bytes of the answers.
+#[tactic(auto, using(crate::proofs::Joining::begun, crate::proofs::Joining::adds_then))]
+pub(crate) fn property(
+    alloc: Global,
+    status: &Status,
+    structures: &[u32],
+    dst: Spot,
+) -> Result<Touches, AllocError>
+    requires { length structures.now ≤ 67108864 }
+    ensures { IfOk result (AreOf status.now (record {
+        reads = structure_reads structures.now;
+        writes = at_bytes TransferWrite dst.buffer dst.offset (8 * length structures.now) ∷ [] })) }
+{
+    let mut reads = Vec::new(alloc);
+    let mut writes = Vec::new(alloc);
+    let access = AccessType::TransferWrite;
+    let size = 8 * structures.len() as u64;
+    add_structures(&mut reads, status, structures)?;
+    add(&mut writes, status, bytes(access, dst.buffer, dst.offset, size))?;
+    Ok(Touches {
+        reads,
+        writes,
+    })
+}
+
+// The structures that are traced, the rays and the hits.
+#[tactic(auto, using(crate::proofs::Joining::begun, crate::proofs::Joining::adds_then))]
+pub(crate) fn trace(
+    alloc: Global,
+    rec: &Recording,
+    status: &Status,
+    top: u32,
+    rays: Spot,
+    count: u32,
+    hits: Spot,
+) -> Result<Touches, AllocError>
+    ensures { IfOk result (AreOf status.now (ray_accesses rec.now status.now top rays hits 0 count)) }
+{
+    let mut reads = Vec::new(alloc);
+    let mut writes = Vec::new(alloc);
+    let read = AccessType::ShaderRead;
+    let write = AccessType::ShaderWrite;
+    add(&mut reads, status, structure_read(top))?;
+    add_structures(&mut reads, status, uses_at(rec, status, top))?;
+    add(&mut reads, status, records(read, rays, 40, count))?;
+    add(&mut writes, status, records(write, hits, 80, count))?;
+    Ok(Touches {
+        reads,
+        writes,
+    })
+}
+
+// The structures that the top of an id may refer to: none where it isn't built.
+fn uses_at<'a>(rec: &'a Recording, status: &Status, top: u32) -> &'a [u32]
+    ensures { result.now ≡ uses_at rec.now status.now top }
+{
+    match status.built(top) {
+        Some(built) => uses_of(rec, &built),
+        None => &[],
+    }
+}
+
+// The bytes that a `read` reads.
+#[tactic(auto, using(crate::proofs::Joining::begun))]
+pub(crate) fn host_read(
+    alloc: Global,
+    status: &Status,
+    buffer: u32,
+    offset: u64,
+    size: u64,
+) -> Result<Vec<Touched>, AllocError>
+    ensures { IfOk result (λ list. AreTouched status.now (at_bytes HostRead buffer offset size ∷ []) list.items) }
+{
+    let mut reads = Vec::new(alloc);
+    add(&mut reads, status, bytes(AccessType::HostRead, buffer, offset, size))?;
+    Ok(reads)
+}

@@ -1,0 +1,11 @@
+use ray_ranges::Range;
+use ray_rules::AccessType;
+
+/// One access of a command: how, and the numbers that what it reaches has on the axis. Own.
+#[derive(Clone, Copy, Debug, PartialEq, Eq)]
+pub struct Touched {
+    /// How it reads or writes.
+    pub access: AccessType,
+    /// The numbers of what it reaches: none where that isn't live.
+    pub range: Range,
+}
