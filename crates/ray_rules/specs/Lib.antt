@@ -17,3 +17,4 @@ pub mod Sources
 pub mod Spans
 pub mod Status
 pub mod Structures
+pub mod Verdict
