@@ -4,3 +4,7 @@ pub mod Covered
 pub mod Limits
 pub mod Chains
 pub mod Steps
+pub mod Lasts
+pub mod Cellular
+pub mod Laning
+pub mod Ways

@@ -1,4 +1,4 @@
-ghost use Rattle.std.specs.Prelude.{◌≡◌, ℕ, List, suc, slice_get, Some};
+ghost use Rattle.std.specs.Prelude.{◌≡◌, nat_lt, ℕ, List, suc, slice_get, Some};
 ghost use Rattle.ray_cmd.specs.declared.command.Command.{Command as ACommand};
 ghost use Rattle.ray_rules.specs.Order.{handed_at};
 ghost use Rattle.ray_sync.specs.Carrying.{IsCarried, carried_after, nothing_carried, pair_after, pair_at};
@@ -114,6 +114,14 @@ impl Carried {
             Command::Wait => self.at(access).waited(n),
             _ => self.at(access),
         }
+    }
+
+    /// Below which number what these commands wrote is covered to an access at a stage.
+    pub fn limit(self, stage: Stage, access: AccessType) -> u32
+        ensures { (rec : List ACommand) (n i : ℕ) → IsCarried rec n self
+            → (handed_at (takes self.source) rec i n).pairs stage access ≡ nat_lt i result }
+    {
+        self.at(access).at(stage)
     }
 
     /// Whether what command number `i`, one of these, wrote is covered to an access at a stage.

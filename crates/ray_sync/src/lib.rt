@@ -14,10 +14,14 @@
 #![tactic(auto)]
 
 mod carried;
+mod cells;
 mod front;
 mod fronts;
 mod kind;
+mod lane;
+mod lanes;
 mod laws;
+mod marking;
 mod order;
 mod per_kind;
 mod sets;
