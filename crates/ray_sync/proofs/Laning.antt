@@ -1,11 +1,12 @@
 -- What lanes tell of the last command, and how they go on.
-use Rattle.std.proofs.Common.{◌≡◌, ◌<◌, ◌≤◌, ◌⊎◌, ◌&&◌, ◌+◌, ℕ, suc, Bool, true, false, nat_lt, if◌then◌else◌, List, Some, refl, sym, ◌∙◌, ap, subst, arith, length}
+use Rattle.std.proofs.Common.{◌≡◌, ◌<◌, ◌≤◌, ◌⊎◌, ◌&&◌, ◌+◌, ℕ, suc, Bool, true, false, nat_lt, if◌then◌else◌, List, Option, Some, refl, sym, ◌∙◌, ap, subst, arith, length}
 use Rattle.std.specs.List.{list_any}
 use Rattle.ray_access.specs.declared.touched.Touched.{Touched}
 use Rattle.ray_cmd.specs.declared.command.Command.{Command}
 use Rattle.ray_marks.specs.Rising.{IsGreatest, mark_of}
 use Rattle.ray_rules.specs.declared.access_type.AccessType.{AccessType}
 use Rattle.ray_rules.specs.declared.stage.Stage.{Stage}
+use Rattle.ray_rules.specs.declared.stage.Stage.TheVariants.{Build, Compute, Transfer}
 use Rattle.ray_rules.specs.Hazards.{stage_at}
 use Rattle.ray_rules.specs.Order.{handed_at, is_covered, is_ordered_to}
 use Rattle.ray_sync.specs.declared.lane.Lane.{Lane}
@@ -98,3 +99,10 @@ reads-same rec starts stage n marks other are = record {
       last-step (ReadCell rec starts stage c) n (mark_of marks c) (mark_of marks c) false
       (λ w. absurd (other w.by)) (λ t. absurd cc) refl (are.last c);
 }
+
+-- a command has one stage
+pub stages-differ : {o : Option Stage} → o ≡ Some Build → o ≡ Some Transfer → ⊥
+stages-differ b t = let e : Some Build ≡ Some Transfer = sym b ∙ t in absurd cc
+
+pub stages-differ-2 : {o : Option Stage} → o ≡ Some Build → o ≡ Some Compute → ⊥
+stages-differ-2 b t = let e : Some Build ≡ Some Compute = sym b ∙ t in absurd cc

@@ -8,3 +8,4 @@ pub mod Lasts
 pub mod Cellular
 pub mod Laning
 pub mod Ways
+pub mod Odds

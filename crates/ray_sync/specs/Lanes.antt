@@ -7,6 +7,7 @@ use Rattle.ray_rules.specs.declared.access_type.AccessType.{AccessType}
 use Rattle.ray_rules.specs.declared.access_type.AccessType.TheVariants.{TransferWrite, StructureWrite, ShaderWrite}
 use Rattle.ray_rules.specs.declared.stage.Stage.{Stage}
 use Rattle.ray_rules.specs.declared.stage.Stage.TheVariants.{Transfer, Build, Compute}
+use Rattle.ray_sync.specs.declared.carried.Carried.{Carried}
 use Rattle.ray_sync.specs.declared.lane.Lane.{Lane}
 use Rattle.ray_sync.specs.declared.lanes.Lanes.{Lanes}
 use Rattle.ray_access.specs.declared.touches.Touches.{Touches}
@@ -107,3 +108,25 @@ abbrev pub MarksNext : ℕ → Option Stage → Touches → List ℕ → Lanes �
 MarksNext n stage touches starts old new =
     (rec : List Command) → stage_at rec n ≡ stage → touches.reads.items ≡ reads_at rec n
     → touches.writes.items ≡ writes_at rec n → AreMarked rec starts n old → AreMarked rec starts (suc n) new
+
+-- the marks are as they were
+pub record MarkSame (old new : Lanes) : Type 0 where
+  pub transfers : new.transfers.marks ≡ old.transfers.marks
+  pub builds : new.builds.marks ≡ old.builds.marks
+  pub payloads : new.payloads.marks ≡ old.payloads.marks
+  pub traces : new.traces.marks ≡ old.traces.marks
+  pub transfer_reads : new.transfer_reads ≡ old.transfer_reads
+  pub build_reads : new.build_reads ≡ old.build_reads
+  pub trace_reads : new.trace_reads ≡ old.trace_reads
+
+-- it says how far the writes of a stage with an access are covered where command number n stands
+pub record IsCarriedFrom (rec : List Command) (stage : Stage) (access : AccessType) (n : ℕ) (carried : Carried) : Type 0 where
+  pub source : carried.source ≡ record { stage = stage; access = Some access }
+  pub is : IsCarried rec n carried
+
+-- those of all lanes do
+pub record AreCarried (rec : List Command) (n : ℕ) (lanes : Lanes) : Type 0 where
+  pub transfers : IsCarriedFrom rec Transfer TransferWrite n lanes.transfers.carried
+  pub builds : IsCarriedFrom rec Build StructureWrite n lanes.builds.carried
+  pub payloads : IsCarriedFrom rec Build TransferWrite n lanes.payloads.carried
+  pub traces : IsCarriedFrom rec Compute ShaderWrite n lanes.traces.carried
