@@ -1,10 +1,13 @@
 -- The last command of which something is so.
-use Rattle.std.proofs.Common.{◌≡◌, ◌<◌, ◌≤◌, ◌⊎◌, ◌+◌, ℕ, zero, suc, max, Bool, true, false, nat_lt, if◌then◌else◌, List, Option, Some, None, refl, sym, ◌∙◌, ap, subst, inl, inr, arith}
+use Rattle.std.proofs.Common.{◌≡◌, ◌<◌, ◌≤◌, ◌⊎◌, ◌+◌, ℕ, zero, suc, max, Bool, true, false, nat_lt, if◌then◌else◌, List, [], ◌∷◌, ◌++◌, Option, Some, None, get_or, length, take, refl, sym, ◌∙◌, ap, subst, inl, inr, arith}
 use Rattle.std.proofs.lemmas.Bool.{cases_Bool, ltb-true, lt-ltb, cond-true, cond-false}
 use Rattle.std.proofs.lemmas.Bool.Decides.{nat_tests}
 use Rattle.ray_marks.specs.Rising.{IsGreatest, mark_of}
 use Rattle.ray_rules.specs.Hazards.{greatest}
-use Rattle.ray_sync.specs.Lasts.{IsLast, above, last_number}
+use Rattle.std.proofs.Math.Seq.{take-length}
+use Rattle.std.proofs.lemmas.List.{take_more}
+use Rattle.ray_access.specs.declared.touched.Touched.{Touched}
+use Rattle.ray_sync.specs.Lasts.{AnyOf, IsLast, above, last_number}
 
 -- nothing is so
 pub last-nothing : (P : ℕ → Type 0) (n : ℕ) → ((i : ℕ) → i < n → P i → ⊥) → IsLast P n 0
@@ -173,3 +176,40 @@ last-greatest P f (suc n) r to from last =
     apart : (b : Bool) → b ≡ true → b ≡ false → ⊥
     apart true t z = absurd cc
     apart false t z = absurd cc
+
+-- one touch more, of which something may be so
+pub any-more : (P : Touched → Type 0) (ts : List Touched) (t : Touched) → AnyOf P ts ⊎ P t → AnyOf P (ts ++ t ∷ [])
+any-more P [] t (inl q) = absurd q
+any-more P [] t (inr p) = inl p
+any-more P (u ∷ ts) t (inl (inl p)) = inl p
+any-more P (u ∷ ts) t (inl (inr q)) = inr (any-more P ts t (inl q))
+any-more P (u ∷ ts) t (inr p) = inr (any-more P ts t (inr p))
+
+pub any-less : (P : Touched → Type 0) (ts : List Touched) (t : Touched) → AnyOf P (ts ++ t ∷ []) → AnyOf P ts ⊎ P t
+any-less P [] t (inl p) = inr p
+any-less P [] t (inr q) = absurd q
+any-less P (u ∷ ts) t (inl p) = inl (inl p)
+any-less P (u ∷ ts) t (inr q) =
+    elim (any-less P ts t q) [
+      | inl r ↦ inl (inr r)
+      | inr p ↦ inr p
+    ]
+
+-- the last command of one touch more
+pub last-next :
+    (P : Touched → ℕ → Type 0) (ts : List Touched) (k : ℕ) (d : Touched) (n a b : ℕ) → k < length ts
+    → IsLast (λ i. AnyOf (λ u. P u i) (take k ts)) n a → IsLast (P (get_or ts k d)) n b
+    → IsLast (λ i. AnyOf (λ u. P u i) (take (k + 1) ts)) n (max a b)
+last-next P ts k d n a b below before one =
+    let x = get_or ts k d in
+    subst (λ us. IsLast (λ i. AnyOf (λ u. P u i) us) n (max a b)) (sym (take_more ts k d below))
+    (last-like (λ i. AnyOf (λ u. P u i) (take k ts) ⊎ P x i) (λ i. AnyOf (λ u. P u i) (take k ts ++ x ∷ [])) n (max a b)
+    (λ i l e. any-more (λ u. P u i) (take k ts) x e) (λ i l e. any-less (λ u. P u i) (take k ts) x e)
+    (last-either (λ i. AnyOf (λ u. P u i) (take k ts)) (P x) n a b before one))
+
+-- that of all touches
+pub last-all :
+    (P : Touched → ℕ → Type 0) (ts : List Touched) (k n a : ℕ) → k ≡ length ts
+    → IsLast (λ i. AnyOf (λ u. P u i) (take k ts)) n a → IsLast (λ i. AnyOf (λ u. P u i) ts) n a
+last-all P ts k n a e last =
+    subst (λ us. IsLast (λ i. AnyOf (λ u. P u i) us) n a) (subst (λ j. take j ts ≡ ts) (sym e) (take-length ts)) last

@@ -14,6 +14,7 @@ use Rattle.ray_rules.specs.declared.stage.Stage.TheVariants.{Transfer, Build, Co
 use Rattle.ray_rules.specs.declared.touch.Touch.{Touch}
 use Rattle.ray_rules.specs.Access.{Accesses, accesses_of, all_accesses, info_accesses, region_accesses, stage_of}
 use Rattle.ray_rules.specs.Ids.{Ids}
+use Rattle.ray_rules.specs.Order.{is_device}
 use Rattle.ray_rules.specs.Status.{Status}
 
 -- whether commands of a stage write with an access
@@ -52,3 +53,9 @@ unfolding stage_of accesses_of
 ways rec z (commands.Copy src dst regions) = ways-parts Transfer (region_accesses src dst) regions (λ region. refl)
 ways rec z (commands.Build infos) = ways-parts Build (info_accesses z.buffers) infos (λ info. refl)
 ways rec z _ = refl
+
+-- each is at a stage of the device
+pub devices : (c : Command) → option_map_or is_device (stage_of c) true ≡ true
+unfolding stage_of
+devices (commands.Copy src dst regions) = refl
+devices _ = refl

@@ -1,5 +1,5 @@
 -- The last command of which something is so, and how marks of cells keep it. (Own.)
-use Rattle.std.specs.Prelude.{◌≡◌, [], ◌<◌, ◌≤◌, ◌⊎◌, ◌&&◌, ℕ, zero, suc, true, false, Bool, List, Option, Some, None, nat_lt, if◌then◌else◌, length, map, All, slice_get}
+use Rattle.std.specs.Prelude.{◌≡◌, [], ◌∷◌, ◌<◌, ◌≤◌, ◌⊎◌, ◌&&◌, ℕ, zero, suc, true, false, Bool, List, Option, Some, None, nat_lt, if◌then◌else◌, length, map, All, slice_get}
 use Rattle.std.specs.List.{list_any}
 use Rattle.std.specs.Option.{option_map_or}
 use Rattle.ray_access.specs.declared.touched.Touched.{Touched}
@@ -92,3 +92,8 @@ pub record UncoveredIn (rec : List Command) (starts : List ℕ) (stage : Stage) 
 pub record UnorderedIn (rec : List Command) (starts : List ℕ) (stage : Stage) (n : ℕ) (to : Stage) (p q i : ℕ) : Type 0 where
   pub cell : (c : ℕ) × (p ≤ c) × (c < q) × ReadCell rec starts stage c i
   pub unordered : is_ordered_to rec i stage n to ≡ false
+
+-- something is so of one of these touches
+abbrev pub AnyOf : (Touched → Type 0) → List Touched → Type 0
+AnyOf P [] = ⊥
+AnyOf P (t ∷ ts) = P t ⊎ AnyOf P ts

@@ -17,6 +17,7 @@ mod carried;
 mod cells;
 mod front;
 mod fronts;
+mod hazards;
 mod kind;
 mod lane;
 mod lanes;

@@ -1,0 +1,7 @@
+use Rattle.ray_sync.proofs.hazards.last_uncovered.Goals as goal
+
+pub loop-touch-preserved : goal.loop-touch-preserved
+loop-touch-preserved c = ?
+
+pub returns : goal.returns
+returns c = ?

@@ -1,0 +1,14 @@
+use Rattle.std.proofs.Common.{List, take, ℕ}
+use Rattle.ray_access.specs.declared.touched.Touched.{Touched}
+use Rattle.ray_cmd.specs.declared.command.Command.{Command}
+use Rattle.ray_rules.specs.declared.stage.Stage.{Stage}
+use Rattle.ray_sync.specs.Cells.{cell_of}
+use Rattle.ray_sync.specs.Lanes.{AnyUnordered, AreLanes, AreOrdered}
+use Rattle.ray_sync.specs.Lasts.{AnyOf, IsLast}
+use Rattle.ray_sync.proofs.hazards.last_unordered.Given as goal
+
+-- of the touches so far
+abbrev pub invariant-loop-touch : goal.invariant-loop-touch
+invariant-loop-touch l =
+    (rec : List Command) (n : ℕ) (to : Stage) → AreLanes rec l.cells n l.lanes → AreOrdered rec n to l.limits
+    → IsLast (λ i. AnyOf (λ (t : Touched). AnyUnordered rec l.cells n to (cell_of l.cells t.range.from) (cell_of l.cells t.range.end) i) (take l.touch-index l.touches)) n l.last
