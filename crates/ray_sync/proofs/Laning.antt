@@ -1,10 +1,11 @@
 -- What lanes tell of the last command, and how they go on.
-use Rattle.std.proofs.Common.{◌≡◌, ◌<◌, ◌≤◌, ◌⊎◌, ◌&&◌, ◌+◌, ℕ, suc, Bool, true, false, nat_lt, if◌then◌else◌, List, Option, Some, refl, sym, ◌∙◌, ap, subst, arith, length}
+use Rattle.std.proofs.Common.{◌≡◌, ◌<◌, ◌≤◌, ◌⊎◌, ◌&&◌, ◌+◌, ℕ, suc, Bool, true, false, nat_lt, if◌then◌else◌, List, Option, Some, refl, sym, ◌∙◌, ap, subst, inl, inr, arith, length}
 use Rattle.std.specs.List.{list_any}
 use Rattle.ray_access.specs.declared.touched.Touched.{Touched}
 use Rattle.ray_cmd.specs.declared.command.Command.{Command}
 use Rattle.ray_marks.specs.Rising.{IsGreatest, mark_of}
 use Rattle.ray_rules.specs.declared.access_type.AccessType.{AccessType}
+use Rattle.ray_rules.specs.declared.access_type.AccessType.TheVariants.{ShaderWrite, StructureWrite, TransferWrite}
 use Rattle.ray_rules.specs.declared.stage.Stage.{Stage}
 use Rattle.ray_rules.specs.declared.stage.Stage.TheVariants.{Build, Compute, Transfer}
 use Rattle.ray_rules.specs.Hazards.{stage_at}
@@ -12,7 +13,11 @@ use Rattle.ray_rules.specs.Order.{handed_at, is_covered, is_ordered_to}
 use Rattle.ray_sync.specs.declared.lane.Lane.{Lane}
 use Rattle.ray_sync.specs.declared.source.Source.{Source}
 use Rattle.ray_sync.specs.Fronts.{takes}
-use Rattle.ray_sync.specs.Lanes.{AreReads, AreWrites, IsLane}
+use Rattle.ray_sync.specs.declared.fronts.Fronts.{Fronts}
+use Rattle.ray_sync.specs.declared.lanes.Lanes.{Lanes}
+use Rattle.ray_sync.specs.declared.per_kind.PerKind.{PerKind}
+use Rattle.ray_sync.specs.Kinds.{AreFronts, device_limits}
+use Rattle.ray_sync.specs.Lanes.{AnyUncovered, AnyUnordered, AreBelow, AreEnough, AreLanes, AreOrdered, AreReads, AreWrites, IsLane, LanesBelow}
 use Rattle.ray_sync.specs.Lasts.{IsLast, ReadCell, UncoveredIn, UnorderedIn, WroteCell, above, marked_if, has_it, is_by, reads_at, writes_at}
 use Rattle.ray_sync.proofs.Lasts.{last-above, last-cells, last-like, last-nothing, last-step}
 
@@ -106,3 +111,88 @@ stages-differ b t = let e : Some Build ≡ Some Transfer = sym b ∙ t in absurd
 
 pub stages-differ-2 : {o : Option Stage} → o ≡ Some Build → o ≡ Some Compute → ⊥
 stages-differ-2 b t = let e : Some Build ≡ Some Compute = sym b ∙ t in absurd cc
+
+-- the cells of a range, told otherwise
+pub moved :
+    (rec : List Command) (starts : List ℕ) (n : ℕ) (to : Stage) (x : AccessType) (p q a b r : ℕ)
+    → IsLast (AnyUncovered rec starts n to x p q) n r → p ≡ a → q ≡ b → IsLast (AnyUncovered rec starts n to x a b) n r
+moved rec starts n to x p q a b r last e f =
+    subst (λ k. IsLast (AnyUncovered rec starts n to x a k) n r) f
+    (subst (λ k. IsLast (AnyUncovered rec starts n to x k q) n r) e last)
+
+pub moved-reads :
+    (rec : List Command) (starts : List ℕ) (n : ℕ) (to : Stage) (p q a b r : ℕ)
+    → IsLast (AnyUnordered rec starts n to p q) n r → p ≡ a → q ≡ b → IsLast (AnyUnordered rec starts n to a b) n r
+moved-reads rec starts n to p q a b r last e f =
+    subst (λ k. IsLast (AnyUnordered rec starts n to a k) n r) f
+    (subst (λ k. IsLast (AnyUnordered rec starts n to k q) n r) e last)
+
+-- lanes are of as many cells as there are starts, and no mark is above a number
+writes-below :
+    (rec : List Command) (starts : List ℕ) (stage : Stage) (access : AccessType) (n : ℕ) (marks : List ℕ)
+    → AreWrites rec starts stage access n marks → AreBelow (length starts) (n + 1) marks
+writes-below rec starts stage access n marks are = record {
+  many = are.cells;
+  below = λ c.
+      elim (are.last c).there [
+        | inl z ↦ omega arith
+        | inr (i, l, p, e) ↦ omega arith
+      ];
+}
+
+reads-below :
+    (rec : List Command) (starts : List ℕ) (stage : Stage) (n : ℕ) (marks : List ℕ)
+    → AreReads rec starts stage n marks → AreBelow (length starts) (n + 1) marks
+reads-below rec starts stage n marks are = record {
+  many = are.cells;
+  below = λ c.
+      elim (are.last c).there [
+        | inl z ↦ omega arith
+        | inr (i, l, p, e) ↦ omega arith
+      ];
+}
+
+pub lanes-below :
+    (rec : List Command) (starts : List ℕ) (n : ℕ) (lanes : Lanes) → AreLanes rec starts n lanes
+    → LanesBelow (length starts) (n + 1) lanes
+lanes-below rec starts n lanes are = record {
+  transfers = writes-below rec starts Transfer TransferWrite n _ are.transfers.writes;
+  builds = writes-below rec starts Build StructureWrite n _ are.builds.writes;
+  payloads = writes-below rec starts Build TransferWrite n _ are.payloads.writes;
+  traces = writes-below rec starts Compute ShaderWrite n _ are.traces.writes;
+  transfer_reads = reads-below rec starts Transfer n _ are.transfer_reads;
+  build_reads = reads-below rec starts Build n _ are.build_reads;
+  trace_reads = reads-below rec starts Compute n _ are.trace_reads;
+}
+
+pub lanes-enough :
+    (rec : List Command) (starts : List ℕ) (n : ℕ) (lanes : Lanes) → AreLanes rec starts n lanes
+    → AreEnough (length starts) lanes
+lanes-enough rec starts n lanes are =
+    let a = are.transfers.writes.cells in
+    let b = are.builds.writes.cells in
+    let c = are.payloads.writes.cells in
+    let d = are.traces.writes.cells in
+    let e = are.transfer_reads.cells in
+    let f = are.build_reads.cells in
+    let g = are.trace_reads.cells in
+    record {
+      transfers = omega arith;
+      builds = omega arith;
+      payloads = omega arith;
+      traces = omega arith;
+      transfer_reads = omega arith;
+      build_reads = omega arith;
+      trace_reads = omega arith;
+    }
+
+-- the fronts tell what is ordered
+pub fronts-order :
+    (rec : List Command) (n : ℕ) (to : Stage) (fronts : Fronts) (limits : PerKind) → AreFronts rec n fronts
+    → limits ≡ device_limits fronts n to → AreOrdered rec n to limits
+fronts-order rec n to fronts limits are e =
+    subst (AreOrdered rec n to) (sym e) (record {
+      transfers = λ i. are.transfer.exact i to;
+      builds = λ i. are.build.exact i to;
+      traces = λ i. are.compute.exact i to;
+    })

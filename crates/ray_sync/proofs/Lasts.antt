@@ -197,15 +197,16 @@ any-less P (u ∷ ts) t (inr q) =
 
 -- the last command of one touch more
 pub last-next :
-    (P : Touched → ℕ → Type 0) (ts : List Touched) (k : ℕ) (d : Touched) (n a b : ℕ) → k < length ts
+    (P : Touched → ℕ → Type 0) (ts : List Touched) (k : ℕ) (d : Touched) (n a b r : ℕ) → r ≡ max a b → k < length ts
     → IsLast (λ i. AnyOf (λ u. P u i) (take k ts)) n a → IsLast (P (get_or ts k d)) n b
-    → IsLast (λ i. AnyOf (λ u. P u i) (take (k + 1) ts)) n (max a b)
-last-next P ts k d n a b below before one =
+    → IsLast (λ i. AnyOf (λ u. P u i) (take (k + 1) ts)) n r
+last-next P ts k d n a b r e below before one =
     let x = get_or ts k d in
-    subst (λ us. IsLast (λ i. AnyOf (λ u. P u i) us) n (max a b)) (sym (take_more ts k d below))
+    subst (IsLast (λ i. AnyOf (λ u. P u i) (take (k + 1) ts)) n) (sym e)
+    (subst (λ us. IsLast (λ i. AnyOf (λ u. P u i) us) n (max a b)) (sym (take_more ts k d below))
     (last-like (λ i. AnyOf (λ u. P u i) (take k ts) ⊎ P x i) (λ i. AnyOf (λ u. P u i) (take k ts ++ x ∷ [])) n (max a b)
     (λ i l e. any-more (λ u. P u i) (take k ts) x e) (λ i l e. any-less (λ u. P u i) (take k ts) x e)
-    (last-either (λ i. AnyOf (λ u. P u i) (take k ts)) (P x) n a b before one))
+    (last-either (λ i. AnyOf (λ u. P u i) (take k ts)) (P x) n a b before one)))
 
 -- that of all touches
 pub last-all :

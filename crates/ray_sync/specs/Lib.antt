@@ -1,5 +1,6 @@
 pub mod Carrying
 pub mod Cells
+pub mod Checks
 pub mod Covering
 pub mod Fronts
 pub mod Kinds

@@ -59,7 +59,7 @@ impl Fronts {
     }
 
     // The same for a device command of a stage.
-    fn device_limits(self, j: u32, stage: Stage) -> PerKind
+    pub(crate) fn device_limits(self, j: u32, stage: Stage) -> PerKind
         ensures { result ≡ device_limits self j stage }
     {
         PerKind {

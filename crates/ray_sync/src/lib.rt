@@ -15,6 +15,8 @@
 
 mod carried;
 mod cells;
+mod check;
+mod doing;
 mod front;
 mod fronts;
 mod hazards;
@@ -27,10 +29,12 @@ mod order;
 mod per_kind;
 mod sets;
 mod source;
+mod starts;
 #[cfg(test)]
 mod tests;
 
 pub use crate::carried::Carried;
+pub use crate::check::check_sync;
 pub use crate::front::Front;
 pub use crate::laws::covered_is_ordered;
 pub use crate::order::{Order, order_of};

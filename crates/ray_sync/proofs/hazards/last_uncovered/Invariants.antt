@@ -9,5 +9,5 @@ use Rattle.ray_sync.proofs.hazards.last_uncovered.Given as goal
 -- of the touches so far
 abbrev pub invariant-loop-touch : goal.invariant-loop-touch
 invariant-loop-touch l =
-    (rec : List Command) (n : ℕ) → AreLanes rec l.cells n l.lanes
-    → IsLast (λ i. AnyOf (λ (t : Touched). AnyUncovered rec l.cells n l.to t.access (cell_of l.cells t.range.from) (cell_of l.cells t.range.end) i) (take l.touch-index l.touches)) n l.last
+    (rec : List Command) (n : ℕ) → AreLanes rec l.fn.cells n l.fn.lanes
+    → IsLast (λ i. AnyOf (λ (t : Touched). AnyUncovered rec l.fn.cells n l.fn.to t.access (cell_of l.fn.cells t.range.from) (cell_of l.fn.cells t.range.end) i) (take l.touch-index l.fn.touches)) n l.last

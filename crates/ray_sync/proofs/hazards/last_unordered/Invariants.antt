@@ -10,5 +10,5 @@ use Rattle.ray_sync.proofs.hazards.last_unordered.Given as goal
 -- of the touches so far
 abbrev pub invariant-loop-touch : goal.invariant-loop-touch
 invariant-loop-touch l =
-    (rec : List Command) (n : ℕ) (to : Stage) → AreLanes rec l.cells n l.lanes → AreOrdered rec n to l.limits
-    → IsLast (λ i. AnyOf (λ (t : Touched). AnyUnordered rec l.cells n to (cell_of l.cells t.range.from) (cell_of l.cells t.range.end) i) (take l.touch-index l.touches)) n l.last
+    (rec : List Command) (n : ℕ) (to : Stage) → AreLanes rec l.fn.cells n l.fn.lanes → AreOrdered rec n to l.fn.limits
+    → IsLast (λ i. AnyOf (λ (t : Touched). AnyUnordered rec l.fn.cells n to (cell_of l.fn.cells t.range.from) (cell_of l.fn.cells t.range.end) i) (take l.touch-index l.fn.touches)) n l.last

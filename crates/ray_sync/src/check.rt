@@ -1,0 +1,180 @@
+ghost use Rattle.std.specs.Prelude.{◌≡◌, ◌≤◌, ◌<◌, ◌^◌, ℕ, List, IfOk, None, length, suc};
+ghost use Rattle.std.specs.Option.{option_map_or};
+ghost use Rattle.ray_access.specs.Lists.{AreTouched};
+ghost use Rattle.ray_cmd.specs.declared.command.Command.{Command as ACommand};
+ghost use Rattle.ray_rules.specs.declared.touch.Touch.{Touch as ATouch};
+ghost use Rattle.ray_rules.specs.Hazards.{greatest_with, read_unordered, status_at, wrote_uncovered};
+ghost use Rattle.ray_rules.specs.Refusals.{refused};
+ghost use Rattle.ray_rules.specs.Verdict.{GoOn, first_hazard, hazard_of};
+ghost use Rattle.ray_sync.specs.Checks.{IsDoing};
+ghost use Rattle.ray_sync.specs.Kinds.{AreFronts};
+ghost use Rattle.ray_sync.specs.Lanes.{AreEnough, AreLanes};
+ghost use Rattle.ray_sync.specs.Lasts.{ArePlaced, HaveStarts};
+
+use crate::cells::Cells;
+use crate::doing::{Doing, doing_of};
+use crate::fronts::Fronts;
+use crate::hazards::{earlier, last_uncovered, last_unordered};
+use crate::lanes::Lanes;
+use crate::order::Order;
+use crate::starts::starts_of;
+use ray_access::{Touched, sharing_is_meeting};
+use ray_cmd::{Place, Recording, Refusal, Rule};
+use ray_rules::Stage;
+use ray_status::Status;
+use std::alloc::{AllocError, Global};
+
+// The greatest number of cells, 2^32.
+const MOST_CELLS: usize = 4_294_967_296;
+
+/// The refusal of the first command that an order is of which breaks a rule on hazards, V25, V26, V27
+/// or V32, by the least that it breaks, with the greatest earlier command that it is at odds with as
+/// the place. None exactly where none does. It takes n log n steps in the number n of commands and
+/// of what they read and write.
+///
+/// # Errors
+///
+/// For want of memory alone.
+pub fn check_sync(
+    alloc: Global,
+    rec: &Recording,
+    order: &Order,
+) -> Result<Option<Refusal>, AllocError>
+    requires until { length order.now ≤ length rec.now }
+    requires go_on { GoOn rec.now (length order.now) }
+    ensures { IfOk result (λ hazard. hazard ≡ first_hazard rec.now (length order.now)) }
+{
+    let count = rec.len();
+    let until = order.until() as u32;
+    let starts = starts_of(alloc, rec, until)?;
+    let cells = Cells::of(alloc, &starts)?;
+    if MOST_CELLS < cells.count() {
+        return Err(AllocError);
+    }
+    let mut lanes = Lanes::new(alloc, cells.count())?;
+    let mut fronts = Fronts::none();
+    let mut status = Status::new(alloc);
+    for n in 0..until {
+        let command = rec.command(n);
+        let doing = doing_of(alloc, rec, &status, command)?;
+        if let Some(refusal) = hazard_of(n, &doing, &lanes, fronts, &cells) {
+            return Ok(Some(refusal));
+        }
+        lanes.pass(n, command, doing.stage, &doing.touches, &cells);
+        fronts = fronts.after(n, command);
+        status.step(n, command)?;
+    }
+    Ok(None)
+}
+
+// The refusal of command number `n` by the least rule on hazards that it breaks.
+fn hazard_of(
+    n: u32,
+    doing: &Doing,
+    lanes: &Lanes,
+    fronts: Fronts,
+    cells: &Cells,
+) -> Option<Refusal>
+    requires { AreEnough (length cells.now) lanes.now }
+    ensures { (rec : List ACommand) → AreLanes rec cells.now n lanes.now → AreFronts rec n fronts
+        → IsDoing rec n doing.now → HaveStarts rec cells.now (suc n) → result ≡ hazard_of rec n }
+{
+    let reads = doing.touches.reads.as_slice();
+    let writes = doing.touches.writes.as_slice();
+    if let Some(place) = uncovered_at(doing.stage, reads, lanes, cells) {
+        return Some(refused(n, 25, place));
+    }
+    if let Some(place) = uncovered_at(doing.stage, writes, lanes, cells) {
+        return Some(refused(n, 26, place));
+    }
+    if let Some(place) = unordered_at(n, doing.stage, fronts, writes, lanes, cells) {
+        return Some(refused(n, 27, place));
+    }
+    if let Some(place) = uncovered(Stage::Host, doing.host.as_slice(), lanes, cells) {
+        return Some(refused(n, 32, place));
+    }
+    None
+}
+
+// The refusal of command number `n` by a rule at a place.
+fn refused(n: u32, number: u8, place: Place) -> Refusal
+    ensures { result ≡ refused n number place }
+{
+    Refusal {
+        command: n,
+        rule: Rule::V(number),
+        place,
+    }
+}
+
+// The last command that wrote what these touches at the stage of a command reach, not covered.
+fn uncovered_at(
+    stage: Option<Stage>,
+    touches: &[Touched],
+    lanes: &Lanes,
+    cells: &Cells,
+) -> Option<Place>
+    requires { AreEnough (length cells.now) lanes.now }
+    ensures { (rec : List ACommand) (n : ℕ) (ts : List ATouch) → AreLanes rec cells.now n lanes.now
+        → AreTouched (status_at rec n) ts touches.now → ArePlaced rec cells.now n ts
+        → HaveStarts rec cells.now n
+        → result ≡ option_map_or (λ to. greatest_with (wrote_uncovered rec n to) ts n) stage None }
+{
+    match stage {
+        Some(to) => uncovered(to, touches, lanes, cells),
+        None => None,
+    }
+}
+
+// The last command that wrote what these touches at a stage reach, not covered.
+fn uncovered(to: Stage, touches: &[Touched], lanes: &Lanes, cells: &Cells) -> Option<Place>
+    requires { AreEnough (length cells.now) lanes.now }
+    ensures { (rec : List ACommand) (n : ℕ) (ts : List ATouch) → AreLanes rec cells.now n lanes.now
+        → AreTouched (status_at rec n) ts touches.now → ArePlaced rec cells.now n ts
+        → HaveStarts rec cells.now n → result ≡ greatest_with (wrote_uncovered rec n to) ts n }
+{
+    sharing_is_meeting();
+    earlier(last_uncovered(lanes, to, touches, cells))
+}
+
+// The last command that read what these touches at the stage of command number `n` reach, not
+// ordered before it.
+fn unordered_at(
+    n: u32,
+    stage: Option<Stage>,
+    fronts: Fronts,
+    touches: &[Touched],
+    lanes: &Lanes,
+    cells: &Cells,
+) -> Option<Place>
+    requires { AreEnough (length cells.now) lanes.now }
+    ensures { (rec : List ACommand) (ts : List ATouch) → AreLanes rec cells.now n lanes.now
+        → AreFronts rec n fronts → AreTouched (status_at rec n) ts touches.now
+        → ArePlaced rec cells.now n ts → HaveStarts rec cells.now n
+        → result ≡ option_map_or (λ to. greatest_with (read_unordered rec n to) ts n) stage None }
+{
+    match stage {
+        Some(to) => unordered(n, to, fronts, touches, lanes, cells),
+        None => None,
+    }
+}
+
+// The last command that read what these touches at a stage reach, not ordered before command number
+// `n` there.
+fn unordered(
+    n: u32,
+    to: Stage,
+    fronts: Fronts,
+    touches: &[Touched],
+    lanes: &Lanes,
+    cells: &Cells,
+) -> Option<Place>
+    requires { AreEnough (length cells.now) lanes.now }
+    ensures { (rec : List ACommand) (ts : List ATouch) → AreLanes rec cells.now n lanes.now
+        → AreFronts rec n fronts → AreTouched (status_at rec n) ts touches.now
+        → ArePlaced rec cells.now n ts → HaveStarts rec cells.now n
+        → result ≡ greatest_with (read_unordered rec n to) ts n }
+{
+    sharing_is_meeting();
+    earlier(last_unordered(lanes, fronts.device_limits(n, to), touches, cells))
+}
