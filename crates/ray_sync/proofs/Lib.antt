@@ -9,3 +9,5 @@ pub mod Cellular
 pub mod Laning
 pub mod Ways
 pub mod Odds
+pub mod Starting
+pub mod Checking

@@ -4,7 +4,7 @@ ghost use Rattle.ray_access.specs.Lists.{AreTouched};
 ghost use Rattle.ray_cmd.specs.declared.command.Command.{Command as ACommand};
 ghost use Rattle.ray_rules.specs.declared.touch.Touch.{Touch as ATouch};
 ghost use Rattle.ray_rules.specs.Hazards.{greatest_with, read_unordered, status_at, wrote_uncovered};
-ghost use Rattle.ray_rules.specs.Refusals.{refused};
+ghost use Rattle.ray_rules.specs.Refusals.{or_later};
 ghost use Rattle.ray_rules.specs.Verdict.{GoOn, first_hazard, hazard_of};
 ghost use Rattle.ray_sync.specs.Checks.{IsDoing};
 ghost use Rattle.ray_sync.specs.Kinds.{AreFronts};
@@ -51,16 +51,32 @@ pub fn check_sync(
     if MOST_CELLS < cells.count() {
         return Err(AllocError);
     }
+    checked(alloc, rec, until, &cells)
+}
+
+// The same of the commands below a number, where the axis is cut at all that they touch.
+fn checked(
+    alloc: Global,
+    rec: &Recording,
+    until: u32,
+    cells: &Cells,
+) -> Result<Option<Refusal>, AllocError>
+    requires until { until ≤ length rec.now }
+    requires cells { length cells.now ≤ 2 ^ 32 }
+    requires go_on { GoOn rec.now until }
+    requires starts { HaveStarts rec.now cells.now until }
+    ensures { IfOk result (λ hazard. hazard ≡ first_hazard rec.now until) }
+{
     let mut lanes = Lanes::new(alloc, cells.count())?;
     let mut fronts = Fronts::none();
     let mut status = Status::new(alloc);
     for n in 0..until {
         let command = rec.command(n);
         let doing = doing_of(alloc, rec, &status, command)?;
-        if let Some(refusal) = hazard_of(n, &doing, &lanes, fronts, &cells) {
+        if let Some(refusal) = hazard_of(n, &doing, &lanes, fronts, cells) {
             return Ok(Some(refusal));
         }
-        lanes.pass(n, command, doing.stage, &doing.touches, &cells);
+        lanes.pass(n, command, doing.stage, &doing.touches, cells);
         fronts = fronts.after(n, command);
         status.step(n, command)?;
     }
@@ -81,29 +97,25 @@ fn hazard_of(
 {
     let reads = doing.touches.reads.as_slice();
     let writes = doing.touches.writes.as_slice();
-    if let Some(place) = uncovered_at(doing.stage, reads, lanes, cells) {
-        return Some(refused(n, 25, place));
-    }
-    if let Some(place) = uncovered_at(doing.stage, writes, lanes, cells) {
-        return Some(refused(n, 26, place));
-    }
-    if let Some(place) = unordered_at(n, doing.stage, fronts, writes, lanes, cells) {
-        return Some(refused(n, 27, place));
-    }
-    if let Some(place) = uncovered(Stage::Host, doing.host.as_slice(), lanes, cells) {
-        return Some(refused(n, 32, place));
-    }
-    None
+    let read = uncovered_at(doing.stage, reads, lanes, cells);
+    let written = uncovered_at(doing.stage, writes, lanes, cells);
+    let overwritten = unordered_at(n, doing.stage, fronts, writes, lanes, cells);
+    let shown = uncovered(Stage::Host, doing.host.as_slice(), lanes, cells);
+    let last = or_later(n, 32, shown, None);
+    or_later(n, 25, read, or_later(n, 26, written, or_later(n, 27, overwritten, last)))
 }
 
-// The refusal of command number `n` by a rule at a place.
-fn refused(n: u32, number: u8, place: Place) -> Refusal
-    ensures { result ≡ refused n number place }
+// The refusal of command number `n` by a rule where it is broken, and else by the later ones.
+fn or_later(n: u32, number: u8, place: Option<Place>, later: Option<Refusal>) -> Option<Refusal>
+    ensures { result ≡ or_later n number place later }
 {
-    Refusal {
-        command: n,
-        rule: Rule::V(number),
-        place,
+    match place {
+        Some(place) => Some(Refusal {
+            command: n,
+            rule: Rule::V(number),
+            place,
+        }),
+        None => later,
     }
 }
 

@@ -1,0 +1,15 @@
+use Rattle.std.proofs.Common.{◌≡◌}
+use Rattle.std.specs.Prelude.{None}
+use Rattle.ray_rules.specs.Hazards.{status_at}
+use Rattle.ray_rules.specs.Verdict.{first_hazard}
+use Rattle.ray_sync.specs.Kinds.{AreFronts}
+use Rattle.ray_sync.specs.Lanes.{AreLanes}
+use Rattle.ray_sync.proofs.check.checked.Given as goal
+
+abbrev pub invariant-loop-n : goal.invariant-loop-n
+invariant-loop-n l = record {
+  status : l.status ≡ status_at l.rec l.n;
+  lanes : AreLanes l.rec l.cells l.n l.lanes;
+  fronts : AreFronts l.rec l.n l.fronts;
+  none : first_hazard l.rec l.n ≡ None;
+}
