@@ -10,7 +10,7 @@ use Rattle.atomic_table.proofs.Lists.{at_set, at_snoc}
 use Rattle.ray_claim.specs.declared.rule.View.{View}
 use Rattle.ray_claim.specs.Rule.{times, once_below, mark, IsClaimed, HasClaims}
 use Rattle.ray_claim.specs.Steps.{knows, cut, fresh, both, spent, Draws}
-use Rattle.ray_claim.proofs.Sums.{total_set, total_snoc, part_le, marks_le, times_append, once_more, once_full, short, short_of_min}
+use Rattle.ray_claim.proofs.Sums.{total_set, total_snoc, part_le, marks_le, times_append, once_more, once_full, once_none, short, short_of_min}
 
 -- a fact about each view after a change of one
 each_set : (F : View → Type 0) (views : List View) (id : ℕ) (w : View) → F w → ((j : ℕ) (v : View) → get_elem? views j ≡ some v → F v)
@@ -41,8 +41,8 @@ module _ (n c : ℕ) (views : List View) (id : ℕ) (v : View) (r : IsClaimed n 
   unmarked = ap (λ (m : Bool × Bool). marked m.0 m.1) (λ i. (going i, unspent i))
 
   -- a draw that finds a number
-  drawn_one : c < n → IsClaimed n (c + 1) (set views id (knows (v.drawn ++ c ∷ []) v.ended v.spent v.splits))
-  drawn_one less = let w : View = knows (v.drawn ++ c ∷ []) v.ended v.spent v.splits in record {
+  drawn_one : c < n → IsClaimed n (c + 1) (set views id (knows (v.drawn ++ c ∷ []) v.ended v.spent v.splits (v.steps + 1)))
+  drawn_one less = let w : View = knows (v.drawn ++ c ∷ []) v.ended v.spent v.splits (v.steps + 1) in record {
     each_once = λ x.
         let t = total_set (λ u. times x u.drawn) views id v w at in
         let longer = times_append x v.drawn (c ∷ []) in
@@ -51,13 +51,14 @@ module _ (n c : ℕ) (views : List View) (id : ℕ) (v : View) (r : IsClaimed n 
         omega arith;
     ended = each_set (λ u. u.ended ≡ true → n ≤ c + 1) views id w (λ e. absurd (true≢false (sym e ∙ going))) (λ j u there e. let le = r.ended j u there e in omega arith);
     at_most = omega arith;
+    steps = let t = total_set (λ u. u.steps) views id v w at in let old = r.steps in omega arith;
     seats = let t = total_set (λ u. u.splits) views id v w at in let l = length-set views id w in let old = r.seats in omega arith;
     spent = each_set (λ u. u.spent ≡ true → (u.drawn ≡ []) × (u.splits ≡ 0)) views id w (λ e. absurd (true≢false (sym e ∙ unspent))) r.spent;
   }
 
   -- a draw that finds none
-  drawn_none : n ≤ c → IsClaimed n (c + 1) (set views id (knows v.drawn true v.spent v.splits))
-  drawn_none full = let w : View = knows v.drawn true v.spent v.splits in record {
+  drawn_none : n ≤ c → IsClaimed n (c + 1) (set views id (knows v.drawn true v.spent v.splits (v.steps + 1)))
+  drawn_none full = let w : View = knows v.drawn true v.spent v.splits (v.steps + 1) in record {
     each_once = λ x.
         let t = total_set (λ u. times x u.drawn) views id v w at in
         let same = once_full x c n full in
@@ -70,6 +71,7 @@ module _ (n c : ℕ) (views : List View) (id : ℕ) (v : View) (r : IsClaimed n 
         let now : mark w ≡ 1 = refl in
         let old = r.at_most in
         omega arith;
+    steps = let t = total_set (λ u. u.steps) views id v w at in let old = r.steps in omega arith;
     seats = let t = total_set (λ u. u.splits) views id v w at in let l = length-set views id w in let old = r.seats in omega arith;
     spent = each_set (λ u. u.spent ≡ true → (u.drawn ≡ []) × (u.splits ≡ 0)) views id w (λ e. absurd (true≢false (sym e ∙ unspent))) r.spent;
   }
@@ -79,6 +81,10 @@ drawn_once : (n c : ℕ) (views : List View) (id : ℕ) (v : View) → IsClaimed
     → (x : ℕ) → times x v.drawn ≤ once_below x (min c n)
 drawn_once n c views id v r at x = let old = r.each_once x in let part = part_le (λ u. times x u.drawn) views id v at in omega arith
 
+-- no seat has drawn the number of the word that is found
+unseen : (n c : ℕ) (views : List View) → IsClaimed n c views → (id : ℕ) (v : View) → get_elem? views id ≡ some v → times c v.drawn ≡ 0
+unseen n c views r id v at = let old = r.each_once c in let here = once_none c n in let part = part_le (λ u. times c u.drawn) views id v at in omega arith
+
 -- a draw keeps the rule, and tells what it tells
 pub draws : (n slots id : ℕ) (me : Me (Unit {0}) View) → n < 2 ^ 32 → me.0.ended ≡ false → me.0.spent ≡ false
     → Allows (HasClaims n) slots id me 0 (λ x. (x + 1) % 2 ^ 64) (Draws n (step slots 0 1 0 none) me)
@@ -87,20 +93,51 @@ draws n slots id me small going unspent s r _ at _ =
     let v : View = me.0 in
     let fit = no_wrap n c s.views small r.1 in
     dite (dec_le n c)
-    (λ full. let w : View = knows v.drawn true v.spent v.splits in (
+    (λ full. let w : View = knows v.drawn true v.spent v.splits (v.steps + 1) in
+    let new = drawn_none n c s.views id v r.1 at going unspent full in (
       w,
       keeps,
       tt,
-      rw fit (placed n s (c + 1) id me.1 w r.0 (drawn_none n c s.views id v r.1 at going unspent full)),
-      (refl, refl, refl, (λ less. absurd (omega arith)), λ _. (refl, refl)),
+      rw fit (placed n s (c + 1) id me.1 w r.0 new),
+      (
+        refl,
+        refl,
+        refl,
+        record {
+          views = s.views;
+          seat = id;
+          known = at;
+          was = r.1;
+          is = new;
+          counted = refl;
+          alone = unseen n c s.views r.1;
+          grows = λ less. absurd (omega arith);
+          ends = λ _. (refl, refl);
+        },
+      ),
     ))
-    (λ more. let w : View = knows (v.drawn ++ c ∷ []) v.ended v.spent v.splits in
+    (λ more. let w : View = knows (v.drawn ++ c ∷ []) v.ended v.spent v.splits (v.steps + 1) in
     let new = drawn_one n c s.views id v r.1 at going unspent (omega arith) in (
       w,
       keeps,
       tt,
       rw fit (placed n s (c + 1) id me.1 w r.0 new),
-      (refl, refl, refl, (λ _. (refl, refl, grown n c s.views id v w at new)), λ full. absurd (more full)),
+      (
+        refl,
+        refl,
+        refl,
+        record {
+          views = s.views;
+          seat = id;
+          known = at;
+          was = r.1;
+          is = new;
+          counted = refl;
+          alone = unseen n c s.views r.1;
+          grows = λ _. (refl, refl, grown n c s.views id v w at new);
+          ends = λ full. absurd (more full);
+        },
+      ),
     ))
   where
     grown : (n c : ℕ) (views : List View) (id : ℕ) (v w : View) → get_elem? views id ≡ some v → IsClaimed n (c + 1) (set views id w) → length w.drawn ≤ n
@@ -131,6 +168,11 @@ splits n id v unspent left s r at = (
         let t = total_set mark s.views id v (cut v) at in
         let a = total_snoc mark (set s.views id (cut v)) (fresh v) in
         let old = r.1.at_most in
+        omega arith;
+    steps =
+        let t = total_set (λ u. u.steps) s.views id v (cut v) at in
+        let a = total_snoc (λ u. u.steps) (set s.views id (cut v)) (fresh v) in
+        let old = r.1.steps in
         omega arith;
     seats =
         let t = total_set (λ u. u.splits) s.views id v (cut v) at in
@@ -176,6 +218,11 @@ joins n id other v w unspent_v unspent_w s r at apart there =
             let a = total_set mark ws other w spent there in
             let m = more_marks v.ended w.ended v.spent w.spent unspent_v unspent_w in
             let old = r.1.at_most in
+            omega arith;
+        steps =
+            let t = total_set (λ u. u.steps) s.views id v b at in
+            let a = total_set (λ u. u.steps) ws other w spent there in
+            let old = r.1.steps in
             omega arith;
         seats =
             let t = total_set (λ u. u.splits) s.views id v b at in

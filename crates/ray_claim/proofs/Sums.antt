@@ -53,6 +53,17 @@ once_more x c n less =
 pub once_full : (x c n : ℕ) → n ≤ c → once_below x (min (c + 1) n) ≡ once_below x (min c n)
 once_full x c n full = ap (once_below x) (min-eq_right (omega arith) ∙ sym (min-eq_right full))
 
+-- the word itself isn't below the lesser of it and n
+pub once_none : (c n : ℕ) → once_below c (min c n) ≡ 0
+once_none c n =
+    dite (dec_le c n) (λ le. ap (once_below c) (min-eq_left le) ∙ once_at c) (λ more. ap (once_below c) (min-eq_right (omega arith)) ∙ once_past c n (omega arith))
+  where
+    once_at : (m : ℕ) → once_below m m ≡ 0
+    once_at m = grind (arith, nat_tests)
+
+    once_past : (x m : ℕ) → m ≤ x → once_below x m ≡ 0
+    once_past x m h = grind (arith, nat_tests)
+
 once_wider : (x a b : ℕ) → a ≤ b → once_below x a ≤ once_below x b
 once_wider x a b h = grind (arith, nat_tests)
 

@@ -1,3 +1,5 @@
+pub mod Draws
+pub mod Laws
 pub mod Rule
 pub mod Seats
 pub mod Steps

@@ -32,6 +32,8 @@ pub record IsClaimed (n c : ℕ) (views : List View) : Type 0 where
   pub ended : (id : ℕ) (v : View) → get_elem? views id ≡ some v → v.ended ≡ true → n ≤ c
   -- so the word never wraps
   pub at_most : c ≤ n + total mark views
+  -- the word is the number of steps that all seats have taken
+  pub steps : total (λ v. v.steps) views ≡ c
   -- there are never more than 65,536 seats
   pub seats : length views + total (λ v. v.splits) views ≡ 65536
   -- a spent view has nothing

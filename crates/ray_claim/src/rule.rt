@@ -14,6 +14,8 @@ pub struct View {
     pub spent: bool,
     /// How often the seat can still be split.
     pub splits: u64,
+    /// How many steps of the word the seat has taken, by its draws and those joined into it.
+    pub steps: u64,
 }
 
 /// The rule of the word, whose key is n. (Own.)
@@ -26,7 +28,7 @@ impl TableRule<(), View, u32> for ClaimRule {
 
     ghost holds = { HasClaims };
 
-    ghost first = { λ _. knows [] false false 65535 };
+    ghost first = { λ _. knows [] false false 65535 0 };
 }
 
 /// How many numbers there are, as a draw's step is told it. (Own.)

@@ -1,10 +1,10 @@
-ghost use Rattle.std.specs.Prelude.{◌≡◌};
-ghost use Rattle.std.specs.Thread.{IsSync};
+ghost use Rattle.std.specs.Prelude.{◌≡◌, IfOk};
 ghost use Rattle.ray_claim.specs.Seats.{AreOf};
 
 use crate::{ClaimSeat, Claims};
 use std::alloc::{AllocError, Global};
-use std::thread::{self, Threads};
+use std::sync::Wait;
+use std::thread::{self, Promise, Threads};
 
 #[test]
 fn two_numbers_and_no_more(rt: HostRuntime) -> Result<(), AllocError> {
@@ -79,28 +79,49 @@ fn joined(
     Ok(all)
 }
 
-// Two threads draw, each with a seat of its own.
-fn by_two<R: Threads + Sync>(
+// What a thread gives back: its seat is one of these claims.
+#[derive(Clone, Copy)]
+struct SeatOf<'a>(&'a Claims);
+
+impl<'a> Promise<Worked> for SeatOf<'a> {
+    ghost use Rattle.std.specs.Prelude.{◌≡◌};
+
+    ghost kept_by = { λ p r. r.seat.table ≡ p.0.now.table };
+}
+
+// Four threads of one scope draw, each with a seat of its own.
+fn in_scope<R: Threads + Wait>(
     rt: &R,
     alloc: Global,
     claims: &Claims,
     one: ClaimSeat,
-    other: ClaimSeat,
-) -> Worked
-    requires one { one.table ≡ claims.now.table }
-    requires other { other.table ≡ claims.now.table }
-    ensures { result.seat.table ≡ claims.now.table }
+    two: ClaimSeat,
+    three: ClaimSeat,
+    four: ClaimSeat,
+) -> Result<Worked, AllocError>
+    requires { AreOf claims.now.table one two × AreOf claims.now.table three four }
+    ensures { IfOk result (λ w. w.seat.table ≡ claims.now.table) }
 {
-    let (one, other) = thread::join(
+    thread::scope(
+        thread::scope_env(),
         rt,
-        move || work(alloc, claims, one),
-        move || work(alloc, claims, other),
-    );
-    together(claims, one, other)
+        move |scope| -> Result<Worked, AllocError>
+            requires { AreOf claims.now.table one two × AreOf claims.now.table three four }
+            ensures { IfOk result (λ w. w.seat.table ≡ claims.entry.now.table) }
+        {
+            let one = scope.spawn_with(SeatOf(claims), move || work(alloc, claims, one))?;
+            let two = scope.spawn_with(SeatOf(claims), move || work(alloc, claims, two))?;
+            let three = scope.spawn_with(SeatOf(claims), move || work(alloc, claims, three))?;
+            let four = scope.spawn_with(SeatOf(claims), move || work(alloc, claims, four))?;
+            let first = together(claims, one.join(rt), two.join(rt));
+            let last = together(claims, three.join(rt), four.join(rt));
+            Ok(together(claims, first, last))
+        },
+    )
 }
 
 // Four threads draw all numbers below n: the numbers, in order, and what `close` answers.
-fn by_four<R: Threads + Sync>(
+fn by_four<R: Threads + Wait>(
     rt: &R,
     alloc: Global,
     n: u32,
@@ -109,19 +130,7 @@ fn by_four<R: Threads + Sync>(
     let second = claims.split(&mut seat)?;
     let third = claims.split(&mut seat)?;
     let fourth = claims.split(&mut seat)?;
-    let shared = &claims;
-    let (left, right) = thread::join(
-        rt,
-        move || -> Worked
-            requires { IsSync R.row × AreOf shared.now.table seat second }
-            ensures { result.seat.table ≡ shared.entry.now.table }
-        { by_two(rt, alloc, shared, seat, second) },
-        move || -> Worked
-            requires { IsSync R.row × AreOf shared.now.table third fourth }
-            ensures { result.seat.table ≡ shared.entry.now.table }
-        { by_two(rt, alloc, shared, third, fourth) },
-    );
-    let Worked { seat, numbers } = together(shared, left, right);
+    let Worked { seat, numbers } = in_scope(rt, alloc, &claims, seat, second, third, fourth)?;
     let mut numbers = numbers?;
     numbers.as_mut_slice().sort_unstable();
     Ok((numbers, claims.close(seat)))
