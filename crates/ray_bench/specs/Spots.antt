@@ -5,7 +5,7 @@ use Rattle.ray_geom.specs.Vector.{vec3}
 use Rattle.ray_geom.specs.Transform.{MatrixValue, matrix_value}
 use Rattle.ray_geom.specs.Boxes.{BoxValue, box_value}
 use Rattle.ray_geom.specs.ObjectRay.{object_of}
-use Rattle.ray_geom.specs.BoxSpan.{IsInside}
+use Rattle.ray_prune.specs.BoxSpan.{IsInside}
 use Rattle.ray_bench.specs.declared.spot.Spot.{Spot}
 use Rattle.ray_bench.specs.Rays.{aimed_of}
 

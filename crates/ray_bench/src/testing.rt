@@ -11,7 +11,8 @@ use crate::pair::{Pair, aimed_pair};
 use crate::rays::{RAYS, ray};
 use crate::spot::{Spot, aimed_spot};
 use crate::work::Work;
-use ray_geom::{Ray, Reach, Span, Tri, TriHit, hit_tri, reach_box, span_box};
+use ray_geom::{Ray, Tri, TriHit, hit_tri};
+use ray_prune::{Reach, Span, reach_box, span_box};
 use std::alloc::{AllocError, Global};
 
 /// How many of the job's pairs are hits. Rays, triangles and boxes are made once, and then tested. The

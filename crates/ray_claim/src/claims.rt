@@ -101,8 +101,8 @@ impl Claims {
     }
 
     /// Puts what `from` has drawn behind what `into` has, and adds its splits and steps. `into` is
-    /// ended where either was. The refusal, which would hand `from` back, never comes (`ok`): a join
-    /// takes no memory.
+    /// ended where either was. The refusal, which would hand `from` back, never comes (`ok`): a
+    /// join takes no memory.
     pub fn join(&self, into: &mut ClaimSeat, from: ClaimSeat) -> Result<(), ClaimSeat>
         requires own { into.old.table ≡ self.now.table }
         requires from { from.table ≡ self.now.table }

@@ -8,8 +8,8 @@
 //! The layer above uses the clauses of `draw`: a number is below n and makes the seat's list longer
 //! by itself alone (`below`, `grows`), no number comes only where the seat is ended (`none`), the
 //! answer is the word that one atomic step found, which no seat has (`step`), and an ended seat
-//! takes no step (`rests`). The rule of the word, `IsClaimed` of `specs/Rule`, holds between any two
-//! atomic steps, whatever seats step: so no two draws give one number ([`given_once`],
+//! takes no step (`rests`). The rule of the word, `IsClaimed` of `specs/Rule`, holds between any
+//! two atomic steps, whatever seats step: so no two draws give one number ([`given_once`],
 //! [`drawn_apart`]), and a seat is ended only where all are drawn. [`Claims::close`] says what it
 //! comes to at the end.
 //!

@@ -12,13 +12,5 @@ pub mod Hits
 pub mod HitValues
 pub mod Sizes
 pub mod ObjectRays
-pub mod Slabs
-pub mod Reaches
-pub mod Entries
-pub mod Scaling
-pub mod Cramer
-pub mod Inside
-pub mod Corners
-pub mod World
-pub mod Faces
+pub mod Ratios
 pub mod LeastBoxes

@@ -1,6 +1,6 @@
 -- The value where a fact holds (`where_so`); and, which a reader of the public contracts needs not, that rays,
--- triangles, boxes, transforms, hits and what is inside a box are decided: each either is so, or isn't. (Own.)
-use Rattle.std.specs.Prelude.{ℕ, ℤ, pos, neg_ℤ, ◌≡◌, ◌*◌, ◌≤◌, ◌^◌, ◌≤ℤ◌, Option, Some, None, refl}
+-- triangles, boxes, transforms and hits are decided: each either is so, or isn't. (Own.)
+use Rattle.std.specs.Prelude.{ℕ, ℤ, pos, neg_ℤ, ◌≡◌, ◌≤◌, ◌^◌, ◌≤ℤ◌, Option, Some, None, refl}
 use Rattle.std.specs.Ordering.{int_eq}
 use Rattle.std.specs.declared.cmp.Ordering.{Ordering}
 use Rattle.std.specs.declared.cmp.Ordering.TheVariants.{Less, Equal, Greater}
@@ -14,8 +14,6 @@ use Rattle.ray_geom.specs.Scene.{RayValue, TriValue, IsRay, IsTri}
 use Rattle.ray_geom.specs.EdgeSide.{side_of}
 use Rattle.ray_geom.specs.Boxes.{BoxValue, IsBox}
 use Rattle.ray_geom.specs.Transform.{MatrixValue, IsMatrix, det_of}
-use Rattle.ray_geom.specs.ObjectRay.{ObjectRayValue}
-use Rattle.ray_geom.specs.BoxSpan.{IsBetween, IsInside}
 use Rattle.ray_geom.specs.TriangleHit.{num_of, den_of, IsFrom, IsTo, IsHit}
 
 -- the value where a fact holds
@@ -99,19 +97,6 @@ hit_decided ray tri = same_as
     (both (same_ordering (side_of ray tri.v2 tri.v0) (sign_of (den_of ray tri)))
     (both (same_ordering (side_of ray tri.v0 tri.v1) (sign_of (den_of ray tri)))
     (both (from_decided ray.tmin (num_of ray tri) (den_of ray tri)) (to_decided ray.tmax (num_of ray tri) (den_of ray tri)))))))
-
-between_decided : (near far o m : ℤ) (n d : ℕ) → Dec (IsBetween near far o m n d)
-between_decided near far o m n d =
-    same_as (λ h. record { above = h.0; below = h.1 }) (λ h. (h.above, h.below)) (both (at_most_int _ _) (at_most_int _ _))
-
-pub inside_decided : (object : ObjectRayValue) (box : BoxValue) (n d : ℕ) → Dec (IsInside object box n d)
-inside_decided object box n d = same_as
-    (λ h. record { x = h.0; y = h.1.0; z = h.1.1.0; from = h.1.1.1.0; to = h.1.1.1.1 })
-    (λ h. (h.x, (h.y, (h.z, (h.from, h.to)))))
-    (both (between_decided _ _ object.origin.x object.dir.x n d)
-    (both (between_decided _ _ object.origin.y object.dir.y n d)
-    (both (between_decided _ _ object.origin.z object.dir.z n d)
-    (both (at_most (object.tmin * d) (65536 * n)) (at_most (65536 * n) (object.tmax * d))))))
 
 pub matrix_decided : (m : MatrixValue) → Dec (IsMatrix m)
 matrix_decided m = same_as

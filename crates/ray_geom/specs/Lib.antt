@@ -18,10 +18,5 @@ pub mod Boxes
 pub mod LeastBoxes
 pub mod Crossing
 pub mod ObjectRay
-pub mod BoxSpan
-pub mod Slabs
-pub mod BoxReach
-pub mod Pruning
-pub mod Facing
 pub mod Equality
 pub mod Fits

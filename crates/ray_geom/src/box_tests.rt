@@ -1,17 +1,8 @@
-use crate::{Box3, Frac, Matrix, Ratio, Ray, Tri, Vec3, hit_tri, object_ray, reach_box};
+use crate::{Box3, Frac, Matrix, Ratio, Ray, Tri, Vec3, object_ray};
 use std::cmp::Ordering;
 
 const fn at(x: i64, y: i64, z: i64) -> Vec3 {
     Vec3 { x, y, z }
-}
-
-// The least world box of a box's corners, within the limits.
-fn image_box(m: &Matrix, b: &Box3) -> Option<Box3> {
-    if m.keeps_corners(b) {
-        Some(m.image_box(b))
-    } else {
-        None
-    }
 }
 
 // A flat box and a thin one beside it.
@@ -26,8 +17,8 @@ fn joins_boxes(rt: HostRuntime) {
     assert!(rt; both.holds(&thin) && !thin.holds(&both));
     assert!(rt; both.contains(at(2, 1, 7)) && !both.contains(at(2, 2, 7)));
     assert_eq!(rt; both.corners()[5], at(2, 0, 7));
-    let turned = Matrix::new([[0, -1, 0, 5], [2, 0, 0, 0], [0, 0, 1, 0]]).expect(&rt, "turned");
-    assert!(rt; image_box(&turned, &both) == Box3::new(at(4, -2, 0), at(5, 4, 7)));
+    let tri = Tri::new(at(0, 0, 0), at(4, 0, 0), at(0, 4, 0)).expect(&rt, "tri");
+    assert!(rt; Some(tri.bounds()) == Box3::new(at(0, 0, 0), at(4, 4, 0)));
 }
 
 #[test]
@@ -54,23 +45,24 @@ fn compares_ratios(rt: HostRuntime) {
     assert_eq!(rt; quarters.reduced().lowest(), (1, 2));
 }
 
-// The triangle of the recording and a mirrored instance of it, met from above.
+// M is [2 1 0; 0 4 8; 1 0 -9] with determinant -64 and adjugate [-36 9 8; 8 -18 -16; -4 1 8], and
+// o - T is (2, -1, 1).
 #[test]
-fn tells_faces(rt: HostRuntime) {
-    let tri = Tri::new(at(0, 0, 0), at(4, 0, 0), at(0, 4, 0)).expect(&rt, "tri");
-    let turned = Tri::new(at(0, 0, 0), at(-4, 0, 0), at(0, 4, 0)).expect(&rt, "turned");
-    let mirror = Matrix::from_words([-1, 0, 0, 0, 0, 1, 0, 0, 0, 0, 1, 0]).expect(&rt, "mirror");
-    let down = at(0, 0, -1);
-    let plain = Ray::new(at(1, 1, 5), down, 65536, 1 << 20).expect(&rt, "plain");
-    let other = Ray::new(Vec3::from_words([-1, 1, 5]), down, 0, 1 << 20).expect(&rt, "other");
-    let hit = hit_tri(&plain, &tri).expect(&rt, "hit");
-    let seen = hit_tri(&other, &turned).expect(&rt, "seen");
-    assert!(rt; hit.is_front(&Matrix::identity()) && seen.is_front(&mirror));
-    assert!(rt; hit.t.lowest() == seen.t.lowest() && hit.den_negative != seen.den_negative);
-    let reach = reach_box(&object_ray(&other, &mirror), &tri.bounds()).expect(&rt, "reach");
-    assert!(rt; reach.entry == Ratio::of(seen.t) && reach.exit == reach.entry);
-    assert_eq!(rt;
-        (plain.least().lowest(), plain.greatest().lowest()),
-        ((1, 1), (16, 1))
-    );
+fn takes_rays_to_objects(rt: HostRuntime) {
+    let matrix = Matrix::new([[2, 1, 0, 1], [0, 4, 8, 2], [1, 0, -9, 3]]).expect(&rt, "matrix");
+    let ray = Ray::new(at(3, 1, 4), at(1, 0, 2), 5, 7).expect(&rt, "ray");
+    let object = object_ray(&ray, &matrix);
+    assert_eq!(rt; object.origin(), at(-73, 18, -1));
+    assert_eq!(rt; object.dir(), at(-20, -24, 12));
+    assert_eq!(rt; object.det(), -64);
+    assert_eq!(rt; object.tmin(), 5);
+    assert_eq!(rt; object.tmax(), 7);
+}
+
+// The ends of a ray's interval as fractions.
+#[test]
+fn tells_intervals(rt: HostRuntime) {
+    let plain = Ray::new(at(1, 1, 5), at(0, 0, -1), 65536, 1 << 20).expect(&rt, "plain");
+    assert_eq!(rt; plain.least().lowest(), (1, 1));
+    assert_eq!(rt; plain.greatest().lowest(), (16, 1));
 }

@@ -1,6 +1,6 @@
 use Rattle.std.proofs.Common.{ap}
 use Rattle.ray_geom.specs.Frac.{numerator, denominator}
-use Rattle.ray_geom.proofs.Entries.{ratio_at-is}
+use Rattle.ray_geom.proofs.Ratios.{ratio_at-is}
 use Rattle.ray_geom.proofs.ratio.Ratio.of.Goals as goal
 
 pub returns-clause-at : goal.returns-clause-at

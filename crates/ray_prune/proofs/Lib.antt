@@ -1,0 +1,11 @@
+pub mod Spans
+pub mod Slabs
+pub mod Reaches
+pub mod Entries
+pub mod Scaling
+pub mod Cramer
+pub mod Inside
+pub mod Corners
+pub mod World
+pub mod Faces
+pub mod Unions

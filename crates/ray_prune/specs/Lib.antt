@@ -1,0 +1,6 @@
+pub mod BoxSpan
+pub mod Decided
+pub mod Slabs
+pub mod BoxReach
+pub mod Pruning
+pub mod Facing
