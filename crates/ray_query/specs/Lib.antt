@@ -1,0 +1,4 @@
+pub mod Key
+pub mod Play
+pub mod Machine
+pub mod Record
