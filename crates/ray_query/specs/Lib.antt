@@ -2,3 +2,5 @@ pub mod Key
 pub mod Play
 pub mod Machine
 pub mod Record
+pub mod Laws
+pub mod Deciding
