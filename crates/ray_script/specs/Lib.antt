@@ -1,2 +1,4 @@
 pub mod Rules
 pub mod Scripts
+pub mod Distances
+pub mod Meaning

@@ -1,5 +1,5 @@
 -- Which rules are a script. (Own.)
-use Rattle.std.specs.Prelude.{ℕ, ◌^◌, ◌&&◌, ◌≡◌, List, Bool, true, not, nat_lt, nat_le, length, position, take, if◌then◌else◌, Option, Some, None, Result, Ok, Err}
+use Rattle.std.specs.Prelude.{ℕ, ◌^◌, ◌&&◌, ◌≡◌, ◌≤◌, All, List, Bool, true, not, nat_lt, nat_le, length, position, take, if◌then◌else◌, Option, Some, None, Result, Ok, Err}
 use Rattle.ray_script.specs.declared.raw_choice.RawChoice.{RawChoice}
 use Rattle.ray_script.specs.declared.raw_choice.RawChoice.TheVariants.{At}
 use Rattle.ray_script.specs.declared.raw_rule.RawRule.{RawRule}
@@ -27,6 +27,11 @@ or_too_many count None = if nat_lt 4096 count then Some 4096 else None
 -- the first rule that is out of range, among the first 4,096; else 4,096 where there are more
 abbrev pub refused_at : List RawRule → Option ℕ
 refused_at rules = or_too_many (length rules) (first_bad rules)
+
+-- the rules of a script: all are in range, and there are at most 4,096
+pub record IsScript (rules : List RawRule) : Type 0 where
+  pub in_range : All (λ rule. is_in_range rule ≡ true) rules
+  pub few : length rules ≤ 4096
 
 -- the answer is the script of the rules, or names the first that is refused
 abbrev pub IsScriptOf : List RawRule → Result (List RawRule) BadScript → Type 0

@@ -2,8 +2,10 @@ ghost use Rattle.std.specs.Prelude.{◌≡◌, ◌<◌, IfSome};
 ghost use Rattle.ray_script.specs.Scripts.{is_in_range, first_bad, refused_at, IsScriptOf};
 
 use crate::bad_script::BadScript;
+use crate::deciding::decide_by;
 use crate::raw_choice::RawChoice;
 use crate::raw_rule::RawRule;
+use ray_query::{Candidate, Client, Decision};
 use std::alloc::Global;
 use std::marker::Model;
 
@@ -16,8 +18,8 @@ const MOST_DENOMINATOR: u64 = 1 << 16;
 /// The greatest numerator of a rule's distance.
 const MOST_NUMERATOR: u64 = 1 << 40;
 
-/// Rules in range, at most 4,096: the first whose numbers are a candidate's decides on it. Contracts
-/// see them as a list. Own.
+/// Rules in range, at most 4,096: the first whose numbers are a candidate's decides on it, and where
+/// none's are, it is ignored. Contracts see them as a list. Own.
 #[derive(Drop)]
 pub struct Script {
     rules: Vec<RawRule>,
@@ -26,10 +28,23 @@ pub struct Script {
 impl Model for Script {
     ghost use Rattle.std.specs.Prelude.{List};
     ghost use Rattle.ray_script.specs.declared.raw_rule.RawRule.{RawRule};
+    ghost use Rattle.ray_script.specs.Scripts.{IsScript};
 
     ghost Value = { List RawRule };
 
     ghost view = { λ s. s.rules.items };
+
+    ghost invariant = { λ s. IsScript s.rules.items };
+}
+
+impl Client for Script {
+    ghost use Rattle.ray_script.specs.Meaning.{script_decision};
+
+    ghost meaning = { script_decision };
+
+    fn decide(&self, c: &Candidate) -> Decision {
+        decide_by(&self.rules, c)
+    }
 }
 
 /// The script of these rules.

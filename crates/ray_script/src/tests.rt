@@ -1,5 +1,10 @@
-use crate::{BadScript, NotRules, RawChoice, RawRule, RuleReader, raw_rules, script_of};
+use crate::{
+    BadScript, NotRules, RawChoice, RawRule, RuleReader, distance_law, raw_rules, script_of,
+};
+use ray_flags::Kind;
+use ray_geom::Frac;
 use ray_json::{ReadFault, Reader};
+use ray_query::{Candidate, Client, Decision, Found};
 use serde_json::Value;
 use std::alloc::{AllocError, Global};
 use std::test::Fail;
@@ -196,4 +201,77 @@ fn makes_scripts(rt: HostRuntime) {
         assert_eq!(rt; answer(rt.alloc(), count, bad), want, "{name}");
     }
     assert_eq!(rt; BadScript::from(AllocError), BadScript::NoMemory);
+}
+
+// The candidate with the ray 1, the instance 2, the geometry 3, the primitive 4 and so many before.
+fn candidate(nth: u64) -> Candidate {
+    let found = Found {
+        kind: Kind::Aabb,
+        opaque: false,
+        instance: 2,
+        geometry: 3,
+        primitive: 4,
+        custom: 5,
+        sbt: 6,
+        front: false,
+        t: Frac::zero(),
+        exit: Frac::zero(),
+        u: Frac::zero(),
+        v: Frac::zero(),
+    };
+    Candidate { ray: 1, nth, found }
+}
+
+#[test]
+fn decides_by_the_first_match(rt: HostRuntime) -> Result<(), Fail> {
+    distance_law();
+    let all = RawRule {
+        ray: Some(1),
+        instance: Some(2),
+        geometry: Some(3),
+        primitive: Some(4),
+        nth: Some(7),
+        choice: RawChoice::Terminate,
+    };
+    let other_ray = RawRule {
+        ray: Some(2),
+        ..all
+    };
+    let other_instance = RawRule {
+        instance: Some(4294967298),
+        ..all
+    };
+    let other_offer = RawRule {
+        nth: Some(6),
+        ..all
+    };
+    let exit = rule(RawChoice::Exit);
+    let at = rule(RawChoice::At(2, 4));
+    let half = Decision::GenerateAt(Frac::new(1, 2).unwrap());
+    // Three rules, and the decision on the candidate with 7 before it.
+    let rows = [
+        ("all numbers", [all, CONFIRM, exit], Decision::Terminate),
+        ("no numbers", [CONFIRM, all, exit], Decision::Confirm),
+        (
+            "another ray",
+            [other_ray, exit, all],
+            Decision::GenerateExit,
+        ),
+        (
+            "2^32 more",
+            [other_instance, all, exit],
+            Decision::Terminate,
+        ),
+        ("at 2/4", [other_offer, at, all], half),
+        (
+            "none",
+            [other_offer, other_ray, other_ray],
+            Decision::Ignore,
+        ),
+    ];
+    for (name, rules, want) in rows {
+        let script = script_of(rt.alloc(), &rules).map_err(|_| AllocError)?;
+        assert_eq!(rt; script.decide(&candidate(7)), want, "{name}");
+    }
+    Ok(())
 }
