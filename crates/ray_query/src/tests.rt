@@ -1,10 +1,15 @@
+ghost use Rattle.std.specs.Prelude.{◌≡◌, ◌==◌, if◌then◌else◌};
+ghost use Rattle.ray_query.specs.declared.decision.Decision.TheVariants.{Confirm, Ignore};
+
 use crate::{
-    Candidate, Client, Commit, Decision, Found, Query, Step, confirming_law, ignoring_law,
-    parts_law, record_of,
+    ByFn, Candidate, Client, Commit, Decision, Found, Function, Query, Step, confirming_law,
+    ignoring_law, parts_law, record_of,
 };
 use ray_bytes::HitRecord;
 use ray_flags::{Kind, RayFlags};
 use ray_geom::Frac;
+use std::alloc::{AllocError, Global};
+use std::test::Fail;
 
 // A client that decides one thing on every candidate.
 #[derive(Drop)]
@@ -276,4 +281,30 @@ fn records_of_commits(rt: HostRuntime) {
     ignoring_law();
     confirming_law();
     parts_law();
+}
+
+// Three triangles that aren't opaque, played by a function that confirms the offer of number 1.
+fn played_by_second(alloc: Global) -> Result<Option<Frac>, AllocError> {
+    let function: Function = Box::new(
+        alloc,
+        |c: &Candidate| -> Decision
+            ensures { result ≡ if c.now.nth == 1 then Confirm else Ignore }
+        {
+            if c.nth == 1 {
+                Decision::Confirm
+            } else {
+                Decision::Ignore
+            }
+        },
+    )?;
+    let client = ByFn::new(function);
+    let mut query = Query::initialize(0, RayFlags(0));
+    query.play(&client, &[triangle(3, 2), triangle(4, 1), triangle(5, 0)]);
+    Ok(distance(&query))
+}
+
+#[test]
+fn a_stored_function(rt: HostRuntime) -> Result<(), Fail> {
+    assert_eq!(rt; played_by_second(rt.alloc())?, Some(whole(4)));
+    Ok(())
 }
