@@ -1,3 +1,4 @@
+mod Choosing
 mod Meanings
 mod Orders
 mod Playing

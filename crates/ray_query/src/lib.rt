@@ -1,5 +1,22 @@
-//! The query machine of a ray: what is found on the ray's way is offered to a client, and what the
-//! client decides is committed.
+//! The query machine of a ray: what is found on the ray's way is shown to a query, which offers it
+//! to a client and keeps the committed hit.
+//!
+//! A [`Query`] has an instruction of SPV_KHR_ray_query for each call, from
+//! [`Query::initialize`] on. `specs/Play` says what they come to: the play of a list of what was
+//! found, in rising order of keys (`specs/Key`), by the decisions of a client. Contracts see a query
+//! as the play's own state (`specs/Machine`), and each call is one step of it.
+//!
+//! The layer above uses the clauses of [`Query::play_one`] and [`Query::play`], by which a query and
+//! a client play as the client's meaning says, and that of [`record_of`], the record of a committed
+//! hit. A [`Client`] tells its meaning, a decision as a function of the candidate; [`ByFn`] makes one
+//! of a function. They await the traces that find candidates.
+//!
+//! Laws are calls that do nothing and whose contract is the law: [`chosen_law`], [`ignoring_law`],
+//! [`confirming_law`] and [`parts_law`] say by `specs/Laws` that the play is what Vulkan means,
+//! [`passing_law`] what a trace may leave out.
+//!
+//! It stands on ray_geom (fractions), ray_flags (kinds and flags) and ray_bytes (records). No call
+//! takes memory.
 #![tactic(auto)]
 
 mod by_fn;
@@ -23,7 +40,7 @@ pub use commit::Commit;
 pub use decision::Decision;
 pub use found::Found;
 pub use key::Key;
-pub use laws::{confirming_law, ignoring_law, parts_law};
+pub use laws::{chosen_law, confirming_law, ignoring_law, parts_law, passing_law};
 pub use query::Query;
 pub use record::record_of;
 pub use step::Step;

@@ -2,8 +2,8 @@ ghost use Rattle.std.specs.Prelude.{◌≡◌, ◌==◌, if◌then◌else◌};
 ghost use Rattle.ray_query.specs.declared.decision.Decision.TheVariants.{Confirm, Ignore};
 
 use crate::{
-    ByFn, Candidate, Client, Commit, Decision, Found, Function, Query, Step, confirming_law,
-    ignoring_law, parts_law, record_of,
+    ByFn, Candidate, Client, Commit, Decision, Found, Function, Query, Step, chosen_law,
+    confirming_law, ignoring_law, parts_law, passing_law, record_of,
 };
 use ray_bytes::HitRecord;
 use ray_flags::{Kind, RayFlags};
@@ -278,9 +278,11 @@ fn records_of_commits(rt: HostRuntime) {
         assert_eq!(rt; record_of(Some(commit)), want, "{name}");
     }
     assert_eq!(rt; record_of(None), HitRecord::MISS);
+    chosen_law();
     ignoring_law();
     confirming_law();
     parts_law();
+    passing_law();
 }
 
 // Three triangles that aren't opaque, played by a function that confirms the offer of number 1.
