@@ -7,7 +7,7 @@ use Rattle.ray_query.specs.declared.found.Found.{Found}
 use Rattle.ray_query.specs.declared.decision.Decision.{Decision}
 use Rattle.ray_query.specs.declared.step.Step.{Step}
 use Rattle.ray_query.specs.declared.step.Step.TheVariants.{Passed, Committed, Ask}
-use Rattle.ray_query.specs.Play.{QueryState, start, counts, commits_unasked, candidate_of, offered, committed_at, is_in_span, is_triangle, decided}
+use Rattle.ray_query.specs.Play.{QueryState, start, counts, commits_unasked, candidate_of, offered, committed_at, generated_at, is_in_span, is_triangle, decided}
 
 -- a query: the number of its ray, its flags, what was offered and isn't answered yet, and the
 -- state of the play
@@ -16,6 +16,16 @@ pub record QueryValue : Type 0 where
   pub flags : RayFlags
   pub asked : Option Found
   pub state : QueryState
+
+-- the query once a commit at this distance was tried, a box was generated there, a decision taken
+abbrev pub after_commit : QueryValue → Found → Frac → QueryValue
+after_commit q f t = record q { state = committed_at q.flags f t q.state }
+
+abbrev pub after_generation : QueryValue → Found → Frac → QueryValue
+after_generation q f t = record q { state = generated_at q.flags f t q.state }
+
+abbrev pub after_decision : QueryValue → Found → Decision → QueryValue
+after_decision q f d = record q { state = decided q.flags f d q.state }
 
 -- a query that begins (OpRayQueryInitializeKHR)
 abbrev pub query_of : ℕ → RayFlags → QueryValue
@@ -29,7 +39,7 @@ IsOffered q f Passed r = (counts f f.t q.state ≡ false) × (r ≡ q)
 IsOffered q f Committed r =
     (counts f f.t q.state ≡ true)
     × (commits_unasked f ≡ true)
-    × (r ≡ record q { state = committed_at q.flags f f.t q.state })
+    × (r ≡ after_commit q f f.t)
 IsOffered q f (Ask c) r =
     (counts f f.t q.state ≡ true)
     × (commits_unasked f ≡ false)
@@ -38,7 +48,7 @@ IsOffered q f (Ask c) r =
 
 -- the query once this decision answers the offer
 abbrev pub answered : QueryValue → Found → Decision → QueryValue
-answered q f d = record q { asked = None; state = decided q.flags f d q.state }
+answered q f d = record (after_decision q f d) { asked = None }
 
 -- a confirmation counts: it is a triangle, and its key is below the committed one
 abbrev pub confirms : Found → QueryState → Bool

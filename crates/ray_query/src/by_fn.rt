@@ -12,8 +12,8 @@ pub type Function = Box<dyn Fn(&Candidate) -> Decision>;
 #[derive(Drop)]
 pub struct ByFn {
     function: Function,
-    pub ghost callable: { IsCallable (λ p. Function.pre function p) },
-    pub ghost decides: { DecidesEach (λ p d. Function.post function p d) } by { DecidesEach-prop _ },
+    pub ghost callable: { IsCallable (Function.pre function) },
+    pub ghost decides: { DecidesEach (Function.post function) } by { DecidesEach-prop _ },
 }
 
 impl ByFn {
@@ -22,9 +22,9 @@ impl ByFn {
     /// The client that decides what `function` answers. On each candidate whose numbers fit their
     /// types `function` may be called, and what it promises allows exactly one decision.
     pub fn new(function: Function) -> ByFn
-        requires callable { IsCallable (λ p. Function.pre function p) }
-        requires decides { DecidesEach (λ p d. Function.post function p d) }
-        ensures { IsMeaning (λ p d. Function.post function p d) (⟦<ByFn as Client>⟧.meaning result) }
+        requires callable { IsCallable (Function.pre function) }
+        requires decides { DecidesEach (Function.post function) }
+        ensures { IsMeaning (Function.post function) (⟦<ByFn as Client>⟧.meaning result) }
     {
         ByFn { function }
     }

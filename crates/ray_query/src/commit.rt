@@ -10,7 +10,8 @@ use ray_geom::Frac;
 pub struct Commit {
     /// What was found.
     pub found: Found,
-    /// The distance at which it was committed: a triangle's own, or one at which a box was generated.
+    /// The distance at which it was committed: a triangle's own, or one at which a box was
+    /// generated.
     pub t: Frac,
 }
 

@@ -1,4 +1,5 @@
-ghost use Rattle.ray_query.specs.Laws.{CommitsAreChosen, ConfirmingCommitsClosest, IgnoringCommitsOpaque};
+ghost use Rattle.ray_query.specs.Laws.{CommitsAreChosen, ConfirmingCommitsClosest};
+ghost use Rattle.ray_query.specs.Laws.{IgnoringCommitsOpaque};
 ghost use Rattle.ray_query.specs.Laws.{LeavesOut, OverStays, PassedStays, PlaysInParts};
 
 /// The law of a client that ignores: only opaque triangles commit, and of these the closest.
@@ -20,15 +21,15 @@ pub fn chosen_law()
     ensures { CommitsAreChosen }
 {}
 
-/// The law of what is passed over: it stays so, and it may be left out. (Own; it is why a trace need
-/// not look at what can't be nearer than the committed hit.)
+/// The law of what is passed over: it stays so, and it may be left out. (Own; it is why a trace
+/// need not look at what can't be nearer than the committed hit.)
 pub fn passing_law()
     ensures stays { PassedStays }
     ensures left_out { LeavesOut }
 {}
 
-/// The law of parts: playing a list in two parts is playing it whole, so a query may stop and go on;
-/// and a query that is over stays as it is. (Own.)
+/// The law of parts: playing a list in two parts is playing it whole, so a query may stop and go
+/// on; and a query that is over stays as it is. (Own.)
 pub fn parts_law()
     ensures parts { PlaysInParts }
     ensures over { OverStays }

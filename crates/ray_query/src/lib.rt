@@ -1,15 +1,15 @@
 //! The query machine of a ray: what is found on the ray's way is shown to a query, which offers it
 //! to a client and keeps the committed hit.
 //!
-//! A [`Query`] has an instruction of SPV_KHR_ray_query for each call, from
-//! [`Query::initialize`] on. `specs/Play` says what they come to: the play of a list of what was
-//! found, in rising order of keys (`specs/Key`), by the decisions of a client. Contracts see a query
-//! as the play's own state (`specs/Machine`), and each call is one step of it.
+//! The calls of a [`Query`] stand for the instructions of SPV_KHR_ray_query. `specs/Play` says what
+//! they come to: the play of a list of what was found, in rising order of keys (`specs/Key`), by
+//! the decisions of a client. Contracts see a query as the play's own state (`specs/Machine`), and
+//! each call is one step of it.
 //!
-//! The layer above uses the clauses of [`Query::play_one`] and [`Query::play`], by which a query and
-//! a client play as the client's meaning says, and that of [`record_of`], the record of a committed
-//! hit. A [`Client`] tells its meaning, a decision as a function of the candidate; [`ByFn`] makes one
-//! of a function. They await the traces that find candidates.
+//! The layer above uses the clauses of [`Query::play_one`] and [`Query::play`], by which a query
+//! and a client play as the client's meaning says, and that of [`record_of`], the record of a
+//! committed hit. A [`Client`] tells its meaning, a decision as a function of the candidate;
+//! [`ByFn`] makes one of a function. They await the traces that find candidates.
 //!
 //! Laws are calls that do nothing and whose contract is the law: [`chosen_law`], [`ignoring_law`],
 //! [`confirming_law`] and [`parts_law`] say by `specs/Laws` that the play is what Vulkan means,

@@ -1,7 +1,10 @@
 ghost use Rattle.std.specs.Prelude.{◌≡◌, ◌&&◌, true, false, not, Some, None, IsSome, IfSome};
-ghost use Rattle.ray_query.specs.Play.{committed_at, commits_unasked, counts, decided, generated_at, is_in_span, is_triangle, play, play_one};
-ghost use Rattle.ray_query.specs.Machine.{IsOffered, answered, confirms, generates, query_of};
-ghost use Rattle.ray_query.specs.declared.decision.Decision.TheVariants.{Confirm, GenerateAt, Terminate};
+ghost use Rattle.ray_query.specs.Play.{commits_unasked, counts, is_in_span, is_triangle};
+ghost use Rattle.ray_query.specs.Play.{play, play_one};
+ghost use Rattle.ray_query.specs.Machine.{IsOffered, after_commit, after_decision, query_of};
+ghost use Rattle.ray_query.specs.Machine.{after_generation, answered, confirms, generates};
+ghost use Rattle.ray_query.specs.declared.decision.Decision.TheVariants.{Confirm, Terminate};
+ghost use Rattle.ray_query.specs.declared.decision.Decision.TheVariants.{GenerateAt};
 
 use crate::candidate::Candidate;
 use crate::client::Client;
@@ -87,8 +90,8 @@ impl Query {
         self.decide(f, d);
     }
 
-    /// Confirms the triangle that is offered. True exactly where that counted: a box isn't confirmed,
-    /// and a triangle counts where its key is below that of the committed hit.
+    /// Confirms the triangle that is offered. True exactly where that counted: a box isn't
+    /// confirmed, and a triangle counts where its key is below that of the committed hit.
     /// (OpRayQueryConfirmIntersectionKHR.)
     pub fn confirm(&mut self) -> bool
         requires { IsSome self.old.asked }
@@ -102,9 +105,9 @@ impl Query {
         self.commit_triangle(f)
     }
 
-    /// Generates a hit of the box that is offered, at a distance. True exactly where that counted: a
-    /// triangle isn't generated, and a box counts where the distance is from its entry to its exit
-    /// and the key with this distance is below that of the committed hit.
+    /// Generates a hit of the box that is offered, at a distance. True exactly where that counted:
+    /// a triangle isn't generated, and a box counts where the distance is from its entry to its
+    /// exit and the key with this distance is below that of the committed hit.
     /// (OpRayQueryGenerateIntersectionKHR.)
     pub fn generate(&mut self, t: Frac) -> bool
         requires { IsSome self.old.asked }
@@ -127,8 +130,8 @@ impl Query {
         self.over = true;
     }
 
-    /// Plays one candidate: shows it to the query, asks the client where it is offered, and answers by
-    /// its decision. Where the query is over, nothing is done.
+    /// Plays one candidate: shows it to the query, asks the client where it is offered, and answers
+    /// by its decision. Where the query is over, nothing is done.
     pub fn play_one<C: Client>(&mut self, client: &C, f: Found)
         requires { self.old.asked ≡ None }
         ensures { let meaning = C.meaning client.now in self.new ≡ record self.old {
@@ -143,8 +146,8 @@ impl Query {
         }
     }
 
-    /// Plays candidates, one after the other. Their keys are to rise; else each is still played, but
-    /// the play of such a list means nothing in Vulkan.
+    /// Plays candidates, one after the other. Their keys are to rise; else each is still played,
+    /// but the play of such a list means nothing in Vulkan.
     pub fn play<C: Client>(&mut self, client: &C, found: &[Found])
         requires { self.old.asked ≡ None }
         ensures { let meaning = C.meaning client.now in self.new ≡ record self.old {
@@ -181,7 +184,7 @@ impl Query {
 
     // Does with what was offered what a decision says.
     fn decide(&mut self, f: Found, d: Decision)
-        ensures { self.new ≡ record self.old { state = decided self.old.flags f d self.old.state } }
+        ensures { self.new ≡ after_decision self.old f d }
     {
         match d {
             Decision::Ignore => {}
@@ -212,7 +215,7 @@ impl Query {
     // Commits a triangle at its distance, where that counts; whether it did.
     fn commit_triangle(&mut self, f: Found) -> bool
         ensures value { result ≡ confirms f self.old.state }
-        ensures after { self.new ≡ record self.old { state = decided self.old.flags f Confirm self.old.state } }
+        ensures after { self.new ≡ after_decision self.old f Confirm }
     {
         is_triangle(f.kind) && self.commit(f, f.t)
     }
@@ -220,7 +223,7 @@ impl Query {
     // Commits a box at this distance, where that counts; whether it did.
     fn commit_box(&mut self, f: Found, t: Frac) -> bool
         ensures value { result ≡ not (is_triangle f.kind) && counts f t self.old.state }
-        ensures after { self.new ≡ record self.old { state = generated_at self.old.flags f t self.old.state } }
+        ensures after { self.new ≡ after_generation self.old f t }
     {
         !is_triangle(f.kind) && self.commit(f, t)
     }
@@ -238,7 +241,7 @@ impl Query {
     // Commits at this distance, where that counts; whether it did.
     fn commit(&mut self, f: Found, t: Frac) -> bool
         ensures value { result ≡ counts f t self.old.state }
-        ensures after { self.new ≡ record self.old { state = committed_at self.old.flags f t self.old.state } }
+        ensures after { self.new ≡ after_commit self.old f t }
     {
         if !self.counts(f, t) {
             return false;

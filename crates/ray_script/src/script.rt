@@ -18,8 +18,8 @@ const MOST_DENOMINATOR: u64 = 1 << 16;
 /// The greatest numerator of a rule's distance.
 const MOST_NUMERATOR: u64 = 1 << 40;
 
-/// Rules in range, at most 4,096: the first whose numbers are a candidate's decides on it, and where
-/// none's are, it is ignored. Contracts see them as a list. Own.
+/// Rules in range, at most 4,096: the first whose numbers are a candidate's decides on it, and
+/// where none's are, it is ignored. Contracts see them as a list. Own.
 #[derive(Drop)]
 pub struct Script {
     rules: Vec<RawRule>,
