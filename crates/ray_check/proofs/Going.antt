@@ -89,6 +89,18 @@ static-among rec (c ∷ cs) i z r e =
     (omega arith) (command-joined rec i z c).static_at
     (λ q d. subst (λ n. IsAmong (i + 1) n q) more (static-among rec cs (i + 1) (after i c z) q d)) r e
 
+pub rule-among :
+    (rec : List Command) (cs : List Command) (i : ℕ) (z : Status) (r : Refusal) → rule_refusal_from rec i z cs ≡ Some r
+    → IsAmong i (i + length cs) r
+rule-among rec [] i z r e =
+    let same = end-at i (v28_at_end z) r e in
+    record { least = omega arith; most = omega arith }
+rule-among rec (c ∷ cs) i z r e =
+    let more : (i + 1) + length cs ≡ i + length (c ∷ cs) = omega arith in
+    among-after i (i + length (c ∷ cs)) (rule_refusal_of rec i z c) (rule_refusal_from rec (i + 1) (after i c z) cs)
+    (omega arith) (command-joined rec i z c).rule_at
+    (λ q d. subst (λ n. IsAmong (i + 1) n q) more (rule-among rec cs (i + 1) (after i c z) q d)) r e
+
 -- where the commands are looked at that keep the first 24 rules
 pub looked-late :
     (n : ℕ) (r : Refusal) → r.command < n → is_early r.rule ≡ false → looked_at n (Some r) ≡ r.command + 1

@@ -116,6 +116,7 @@ join-tables i a h s t la lh ls lt =
 pub record IsJoined (i : ℕ) (static hazard rule : Option Refusal) : Type 0 where
   pub joined : rule ≡ first_of_two static hazard
   pub static_at : (r : Refusal) → static ≡ Some r → r.command ≡ i
+  pub rule_at : (r : Refusal) → rule ≡ Some r → r.command ≡ i
   pub hazard_at : (r : Refusal) → hazard ≡ Some r → r.command ≡ i
   pub early : (r : Refusal) → static ≡ Some r → is_early r.rule ≡ true → first_of_two static hazard ≡ static
 
@@ -153,6 +154,7 @@ pub joined :
 joined i a h s t la lh ls lt = record {
   joined = join-tables i a h s t la lh ls lt;
   static_at = least-at i (a ++ s);
+  rule_at = least-at i (a ++ (h ++ (s ++ t)));
   hazard_at = least-at i (h ++ t);
   early = λ r e f.
       (λ j. first_of_two (of-rows i a s j) (of-rows i h t j))
