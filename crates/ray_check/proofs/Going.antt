@@ -1,19 +1,18 @@
 -- From the refusals of the commands to that of the recording.
-use Rattle.std.proofs.Common.{◌≡◌, ◌<◌, ◌≤◌, ℕ, zero, suc, ◌+◌, List, [], ◌∷◌, length, slice_get, Option, Some, None, Bool, true, false, ◌&&◌, not, nat_lt, if◌then◌else◌, refl, sym, ◌∙◌, ap, subst, inl, inr, arith}
+use Rattle.std.proofs.Common.{◌≡◌, ◌<◌, ◌≤◌, ℕ, suc, ◌+◌, List, [], ◌∷◌, length, slice_get, Option, Some, None, Bool, true, false, ◌&&◌, not, nat_lt, refl, sym, ◌∙◌, ap, subst, inl, inr, arith}
 use Rattle.std.specs.Prelude.{option_map}
 use Rattle.std.proofs.lemmas.Bool.{cases_Bool, cases_lt, cond-true, cond-false, lt-ltb, le-ltb}
 use Rattle.std.proofs.lemmas.Option.{none-some, same_Some}
-use Rattle.std.proofs.lemmas.Bool.Decides.{nat_tests}
 use Rattle.ray_cmd.specs.declared.command.Command.{Command}
 use Rattle.ray_cmd.specs.declared.place.Place.{Place}
 use Rattle.ray_cmd.specs.declared.refusal.Refusal.{Refusal}
 use Rattle.ray_rules.specs.Hazards.{after_if, status_at}
 use Rattle.ray_rules.specs.Phases.{v28_at_end}
-use Rattle.ray_rules.specs.Refusals.{refused, or_after, refusal_at_end, static_refusal, static_refusal_from, static_refusal_of}
+use Rattle.ray_rules.specs.Refusals.{refused, or_after, static_refusal_from, static_refusal_of}
 use Rattle.ray_rules.specs.Status.{Status, after, at_first}
-use Rattle.ray_rules.specs.Verdict.{GoOn, first_hazard, hazard_of, rule_refusal, rule_refusal_from, rule_refusal_of}
-use Rattle.ray_check.specs.Joining.{first_of_two, is_before, is_early, looked_at}
-use Rattle.ray_check.proofs.Tables.{GoesOn, IsJoined, command-joined, command-kept}
+use Rattle.ray_rules.specs.Verdict.{rule_refusal_from, rule_refusal_of}
+use Rattle.ray_check.specs.Joining.{is_early, looked_at}
+use Rattle.ray_check.proofs.Tables.{command-joined}
 
 and-false : (b : Bool) → (b && false) ≡ false
 and-false true = refl

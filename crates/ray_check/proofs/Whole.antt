@@ -1,6 +1,6 @@
 -- The refusal of a recording by all rules is the first of that by the static rules and that by those on
 -- hazards, of the commands that are looked at; and these go on.
-use Rattle.std.proofs.Common.{◌≡◌, ◌<◌, ◌≤◌, ℕ, zero, suc, ◌+◌, List, [], ◌∷◌, length, slice_get, Option, Some, None, Bool, true, false, ◌&&◌, ◌||◌, nat_lt, nat_eq, if◌then◌else◌, refl, sym, ◌∙◌, ap, subst, inl, inr, arith}
+use Rattle.std.proofs.Common.{◌≡◌, ◌<◌, ◌≤◌, ℕ, zero, suc, ◌+◌, List, [], ◌∷◌, length, slice_get, Option, Some, None, Bool, true, false, ◌&&◌, ◌||◌, nat_eq, if◌then◌else◌, refl, sym, ◌∙◌, ap, subst, inl, inr, arith}
 use Rattle.std.specs.Prelude.{IfSome}
 use Rattle.std.proofs.lemmas.Bool.{cases_Bool, cases_lt, cond-true, lt-ltb}
 use Rattle.std.proofs.lemmas.Option.{none-some, same_Some}
@@ -13,7 +13,7 @@ use Rattle.ray_rules.specs.Status.{Status, after, at_first}
 use Rattle.ray_rules.specs.Verdict.{GoOn, first_hazard, hazard_of, rule_refusal, rule_refusal_from, rule_refusal_of}
 use Rattle.ray_check.specs.Joining.{first_of_two, is_before, is_early, is_lesser, looked_at}
 use Rattle.ray_check.proofs.Tables.{GoesOn, IsJoined, command-joined, command-kept}
-use Rattle.ray_check.proofs.Going.{IsAmong, IsLeft, end-at, left-first, left-here, left-next, looked-above, looked-early, looked-end, looked-late, looked-within, rule-among, static-among}
+use Rattle.ray_check.proofs.Going.{IsLeft, end-at, left-first, left-here, left-next, looked-above, looked-early, looked-end, looked-late, looked-within, rule-among, static-among}
 
 -- the first hazard of fewer commands is that of more
 pub hazard-stays :
@@ -122,6 +122,12 @@ joins rec st hz e f =
     ap (first_of_two st) f
     ∙ (ap (λ o. first_of_two o (first_hazard rec (looked_at (length rec) o))) e
     ∙ sym (join-from rec rec 0 at_first (left-first rec) refl))
+
+-- how many commands are looked at, by what is known of the order
+pub looked-is :
+    (rec : List Command) (st : Option Refusal) (n until many : ℕ) → many ≡ until → until ≡ looked_at n st
+    → n ≡ length rec → many ≡ looked_at (length rec) st
+looked-is rec st n until many e f g = e ∙ (f ∙ ap (λ m. looked_at m st) g)
 
 -- which is of a command, or of the end
 pub within :

@@ -27,8 +27,7 @@ fn is_early(rule: Rule) -> bool
 fn is_before(one: Refusal, other: Refusal) -> bool
     ensures { result ≡ is_before one other }
 {
-    one.command < other.command
-        || (one.command == other.command && is_lesser(one.rule, other.rule))
+    one.command < other.command || (one.command == other.command && is_lesser(one.rule, other.rule))
 }
 
 // The first of two refusals, of which each may be missing.
