@@ -1,7 +1,17 @@
-//! The refusal of a recording by all rules on the recording alone, V1 to V32, as the first of two:
-//! that by the static rules, which ray_valid decides, and that by the rules on hazards of the
-//! commands up to the statically refused one. So far the crate has the laws that say so
-//! (`proofs/Whole`) and the private functions that join the two; it awaits the check of hazards.
+//! The rules on a recording, decided: whether it breaks one of V1 to V32, and by which command,
+//! which rule and where.
+//!
+//! The layer above uses [`check_rules`], whose one clause says that it answers `rule_refusal` of
+//! ray_rules: the refusal of the first command that breaks a rule, by its least. It joins the
+//! refusal by the static rules, which ray_valid decides, and that by the rules on hazards, which
+//! ray_sync decides for the commands up to the statically refused one.
+//!
+//! It stands on ray_valid, ray_sync and ray_rules (the definitions).
 #![tactic(auto)]
 
 mod joining;
+#[cfg(test)]
+mod tests;
+mod verdict;
+
+pub use crate::verdict::check_rules;
