@@ -48,10 +48,7 @@ fn stretch(memory: Memory, made: Option<u32>, from: u128, size: u128) -> Range
     ensures { result ≡ stretch memory made from size }
 {
     match made {
-        None => Range {
-            from: 0,
-            end: 0,
-        },
+        None => Range { from: 0, end: 0 },
         Some(made) => {
             let first = stretch_from(memory, made);
             Range {

@@ -60,10 +60,7 @@ pub(crate) fn one_write(
     let mut writes = Vec::new(alloc);
     let access = AccessType::TransferWrite;
     add(&mut writes, status, bytes(access, buffer, offset, size))?;
-    Ok(Touches {
-        reads,
-        writes,
-    })
+    Ok(Touches { reads, writes })
 }
 
 // The sources and the destinations of a copy.
@@ -83,22 +80,23 @@ pub(crate) fn copy(
         let read = AccessType::TransferRead;
         let write = AccessType::TransferWrite;
         let size = region.size;
-        add(&mut reads, status, bytes(read, src, region.src_offset, size))?;
-        add(&mut writes, status, bytes(write, dst, region.dst_offset, size))?;
+        add(
+            &mut reads,
+            status,
+            bytes(read, src, region.src_offset, size),
+        )?;
+        add(
+            &mut writes,
+            status,
+            bytes(write, dst, region.dst_offset, size),
+        )?;
     }
-    Ok(Touches {
-        reads,
-        writes,
-    })
+    Ok(Touches { reads, writes })
 }
 
 // What the infos of a build read and write.
 #[tactic(auto, using(crate::proofs::Joining::adds_none))]
-pub(crate) fn build(
-    alloc: Global,
-    status: &Status,
-    infos: &[Info],
-) -> Result<Touches, AllocError>
+pub(crate) fn build(alloc: Global, status: &Status, infos: &[Info]) -> Result<Touches, AllocError>
     ensures { IfOk result (AreOf status.now (all_accesses (map (info_accesses status.now.buffers) infos.now))) }
 {
     let mut reads = Vec::new(alloc);
@@ -107,10 +105,7 @@ pub(crate) fn build(
         add_info_reads(&mut reads, status, info)?;
         add_info_writes(&mut writes, status, info)?;
     }
-    Ok(Touches {
-        reads,
-        writes,
-    })
+    Ok(Touches { reads, writes })
 }
 
 // The source and the destination of a copy of a structure.
@@ -128,10 +123,7 @@ pub(crate) fn copy_structure(
     let mut writes = Vec::new(alloc);
     add(&mut reads, status, structure_read(src))?;
     add(&mut writes, status, structure_write(dst))?;
-    Ok(Touches {
-        reads,
-        writes,
-    })
+    Ok(Touches { reads, writes })
 }
 
 // The structure that is serialized, and its bytes.
@@ -143,18 +135,20 @@ pub(crate) fn serialize(
     dst: Stretch,
 ) -> Result<Touches, AllocError>
     ensures { IfOk result (AreOf status.now (record {
-        reads = at_structure StructureRead src ∷ [];
-        writes = at_bytes TransferWrite dst.buffer dst.offset dst.size ∷ [] })) }
+      reads = at_structure StructureRead src ∷ [];
+      writes = at_bytes TransferWrite dst.buffer dst.offset dst.size ∷ [];
+    })) }
 {
     let mut reads = Vec::new(alloc);
     let mut writes = Vec::new(alloc);
     let access = AccessType::TransferWrite;
     add(&mut reads, status, structure_read(src))?;
-    add(&mut writes, status, bytes(access, dst.buffer, dst.offset, dst.size))?;
-    Ok(Touches {
-        reads,
-        writes,
-    })
+    add(
+        &mut writes,
+        status,
+        bytes(access, dst.buffer, dst.offset, dst.size),
+    )?;
+    Ok(Touches { reads, writes })
 }
 
 // The serialized bytes, the structures that they may refer to, and the structure that is made.
@@ -167,19 +161,21 @@ pub(crate) fn deserialize(
     uses: &[u32],
 ) -> Result<Touches, AllocError>
     ensures { IfOk result (AreOf status.now (record {
-        reads = at_bytes TransferRead src.buffer src.offset src.size ∷ structure_reads uses.now;
-        writes = at_structure StructureWrite dst ∷ [] })) }
+      reads = at_bytes TransferRead src.buffer src.offset src.size ∷ structure_reads uses.now;
+      writes = at_structure StructureWrite dst ∷ [];
+    })) }
 {
     let mut reads = Vec::new(alloc);
     let mut writes = Vec::new(alloc);
     let access = AccessType::TransferRead;
-    add(&mut reads, status, bytes(access, src.buffer, src.offset, src.size))?;
+    add(
+        &mut reads,
+        status,
+        bytes(access, src.buffer, src.offset, src.size),
+    )?;
     add_structures(&mut reads, status, uses)?;
     add(&mut writes, status, structure_write(dst))?;
-    Ok(Touches {
-        reads,
-        writes,
-    })
+    Ok(Touches { reads, writes })
 }
 
 // The structures that are asked, and the bytes of the answers.
@@ -192,19 +188,21 @@ pub(crate) fn property(
 ) -> Result<Touches, AllocError>
     requires { length structures.now ≤ 67108864 }
     ensures { IfOk result (AreOf status.now (record {
-        reads = structure_reads structures.now;
-        writes = at_bytes TransferWrite dst.buffer dst.offset (8 * length structures.now) ∷ [] })) }
+      reads = structure_reads structures.now;
+      writes = at_bytes TransferWrite dst.buffer dst.offset (8 * length structures.now) ∷ [];
+    })) }
 {
     let mut reads = Vec::new(alloc);
     let mut writes = Vec::new(alloc);
     let access = AccessType::TransferWrite;
     let size = 8 * structures.len() as u64;
     add_structures(&mut reads, status, structures)?;
-    add(&mut writes, status, bytes(access, dst.buffer, dst.offset, size))?;
-    Ok(Touches {
-        reads,
-        writes,
-    })
+    add(
+        &mut writes,
+        status,
+        bytes(access, dst.buffer, dst.offset, size),
+    )?;
+    Ok(Touches { reads, writes })
 }
 
 // The structures that are traced, the rays and the hits.
@@ -228,10 +226,7 @@ pub(crate) fn trace(
     add_structures(&mut reads, status, uses_at(rec, status, top))?;
     add(&mut reads, status, records(read, rays, 40, count))?;
     add(&mut writes, status, records(write, hits, 80, count))?;
-    Ok(Touches {
-        reads,
-        writes,
-    })
+    Ok(Touches { reads, writes })
 }
 
 // The structures that the top of an id may refer to: none where it isn't built.
@@ -256,6 +251,10 @@ pub(crate) fn host_read(
     ensures { IfOk result (λ list. AreTouched status.now (at_bytes HostRead buffer offset size ∷ []) list.items) }
 {
     let mut reads = Vec::new(alloc);
-    add(&mut reads, status, bytes(AccessType::HostRead, buffer, offset, size))?;
+    add(
+        &mut reads,
+        status,
+        bytes(AccessType::HostRead, buffer, offset, size),
+    )?;
     Ok(reads)
 }

@@ -37,14 +37,7 @@ pub(crate) fn add_info_writes(
 {
     let access = AccessType::StructureWrite;
     let reach = Reach::Structure(info.dst);
-    add(
-        list,
-        status,
-        Touch {
-            access,
-            reach,
-        },
-    )?;
+    add(list, status, Touch { access, reach })?;
     add(list, status, scratch(info, access))
 }
 
@@ -60,11 +53,7 @@ fn scratch(info: &Info, access: AccessType) -> Touch
 }
 
 // Puts the reads of listed structures at the end.
-fn add_uses(
-    list: &mut Vec<Touched>,
-    status: &Status,
-    uses: &Listed<u32>,
-) -> Result<(), AllocError>
+fn add_uses(list: &mut Vec<Touched>, status: &Status, uses: &Listed<u32>) -> Result<(), AllocError>
     ensures { OnOk result (Adds status.now (structure_reads uses.now) list.old.items list.new.items) }
 {
     add_structures(list, status, uses.as_slice())

@@ -13,6 +13,8 @@ mod commands;
 mod infos;
 mod laws;
 mod lists;
+#[cfg(test)]
+mod tests;
 mod touched;
 mod touches;
 

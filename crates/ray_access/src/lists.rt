@@ -15,11 +15,7 @@ use std::alloc::AllocError;
 
 // Puts one more touch at the end.
 #[tactic(auto, using(crate::proofs::Joining::adds_one))]
-pub(crate) fn add(
-    list: &mut Vec<Touched>,
-    status: &Status,
-    touch: Touch,
-) -> Result<(), AllocError>
+pub(crate) fn add(list: &mut Vec<Touched>, status: &Status, touch: Touch) -> Result<(), AllocError>
     requires { TouchFits touch }
     ensures { OnOk result (Adds status.now (touch ∷ []) list.old.items list.new.items) }
 {

@@ -39,7 +39,13 @@ pub fn touches_of(
             buffer,
             offset,
             content,
-        } => one_write(alloc, status, *buffer, *offset, content.as_slice().len() as u64),
+        } => one_write(
+            alloc,
+            status,
+            *buffer,
+            *offset,
+            content.as_slice().len() as u64,
+        ),
         Command::Fill {
             buffer,
             offset,

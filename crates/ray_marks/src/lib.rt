@@ -5,7 +5,7 @@
 //! the clauses of [`Marks::mark`] and [`Marks::greatest`]: `is_marked` and `IsGreatest`, which go
 //! over that list. Each takes a number of steps that is logarithmic in the number of cells.
 //!
-//! It stands on std alone. It awaits the check of hazards.
+//! It stands on std alone.
 #![tactic(auto)]
 
 mod marks;

@@ -318,7 +318,9 @@ fn cut(status: &Status, range: ByteRange) -> ByteRange
     ensures value { result ≡ cut status.now.buffers range }
     ensures fits { Fits range → Fits result }
 {
-    let left = status.size_of_buffer(range.buffer).saturating_sub(range.from);
+    let left = status
+        .size_of_buffer(range.buffer)
+        .saturating_sub(range.from);
     let size = if range.size < left { range.size } else { left };
     ByteRange { size, ..range }
 }

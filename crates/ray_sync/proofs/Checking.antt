@@ -63,13 +63,13 @@ pub uncovered-last :
 uncovered-last law rec starts n to ts touches r are placed have last =
     ap (option_map Earlier) (sym (last-greatest _ (λ i. list_any (λ t. wrote_uncovered rec n to t i) ts) n r
     (λ i l any.
-        of-to (touched (status_at rec n)) _ (λ t. wrote_uncovered rec n to t i) (IsPlaced (status_at rec n) starts) ts
-        (each-placed rec starts n ts placed) (λ t one p. uncovered-to law rec starts n i to t one (have.writes i l) p)
-        (subst (λ us. AnyOf (λ (t : Touched). AnyUncovered rec starts n to t.access (cell_of starts t.range.from) (cell_of starts t.range.end) i) us) are.are any))
+    of-to (touched (status_at rec n)) _ (λ t. wrote_uncovered rec n to t i) (IsPlaced (status_at rec n) starts) ts
+    (each-placed rec starts n ts placed) (λ t one p. uncovered-to law rec starts n i to t one (have.writes i l) p)
+    (subst (λ us. AnyOf (λ (t : Touched). AnyUncovered rec starts n to t.access (cell_of starts t.range.from) (cell_of starts t.range.end) i) us) are.are any))
     (λ i l found.
-        subst (λ us. AnyOf (λ (t : Touched). AnyUncovered rec starts n to t.access (cell_of starts t.range.from) (cell_of starts t.range.end) i) us) (sym are.are)
-        (of-from (touched (status_at rec n)) _ (λ t. wrote_uncovered rec n to t i) (IsPlaced (status_at rec n) starts) ts
-        (each-placed rec starts n ts placed) (λ t one e. uncovered-from law rec starts n i to t one (have.writes i l) e) found))
+    subst (λ us. AnyOf (λ (t : Touched). AnyUncovered rec starts n to t.access (cell_of starts t.range.from) (cell_of starts t.range.end) i) us) (sym are.are)
+    (of-from (touched (status_at rec n)) _ (λ t. wrote_uncovered rec n to t i) (IsPlaced (status_at rec n) starts) ts
+    (each-placed rec starts n ts placed) (λ t one e. uncovered-from law rec starts n i to t one (have.writes i l) e) found))
     last))
 
 -- and that read it, not ordered
@@ -82,13 +82,13 @@ pub unordered-last :
 unordered-last law rec starts n to ts touches r are placed have last =
     ap (option_map Earlier) (sym (last-greatest _ (λ i. list_any (λ t. read_unordered rec n to t i) ts) n r
     (λ i l any.
-        of-to (touched (status_at rec n)) _ (λ t. read_unordered rec n to t i) (IsPlaced (status_at rec n) starts) ts
-        (each-placed rec starts n ts placed) (λ t one p. unordered-to law rec starts n i to t one (have.reads i l) p)
-        (subst (λ us. AnyOf (λ (t : Touched). AnyUnordered rec starts n to (cell_of starts t.range.from) (cell_of starts t.range.end) i) us) are.are any))
+    of-to (touched (status_at rec n)) _ (λ t. read_unordered rec n to t i) (IsPlaced (status_at rec n) starts) ts
+    (each-placed rec starts n ts placed) (λ t one p. unordered-to law rec starts n i to t one (have.reads i l) p)
+    (subst (λ us. AnyOf (λ (t : Touched). AnyUnordered rec starts n to (cell_of starts t.range.from) (cell_of starts t.range.end) i) us) are.are any))
     (λ i l found.
-        subst (λ us. AnyOf (λ (t : Touched). AnyUnordered rec starts n to (cell_of starts t.range.from) (cell_of starts t.range.end) i) us) (sym are.are)
-        (of-from (touched (status_at rec n)) _ (λ t. read_unordered rec n to t i) (IsPlaced (status_at rec n) starts) ts
-        (each-placed rec starts n ts placed) (λ t one e. unordered-from law rec starts n i to t one (have.reads i l) e) found))
+    subst (λ us. AnyOf (λ (t : Touched). AnyUnordered rec starts n to (cell_of starts t.range.from) (cell_of starts t.range.end) i) us) (sym are.are)
+    (of-from (touched (status_at rec n)) _ (λ t. read_unordered rec n to t i) (IsPlaced (status_at rec n) starts) ts
+    (each-placed rec starts n ts placed) (λ t one e. unordered-from law rec starts n i to t one (have.reads i l) e) found))
     last))
 
 -- the rules, told by the stage

@@ -307,7 +307,7 @@ one-stage law rec starts stage n i to t one others u =
     any-back (touched z) (λ (w : Touch). touches_share rec i n w t) (has_it starts c) (IsPlaced z starts)
     (accesses_at rec i).reads (each-placed rec starts i (accesses_at rec i).reads others)
     (λ w placed cell.
-        law z v w.reach t.reach placed.fits one.fits ∙ share-meet starts (extent_of z w.reach) (extent_of v t.reach) c cell has) read.touch
+    law z v w.reach t.reach placed.fits one.fits ∙ share-meet starts (extent_of z w.reach) (extent_of v t.reach) c cell has) read.touch
     in
     subst (λ (o : Option Stage). option_map_or (λ s. not (is_ordered_to rec i s n to) && list_any (λ (w : Touch). touches_share rec i n w t) (accesses_at rec i).reads) o false ≡ true) (sym read.by)
     (both (not (is_ordered_to rec i stage n to)) (list_any (λ (w : Touch). touches_share rec i n w t) (accesses_at rec i).reads)

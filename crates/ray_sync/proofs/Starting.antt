@@ -77,7 +77,7 @@ starts-more touches k d old mid new below more has =
           (All-append (λ (t : Touched). is_start new t.range.from ≡ true) (take k touches) (x ∷ [])
           (λ j e l. further (get_or (take k touches) j e).range.from (has.added j e l))
           (All-cons (λ (t : Touched). is_start new t.range.from ≡ true) x [] (more (λ s. s == x.range.from)
-              ∙ or-left (x.range.from == x.range.from) (is_start mid x.range.from) (grind (arith, nat_tests)))
+          ∙ or-left (x.range.from == x.range.from) (is_start mid x.range.from) (grind (arith, nat_tests)))
           (λ j e l. absurd (omega (arith, l)))));
     }
 

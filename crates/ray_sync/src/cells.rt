@@ -32,9 +32,7 @@ impl Cells {
             starts.push(*start)?;
         }
         starts.sort_unstable();
-        Ok(Cells {
-            starts,
-        })
+        Ok(Cells { starts })
     }
 
     // How many cells there are.

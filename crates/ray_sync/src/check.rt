@@ -84,13 +84,7 @@ fn checked(
 }
 
 // The refusal of command number `n` by the least rule on hazards that it breaks.
-fn hazard_of(
-    n: u32,
-    doing: &Doing,
-    lanes: &Lanes,
-    fronts: Fronts,
-    cells: &Cells,
-) -> Option<Refusal>
+fn hazard_of(n: u32, doing: &Doing, lanes: &Lanes, fronts: Fronts, cells: &Cells) -> Option<Refusal>
     requires { AreEnough (length cells.now) lanes.now }
     ensures { (rec : List ACommand) → AreLanes rec cells.now n lanes.now → AreFronts rec n fronts
         → IsDoing rec n doing.now → HaveStarts rec cells.now (suc n) → result ≡ hazard_of rec n }
@@ -102,7 +96,12 @@ fn hazard_of(
     let overwritten = unordered_at(n, doing.stage, fronts, writes, lanes, cells);
     let shown = uncovered(Stage::Host, doing.host.as_slice(), lanes, cells);
     let last = or_later(n, 32, shown, None);
-    or_later(n, 25, read, or_later(n, 26, written, or_later(n, 27, overwritten, last)))
+    or_later(
+        n,
+        25,
+        read,
+        or_later(n, 26, written, or_later(n, 27, overwritten, last)),
+    )
 }
 
 // The refusal of command number `n` by a rule where it is broken, and else by the later ones.

@@ -17,17 +17,12 @@ use ray_rules::Stage;
 
 // One more than the last command that wrote what one of these touches reaches, not covered to it at
 // a stage, and 0 where there is none.
-pub(crate) fn last_uncovered(
-    lanes: &Lanes,
-    to: Stage,
-    touches: &[Touched],
-    cells: &Cells,
-) -> u32
+pub(crate) fn last_uncovered(lanes: &Lanes, to: Stage, touches: &[Touched], cells: &Cells) -> u32
     requires { AreEnough (length cells.now) lanes.now }
     ensures { (rec : List ACommand) (n : ℕ) → AreLanes rec cells.now n lanes.now
         → IsLast (λ i. AnyOf (λ (t : ATouched).
-            AnyUncovered rec cells.now n to t.access (cell_of cells.now t.range.from) (cell_of cells.now t.range.end) i)
-            touches.now) n result }
+        AnyUncovered rec cells.now n to t.access (cell_of cells.now t.range.from) (cell_of cells.now t.range.end) i)
+        touches.now) n result }
 {
     let mut last = 0;
     for touch in touches {
@@ -51,8 +46,8 @@ pub(crate) fn last_unordered(
     ensures { (rec : List ACommand) (n : ℕ) (to : AStage) → AreLanes rec cells.now n lanes.now
         → AreOrdered rec n to limits
         → IsLast (λ i. AnyOf (λ (t : ATouched).
-            AnyUnordered rec cells.now n to (cell_of cells.now t.range.from) (cell_of cells.now t.range.end) i)
-            touches.now) n result }
+        AnyUnordered rec cells.now n to (cell_of cells.now t.range.from) (cell_of cells.now t.range.end) i)
+        touches.now) n result }
 {
     let mut last = 0;
     for touch in touches {

@@ -38,10 +38,7 @@ impl Lane {
         let marks = Marks::new(alloc, cells)?;
         let access = Some(access);
         Ok(Lane {
-            carried: Carried::none(Source {
-                stage,
-                access,
-            }),
+            carried: Carried::none(Source { stage, access }),
             marks,
         })
     }

@@ -5,12 +5,14 @@
 //! The layer above uses [`order_of`], whose clause says that what it gives is the order of the
 //! recording's commands, and with it [`Order::before`] and [`Order::wave`], which are `before` and
 //! `IsLongest` of ray_rules. [`covered_is_ordered`] is the law that what is covered is ordered.
-//! [`Carried`] says from a command to the next to which accesses what commands wrote is covered. It
-//! awaits the check of hazards.
+//! [`Carried`] says from a command to the next to which accesses what commands wrote is covered.
+//! [`check_sync`] finds the first command that breaks V25, V26, V27 or V32, by `first_hazard`.
 //!
-//! It stands on ray_rules (the definitions) and ray_cmd (the commands). The set of earlier commands
-//! that have been handed on to a stage is always those below one number, of the commands of one
-//! stage; so a number for each two stages is all that is kept.
+//! It stands on ray_rules (the definitions), ray_access (what commands read and write) and ray_marks.
+//! The set of earlier commands that have been handed on to a stage is always those below one number,
+//! of the commands of one stage; so a number for each two stages is all that is kept. The last
+//! command of each way of writing that wrote a cell is then all that hazards ask for: where it isn't
+//! covered, it is the greatest that isn't.
 #![tactic(auto)]
 
 mod carried;

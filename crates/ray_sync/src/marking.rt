@@ -24,7 +24,12 @@ impl Lanes {
         let writes = touches.writes.as_slice();
         let access = AccessType::TransferWrite;
         mark_writes(&mut self.transfers.marks, cells, writes, access, value);
-        mark_reads(&mut self.transfer_reads, cells, touches.reads.as_slice(), value);
+        mark_reads(
+            &mut self.transfer_reads,
+            cells,
+            touches.reads.as_slice(),
+            value,
+        );
     }
 
     // Marks what command number `n`, at the stage of builds, read and wrote.
@@ -40,7 +45,12 @@ impl Lanes {
         let bytes = AccessType::TransferWrite;
         mark_writes(&mut self.builds.marks, cells, writes, structures, value);
         mark_writes(&mut self.payloads.marks, cells, writes, bytes, value);
-        mark_reads(&mut self.build_reads, cells, touches.reads.as_slice(), value);
+        mark_reads(
+            &mut self.build_reads,
+            cells,
+            touches.reads.as_slice(),
+            value,
+        );
     }
 
     // Marks what command number `n`, a trace, read and wrote.
@@ -54,7 +64,12 @@ impl Lanes {
         let writes = touches.writes.as_slice();
         let access = AccessType::ShaderWrite;
         mark_writes(&mut self.traces.marks, cells, writes, access, value);
-        mark_reads(&mut self.trace_reads, cells, touches.reads.as_slice(), value);
+        mark_reads(
+            &mut self.trace_reads,
+            cells,
+            touches.reads.as_slice(),
+            value,
+        );
     }
 
     // Goes on past command number `n`, as far as what is covered.

@@ -2,7 +2,7 @@
 use Rattle.std.proofs.Common.{◌≡◌, [], ℕ, ◌+◌, ◌<◌, List, length, drop, Option, Some, None, Ok, Err, ap, sym, subst, ◌∙◌, inl, inr, arith, Global}
 use Rattle.std.specs.Prelude.{String, IfSome}
 use Rattle.ray_cmd.specs.declared.command.Command.{Command}
-use Rattle.ray_rules.specs.Refusals.{static_refusal}
+use Rattle.ray_rules.specs.Verdict.{rule_refusal}
 use Rattle.ray_state.specs.Run.{text_before}
 use Rattle.vkray.specs.declared.status.Status.{Status}
 use Rattle.vkray.specs.declared.status.Status.TheVariants as statuses
@@ -13,7 +13,7 @@ use Rattle.vkray.specs.Call.{Reading, Writing, Answers, IsAnswerOfInput, IsCompl
 use Rattle.vkray.specs.Written.{status_of, text_of}
 
 -- the run of a recording that breaks no rule and whose commands have built forms is its text
-run_is_text : (rec : List Command) → static_refusal rec ≡ None → unbuilt_in rec ≡ None → data_refusal rec (length rec) ≡ None
+run_is_text : (rec : List Command) → rule_refusal rec ≡ None → unbuilt_in rec ≡ None → data_refusal rec (length rec) ≡ None
     → run_of rec ≡ Ok (text_before rec (length rec))
 run_is_text rec kept built clean =
     ap (λ refusal. run_with rec refusal (unbuilt_in rec)) kept
@@ -27,7 +27,7 @@ module _ (words : List (String Global)) (reading : Reading) (writing : Writing) 
   -- the answer of the input is the text
   answer_is_text : answer_of input ≡ Ok text
   unfolding answer_of text
-  answer_is_text = ap run_of_reading good.reads ∙ run_is_text commands good.static_rules good.built good.data_rules
+  answer_is_text = ap run_of_reading good.reads ∙ run_is_text commands good.rules good.built good.data_rules
 
   -- the input that was read is the one that the source told
   same_input : (read : List ℕ) → IsRead reading read → read ≡ input

@@ -7,7 +7,7 @@ use Rattle.ray_cmd.specs.declared.fault.RecordingFault.TheVariants as recordings
 use Rattle.ray_cmd.specs.declared.refusal.Refusal.{Refusal}
 use Rattle.ray_cmd.specs.declared.rule.Rule.TheVariants.{X}
 use Rattle.ray_cmd.specs.Recordings.{recording_of}
-use Rattle.ray_rules.specs.Refusals.{static_refusal}
+use Rattle.ray_rules.specs.Verdict.{rule_refusal}
 use Rattle.ray_state.specs.Meaning.{Fault}
 use Rattle.ray_state.specs.Run.{fault_of, outcome_at, text_before}
 use Rattle.vkray.specs.declared.stop.Stop.{Stop}
@@ -61,7 +61,7 @@ run_with rec (Some refusal) (Some unbuilt) =
 
 -- a run of a recording
 abbrev pub run_of : List Command → Ending
-run_of rec = run_with rec (static_refusal rec) (unbuilt_in rec)
+run_of rec = run_with rec (rule_refusal rec) (unbuilt_in rec)
 
 -- a run of what was read
 abbrev pub run_of_reading : Result (List Command) RecordingFault → Ending

@@ -5,7 +5,7 @@ use Rattle.ray_cmd.specs.declared.command.Command.{Command}
 use Rattle.ray_cmd.specs.Recordings.{recording_of}
 use Rattle.ray_io.specs.Faults.{HasRisen}
 use Rattle.ray_io.specs.ReadAll.{LeavesAllBut}
-use Rattle.ray_rules.specs.Refusals.{static_refusal}
+use Rattle.ray_rules.specs.Verdict.{rule_refusal}
 use Rattle.ray_state.specs.Run.{text_before}
 use Rattle.vkray.specs.declared.status.Status.{Status}
 use Rattle.vkray.specs.declared.status.Status.TheVariants as statuses
@@ -132,7 +132,7 @@ pub record IsGoodCall (words : List (String Global)) (reading : Reading) (writin
   pub source_holds : ¬ HasRisen reading.faults_before reading.faults_after
   pub sink_holds : ¬ HasFailed writing
   pub reads : recording_of input ≡ Ok commands
-  pub static_rules : static_refusal commands ≡ None
+  pub rules : rule_refusal commands ≡ None
   pub built : unbuilt_in commands ≡ None
   pub data_rules : data_refusal commands (length commands) ≡ None
 

@@ -8,9 +8,9 @@ use crate::path_form::first_unbuilt;
 use crate::run_fault::RunFault;
 use crate::running::run_waves;
 use crate::stop::Stop;
+use ray_check::check_rules;
 use ray_cmd::{Recording, Refusal, read_recording};
 use ray_state::State;
-use ray_valid::check_static;
 use std::alloc::Global;
 use std::thread::Threads;
 
@@ -30,7 +30,7 @@ pub(crate) fn execute<R: Threads + Sync, G: Gate + Sync>(
     }
 }
 
-// Runs a recording, up to a command that a static rule refuses or whose form isn't built.
+// Runs a recording, up to a command that a rule refuses or whose form isn't built.
 fn run<R: Threads + Sync, G: Gate + Sync>(
     rt: &R,
     alloc: Global,
@@ -39,7 +39,7 @@ fn run<R: Threads + Sync, G: Gate + Sync>(
 ) -> Result<Vec<u8>, Stop>
     ensures { Ends (run_of recording.now) result }
 {
-    let Ok(refusal) = check_static(alloc, recording) else {
+    let Ok(refusal) = check_rules(alloc, recording) else {
         return Err(Stop::NoMemory);
     };
     match first_unbuilt(recording) {
@@ -48,7 +48,7 @@ fn run<R: Threads + Sync, G: Gate + Sync>(
     }
 }
 
-// Runs a recording whose commands have built forms, up to its static refusal where it has one.
+// Runs a recording whose commands have built forms, up to its refusal by a rule where it has one.
 fn run_all<R: Threads + Sync, G: Gate + Sync>(
     rt: &R,
     alloc: Global,

@@ -5,12 +5,12 @@
 //! memory. Its clauses `answer` and `complete` say how a call ends and what is written, by `answer_of`
 //! of `specs/Answer`, which goes from an input to its text or why it has none, and by `specs/Call`.
 //!
-//! A recording runs up to the command that a static rule refuses, by `check_static` of ray_valid, and
-//! as far as the forms of its commands are built. [`first_unbuilt`] says how far
-//! that is, by `specs/PathForm`; [`run_waves`] runs so many commands, by `specs/Run` of ray_state.
+//! A recording runs up to the command that a rule V1 to V32 refuses, by `check_rules` of ray_check,
+//! and as far as the forms of its commands are built. [`first_unbuilt`] says how far that is, by
+//! `specs/PathForm`; [`run_waves`] runs so many commands, by `specs/Run` of ray_state.
 //!
-//! It stands on ray_io (all bytes read and written), ray_cmd (the recording), ray_valid (the static
-//! rules) and ray_state (what each command does).
+//! It stands on ray_io (all bytes read and written), ray_cmd (the recording), ray_check (the rules on
+//! the recording alone) and ray_state (what each command does).
 #![tactic(auto)]
 
 mod executing;

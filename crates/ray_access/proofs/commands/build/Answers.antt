@@ -16,9 +16,9 @@ pub loop-info-preserved : goal.loop-info-preserved
 loop-info-preserved c =
     let z = c.args.status.now in (
       adds_item z (λ (x : Info). (info_accesses z.buffers x).reads) c.args.infos.now c.loop-info.info-index
-      c.info-item.result [] c.loop-info.reads.items c.add_info_reads.new.list.items c.loop-info-test.true
-      c.info-item.is c.loop-info.invariant.0 c.in_ok-add_info_reads.ensures,
+          c.info-item.result [] c.loop-info.reads.items c.add_info_reads.new.list.items c.loop-info-test.true
+          c.info-item.is c.loop-info.invariant.0 c.in_ok-add_info_reads.ensures,
       adds_item z (λ (x : Info). (info_accesses z.buffers x).writes) c.args.infos.now c.loop-info.info-index
-      c.info-item.result [] c.loop-info.writes.items c.add_info_writes.new.list.items c.loop-info-test.true
-      c.info-item.is c.loop-info.invariant.1 c.in_ok-add_info_writes.ensures,
+          c.info-item.result [] c.loop-info.writes.items c.add_info_writes.new.list.items c.loop-info-test.true
+          c.info-item.is c.loop-info.invariant.1 c.in_ok-add_info_writes.ensures,
     )

@@ -16,9 +16,9 @@ loop-n-preserved c =
     subst (λ k. (c.step.new.self ≡ status_at rec k) × HaveStarts rec c.add_starts-in-loop-n-2.new.set.keys k) more (
       status-next rec n c.command-command.result.now c.loop-n.status c.step.new.self there at c.in_ok-step.ensures,
       starts-next rec n doing c.loop-n.set.keys c.add_starts.new.set.keys c.add_starts-in-loop-n.new.set.keys
-      c.add_starts-in-loop-n-2.new.set.keys (c.in_ok-doing.ensures n there at)
-      (subst (λ ts. HasStarts ts c.loop-n.set.keys c.add_starts.new.set.keys) c.as_slice.ensures.value c.in_ok-add_starts.ensures)
-      (subst (λ ts. HasStarts ts c.add_starts.new.set.keys c.add_starts-in-loop-n.new.set.keys) c.as_slice-in-loop-n.ensures.value c.in_ok-add_starts-2.ensures)
-      (subst (λ ts. HasStarts ts c.add_starts-in-loop-n.new.set.keys c.add_starts-in-loop-n-2.new.set.keys) c.as_slice-in-loop-n-2.ensures.value c.in_ok-add_starts-3.ensures)
-      c.loop-n.invariant.1,
+          c.add_starts-in-loop-n-2.new.set.keys (c.in_ok-doing.ensures n there at)
+          (subst (λ ts. HasStarts ts c.loop-n.set.keys c.add_starts.new.set.keys) c.as_slice.ensures.value c.in_ok-add_starts.ensures)
+          (subst (λ ts. HasStarts ts c.add_starts.new.set.keys c.add_starts-in-loop-n.new.set.keys) c.as_slice-in-loop-n.ensures.value c.in_ok-add_starts-2.ensures)
+          (subst (λ ts. HasStarts ts c.add_starts-in-loop-n.new.set.keys c.add_starts-in-loop-n-2.new.set.keys) c.as_slice-in-loop-n-2.ensures.value c.in_ok-add_starts-3.ensures)
+          c.loop-n.invariant.1,
     )

@@ -19,13 +19,13 @@ returns-clause-marks c = λ rec by reads writes are.
           writes-more rec starts Build StructureWrite n c.as_slice-writes.result.now c.args.self.now.builds.marks
           c.mark_writes.new.marks by (c.as_slice-writes.ensures.value ∙ writes) c.mark_writes.ensures.cells
           (λ k. c.mark_writes.ensures.marks k
-              ∙ ap (λ v. marked_if (is_by starts StructureWrite) c.as_slice-writes.result.now v (mark_of c.args.self.now.builds.marks k) k) more)
+          ∙ ap (λ v. marked_if (is_by starts StructureWrite) c.as_slice-writes.result.now v (mark_of c.args.self.now.builds.marks k) k) more)
           are.builds;
       payloads =
           writes-more rec starts Build TransferWrite n c.as_slice-writes.result.now c.args.self.now.payloads.marks
           c.mark_writes-2.new.marks by (c.as_slice-writes.ensures.value ∙ writes) c.mark_writes-2.ensures.cells
           (λ k. c.mark_writes-2.ensures.marks k
-              ∙ ap (λ v. marked_if (is_by starts TransferWrite) c.as_slice-writes.result.now v (mark_of c.args.self.now.payloads.marks k) k) more)
+          ∙ ap (λ v. marked_if (is_by starts TransferWrite) c.as_slice-writes.result.now v (mark_of c.args.self.now.payloads.marks k) k) more)
           are.payloads;
       traces = writes-same rec starts Compute ShaderWrite n _ (λ e. absurd (stages-differ-2 by e)) are.traces;
       transfer_reads = reads-same rec starts Transfer n _ (λ e. absurd (stages-differ by e)) are.transfer_reads;
@@ -33,7 +33,7 @@ returns-clause-marks c = λ rec by reads writes are.
           reads-more rec starts Build n c.as_slice.result.now c.args.self.now.build_reads c.mark_reads.new.marks by
           (c.as_slice.ensures.value ∙ reads) c.mark_reads.ensures.cells
           (λ k. c.mark_reads.ensures.marks k
-              ∙ ap (λ v. marked_if (has_it starts) c.as_slice.result.now v (mark_of c.args.self.now.build_reads k) k) more)
+          ∙ ap (λ v. marked_if (has_it starts) c.as_slice.result.now v (mark_of c.args.self.now.build_reads k) k) more)
           are.build_reads;
       trace_reads = reads-same rec starts Compute n _ (λ e. absurd (stages-differ-2 by e)) are.trace_reads;
     }
