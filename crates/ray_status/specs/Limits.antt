@@ -1,6 +1,6 @@
 -- Bounds on the bytes that commands name: their numbers have 64 bits, and a sum or a product of a few
 -- of them stays below 2^70. (Own.)
-use Rattle.std.specs.Prelude.{ℕ, ◌+◌, ◌≤◌, ◌^◌, Option, IfSome}
+use Rattle.std.specs.Prelude.{◌+◌, ◌≤◌, ◌^◌, Option, IfSome}
 use Rattle.ray_rules.specs.declared.byte_range.ByteRange.{ByteRange}
 
 -- a range ends at byte 2^70 or below

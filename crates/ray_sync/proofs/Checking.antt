@@ -15,7 +15,7 @@ use Rattle.ray_cmd.specs.declared.refusal.Refusal.{Refusal}
 use Rattle.ray_rules.specs.declared.stage.Stage.{Stage}
 use Rattle.ray_rules.specs.declared.stage.Stage.TheVariants.{Host}
 use Rattle.ray_rules.specs.declared.touch.Touch.{Touch}
-use Rattle.ray_rules.specs.Hazards.{accesses_at, greatest, greatest_with, read_unordered, stage_at, status_at, v25, v26, v27, v32, wrote_uncovered}
+use Rattle.ray_rules.specs.Hazards.{accesses_at, greatest_with, read_unordered, stage_at, status_at, v25, v26, v27, v32, wrote_uncovered}
 use Rattle.ray_rules.specs.Refusals.{or_after, or_later}
 use Rattle.ray_rules.specs.Verdict.{first_hazard, hazard_of}
 use Rattle.ray_sync.specs.Cells.{cell_of}

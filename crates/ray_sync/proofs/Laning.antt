@@ -1,5 +1,5 @@
 -- What lanes tell of the last command, and how they go on.
-use Rattle.std.proofs.Common.{◌≡◌, ◌<◌, ◌≤◌, ◌⊎◌, ◌&&◌, ◌+◌, ℕ, suc, Bool, true, false, nat_lt, if◌then◌else◌, List, Option, Some, refl, sym, ◌∙◌, ap, subst, inl, inr, arith, length}
+use Rattle.std.proofs.Common.{◌≡◌, ◌+◌, ℕ, suc, false, nat_lt, List, Option, Some, refl, sym, ◌∙◌, ap, subst, inl, inr, arith, length}
 use Rattle.std.specs.List.{list_any}
 use Rattle.ray_access.specs.declared.touched.Touched.{Touched}
 use Rattle.ray_cmd.specs.declared.command.Command.{Command}

@@ -1,12 +1,10 @@
 -- What lanes tell is what the rules on hazards speak of.
-use Rattle.std.proofs.Common.{◌≡◌, ◌<◌, ◌≤◌, ◌⊎◌, ◌&&◌, ◌||◌, ◌++◌, ◌∷◌, [], ℕ, zero, suc, Bool, true, false, not, nat_le, nat_lt, List, Option, Some, None, All, map, get_or, refl, sym, ◌∙◌, ap, subst, inl, inr, arith, length, slice_get}
+use Rattle.std.proofs.Common.{◌≡◌, ◌<◌, ◌≤◌, ◌⊎◌, ◌&&◌, ◌||◌, ◌∷◌, [], ℕ, suc, Bool, true, false, not, List, Option, Some, None, All, map, refl, sym, ◌∙◌, ap, subst, inl, inr, arith, slice_get}
 use Rattle.std.specs.List.{list_all, list_any}
 use Rattle.std.specs.Option.{option_map_or}
 use Rattle.std.proofs.lemmas.Bool.Decides.{nat_tests}
-use Rattle.ray_access.specs.declared.touched.Touched.{Touched}
 use Rattle.ray_access.specs.Axis.{SharingIsMeeting, TouchFits, extent_of, touched}
 use Rattle.ray_cmd.specs.declared.command.Command.{Command}
-use Rattle.ray_marks.specs.Rising.{is_in}
 use Rattle.ray_ranges.specs.declared.range.Range.{Range}
 use Rattle.ray_ranges.specs.Meeting.{meets}
 use Rattle.ray_rules.specs.declared.access_type.AccessType.{AccessType}
@@ -20,7 +18,7 @@ use Rattle.ray_rules.specs.Order.{is_covered, is_device, is_ordered_to}
 use Rattle.ray_rules.specs.Status.{Status}
 use Rattle.ray_sync.specs.Cells.{cell_of, has_cell, is_start}
 use Rattle.ray_sync.specs.Lanes.{AnyUncovered, AnyUnordered}
-use Rattle.ray_sync.specs.Lasts.{ArePlaced, UncoveredIn, UnorderedIn, WroteCell, ReadCell, has_it, is_by, reads_at, same_access, writes_at}
+use Rattle.ray_sync.specs.Lasts.{ArePlaced, UncoveredIn, UnorderedIn, has_it, is_by, same_access}
 use Rattle.ray_sync.proofs.Cellular.{meet-share, share-meet}
 use Rattle.ray_sync.proofs.Ways.{are_ways, devices, is_way, ways}
 

@@ -1,19 +1,15 @@
 -- With which accesses the commands of each stage write.
-use Rattle.std.proofs.Common.{◌≡◌, ◌++◌, ℕ, Bool, true, false, ◌&&◌, List, [], ◌∷◌, Option, Some, None, map, refl, sym, ◌∙◌, ap, subst}
-use Rattle.std.specs.List.{list_all, flat_map}
+use Rattle.std.proofs.Common.{◌≡◌, ◌++◌, Bool, true, false, ◌&&◌, List, [], ◌∷◌, map, refl}
+use Rattle.std.specs.List.{list_all}
 use Rattle.std.specs.Option.{option_map_or}
 use Rattle.ray_cmd.specs.declared.command.Command.{Command}
 use Rattle.ray_cmd.specs.declared.command.Command.TheVariants as commands
-use Rattle.ray_cmd.specs.declared.info.Info.{Info}
-use Rattle.ray_cmd.specs.declared.region.Region.{Region}
 use Rattle.ray_rules.specs.declared.access_type.AccessType.{AccessType}
 use Rattle.ray_rules.specs.declared.access_type.AccessType.TheVariants.{TransferWrite, StructureWrite, ShaderWrite}
-use Rattle.ray_rules.specs.declared.live_buffer.LiveBuffer.{LiveBuffer}
 use Rattle.ray_rules.specs.declared.stage.Stage.{Stage}
-use Rattle.ray_rules.specs.declared.stage.Stage.TheVariants.{Transfer, Build, Compute, Host}
+use Rattle.ray_rules.specs.declared.stage.Stage.TheVariants.{Transfer, Build, Compute}
 use Rattle.ray_rules.specs.declared.touch.Touch.{Touch}
 use Rattle.ray_rules.specs.Access.{Accesses, accesses_of, all_accesses, info_accesses, region_accesses, stage_of}
-use Rattle.ray_rules.specs.Ids.{Ids}
 use Rattle.ray_rules.specs.Order.{is_device}
 use Rattle.ray_rules.specs.Status.{Status}
 

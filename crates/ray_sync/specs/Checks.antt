@@ -1,13 +1,12 @@
 -- What is known where a command stands, while hazards are looked for. (Own.)
-use Rattle.std.specs.Prelude.{◌≡◌, ℕ, suc, true, List, Option, All}
+use Rattle.std.specs.Prelude.{◌≡◌, ℕ, true, List, All}
 use Rattle.ray_access.specs.declared.touched.Touched.{Touched}
 use Rattle.ray_access.specs.Lists.{AreTouched}
 use Rattle.ray_cmd.specs.declared.command.Command.{Command}
-use Rattle.ray_rules.specs.declared.touch.Touch.{Touch}
 use Rattle.ray_rules.specs.Hazards.{accesses_at, stage_at, status_at}
 use Rattle.ray_sync.specs.declared.doing.Doing.{Doing}
 use Rattle.ray_sync.specs.Cells.{is_start}
-use Rattle.ray_sync.specs.Lasts.{ArePlaced, HaveStarts, host_reads_at}
+use Rattle.ray_sync.specs.Lasts.{host_reads_at}
 
 -- what command number n does
 pub record IsDoing (rec : List Command) (n : ℕ) (doing : Doing) : Type 0 where

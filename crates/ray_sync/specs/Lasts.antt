@@ -1,5 +1,5 @@
 -- The last command of which something is so, and how marks of cells keep it. (Own.)
-use Rattle.std.specs.Prelude.{◌≡◌, [], ◌∷◌, ◌<◌, ◌≤◌, ◌⊎◌, ◌&&◌, ℕ, zero, suc, true, false, Bool, List, Option, Some, None, nat_lt, if◌then◌else◌, length, map, All, slice_get}
+use Rattle.std.specs.Prelude.{◌≡◌, [], ◌∷◌, ◌<◌, ◌≤◌, ◌⊎◌, ◌&&◌, ℕ, zero, suc, true, false, Bool, List, Option, Some, None, nat_lt, if◌then◌else◌, map, All, slice_get}
 use Rattle.std.specs.List.{list_any}
 use Rattle.std.specs.Option.{option_map_or}
 use Rattle.ray_access.specs.declared.touched.Touched.{Touched}

@@ -1,10 +1,9 @@
-use Rattle.std.proofs.Common.{◌≡◌, ◌+◌, ◌≤◌, ◌∙◌, arith, length, refl, subst, suc, sym}
+use Rattle.std.proofs.Common.{◌≡◌, ◌+◌, ◌∙◌, arith, refl, subst, suc, sym}
 use Rattle.std.specs.Prelude.{None}
 use Rattle.ray_rules.specs.Hazards.{status_at}
 use Rattle.ray_rules.specs.Verdict.{first_hazard}
 use Rattle.ray_sync.specs.Kinds.{AreFronts}
 use Rattle.ray_sync.specs.Lanes.{AreLanes}
-use Rattle.ray_sync.specs.Lasts.{HaveStarts}
 use Rattle.ray_sync.proofs.Checking.{first-found, first-none}
 use Rattle.ray_sync.proofs.Laning.{lanes-below}
 use Rattle.ray_sync.proofs.Limits.{fronts-first, fronts-next}

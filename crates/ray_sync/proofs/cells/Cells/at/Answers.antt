@@ -1,4 +1,4 @@
-use Rattle.std.proofs.Common.{◌≡◌, ◌∙◌, ap, arith, nat_lt, rules, subst, sym, ℕ, List}
+use Rattle.std.proofs.Common.{◌∙◌, ap, arith, nat_lt, rules, subst, sym, ℕ, List}
 use Rattle.std.specs.List.Sorted.{IsNonDecreasingBy}
 use Rattle.std.proofs.lemmas.List.Sorted.{IsPartitionPoint-from_clause, IsPartitionedBy-ltb}
 use Rattle.ray_sync.specs.Cells.{cell_of}

@@ -1,8 +1,6 @@
-use Rattle.std.proofs.Common.{◌≡◌, ◌∙◌, ◌+◌, ℕ, suc, ap, arith, sym, Some}
-use Rattle.ray_access.specs.declared.touched.Touched.{Touched}
+use Rattle.std.proofs.Common.{◌≡◌, ◌∙◌, ◌+◌, suc, ap, arith}
 use Rattle.ray_marks.specs.Rising.{mark_of}
 use Rattle.ray_rules.specs.declared.access_type.AccessType.TheVariants.{StructureWrite, TransferWrite, ShaderWrite}
-use Rattle.ray_rules.specs.declared.stage.Stage.{Stage}
 use Rattle.ray_rules.specs.declared.stage.Stage.TheVariants.{Build, Compute, Transfer}
 use Rattle.ray_sync.specs.Lasts.{has_it, is_by, marked_if}
 use Rattle.ray_sync.proofs.Laning.{reads-more, reads-same, stages-differ, stages-differ-2, writes-more, writes-same}
