@@ -41,10 +41,10 @@ impl Job {
         number: 300,
     };
 
-    /// A little of the work `box-spans`: twice round the 128 spots, and 44 of them again. The ray of
-    /// an even number meets its box, since in its cell it goes down through (5, 3), and that of an
-    /// odd number doesn't, since it goes down through (3, 5) in a cell beside that of its box. So
-    /// there are 64 + 64 + 22 = 150 hits.
+    /// A little of the work `box-spans`: twice round the 128 spots, and 44 of them again. The ray
+    /// of an even number meets its box, since in its cell it goes down through (5, 3), and that of
+    /// an odd number doesn't, since it goes down through (3, 5) in a cell beside that of its box.
+    /// So there are 64 + 64 + 22 = 150 hits.
     pub const LITTLE_BOX_SPANS: Job = Job {
         work: Work::BoxSpans,
         number: 300,

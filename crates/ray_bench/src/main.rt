@@ -2,18 +2,18 @@
 //! that it can be timed from outside. `ray_bench pairs 20000000` tests that many pairs of a ray and
 //! a triangle, of which few are hits, `ray_bench hits 20000000` that many that are all hits, and
 //! `ray_bench box-spans 20000000` that many pairs of a ray and a box, of which half are met, and
-//! `ray_bench box-reaches 20000000` the same without a greatest common divisor. Each prints the number
-//! of pairs and of hits. Without words it does a little of each.
+//! `ray_bench box-reaches 20000000` the same without a greatest common divisor. Each prints the
+//! number of pairs and of hits. Without words it does a little of each.
 //!
 //! `ray_bench json`, `ray_bench hex` and `ray_bench recording` read standard input, of at most 2^26
-//! bytes, as a JSON value, as that with the hexadecimal digits of its items' members `data`, and as a
-//! recording. Each prints the number of bytes and what came of it: the number of items, of such
+//! bytes, as a JSON value, as that with the hexadecimal digits of its items' members `data`, and as
+//! a recording. Each prints the number of bytes and what came of it: the number of items, of such
 //! members, or of commands, or else `not-json` or `bad-shape I`. What `hex` does is the least that
 //! a reader of recordings does by `serde_json` and `hex`.
 //!
-//! `ray_bench static-rules` reads standard input as a recording and prints what the static rules say
-//! of it: the line of its refusal, as the program's `run` prints it, or `ok`; `not-json` or
-//! `bad-shape I` where it is none.
+//! `ray_bench static-rules` reads standard input as a recording and prints what the static rules
+//! say of it: the line of its refusal, as the program's `run` prints it, or `ok`; `not-json` or
+//! `bad-shape I` where it is none. `ray_bench rules` does the same by all rules V1 to V32.
 //!
 //! `ray_bench draws 4 20000000` draws that many numbers of one shared word by four threads, or by
 //! one where the digit is 1, and prints how many were drawn.
@@ -21,10 +21,11 @@
 //! Words that are none of its own give the line `bad-words` and status 3.
 //!
 //! The contract that `main` uses is that of `count_hits`: the count is that of `AreHits` of
-//! `specs/Tested`, exactly the pairs that are hits by `hit_of` of ray_geom, or the boxes that are met
-//! by its `IsInside`, on which it stands. That of `line` is the whole line of a reading, `line_of`
-//! of `specs/Lines`, which goes by `recording_of` of ray_cmd, and that of `verdict` is `verdict_of` of
-//! `specs/Verdicts`, which goes by `static_refusal` of ray_rules; `input` gives all the bytes.
+//! `specs/Tested`, exactly the pairs that are hits by `hit_of` of ray_geom, or the boxes that are
+//! met by its `IsInside`, on which it stands. That of `line` is the whole line of a reading,
+//! `line_of` of `specs/Lines`, which goes by `recording_of` of ray_cmd, and that of `verdict` is
+//! `verdict_of` of `specs/Verdicts`, which goes by `static_refusal` or `rule_refusal` of ray_rules;
+//! `input` gives all the bytes.
 #![tactic(auto)]
 
 mod bench_error;
@@ -52,7 +53,7 @@ use crate::job::Job;
 use crate::line::line;
 use crate::reading::Reading;
 use crate::testing::count_hits;
-use crate::verdict::verdict;
+use crate::verdict::{Rules, verdict};
 use ray_io::StdSource;
 use std::env;
 use std::process::ExitCode;
@@ -61,6 +62,9 @@ use std::thread::Threads;
 
 /// The word that asks what the static rules say of a recording.
 const STATIC_RULES: &str = "static-rules";
+
+/// The word that asks what all rules on it say of a recording.
+const RULES: &str = "rules";
 
 /// The word that asks for draws.
 const DRAWS: &str = "draws";
@@ -90,7 +94,11 @@ fn run<R: Env + AllocGlobal + Print + Input + Threads + Sync>(rt: &R) -> Result<
         }
         [word] if word.as_str() == STATIC_RULES => {
             let bytes = input(rt.alloc(), &mut StdSource::new(rt.reader()))?;
-            judge(rt, bytes.as_slice())
+            judge(rt, Rules::Static, bytes.as_slice())
+        }
+        [word] if word.as_str() == RULES => {
+            let bytes = input(rt.alloc(), &mut StdSource::new(rt.reader()))?;
+            judge(rt, Rules::All, bytes.as_slice())
         }
         [word] => {
             let reading = Reading::named(word.as_str()).ok_or(BenchError::BadWords)?;
@@ -134,9 +142,9 @@ fn tell<R: AllocGlobal + Print>(rt: &R, reading: Reading, bytes: &[u8]) -> Resul
     Ok(())
 }
 
-// Checks the recording of the bytes by the static rules, and prints the line of what they say.
-fn judge<R: AllocGlobal + Print>(rt: &R, bytes: &[u8]) -> Result<(), BenchError> {
-    let line = verdict(rt.alloc(), bytes)?;
+// Checks the recording of the bytes by rules, and prints the line of what they say.
+fn judge<R: AllocGlobal + Print>(rt: &R, rules: Rules, bytes: &[u8]) -> Result<(), BenchError> {
+    let line = verdict(rt.alloc(), rules, bytes)?;
     print!(rt; "{line}")?;
     Ok(())
 }
