@@ -9,7 +9,8 @@ use Rattle.vkray.specs.declared.stop.Stop.TheVariants.{BadWords, ReadFault, TooL
 use Rattle.vkray.specs.Answer.{Ending, answer_of}
 use Rattle.vkray.specs.Call.{Reading, Writing, IsEnding, IsRead, IsSent, IsTold}
 use Rattle.vkray.specs.Endings.{Ends, EndsCall, StopsCall, is_told}
-use Rattle.vkray.specs.Words.{IsRun}
+use Rattle.vkray.specs.declared.asked.Asked.{Asked}
+use Rattle.vkray.specs.Words.{Asks}
 use Rattle.vkray.specs.Written.{status_of, text_of}
 
 -- a reply tells an ending of the call
@@ -38,16 +39,16 @@ reply_tells words reading stop (Err e) h status text told = tt
 
 -- the answer of an input that was read is what the call gives
 pub ends_call : (words : List (String Global)) (reading : Reading) (input : List ℕ) (result : Result (Vec ℕ Global) Stop)
-    → IsRun words → IsRead reading input → Ends (answer_of input) result → EndsCall words reading result
-ends_call words reading input (Ok text) run read is = (run, record { input = input; read = read; is = is })
-ends_call words reading input (Err BadWords) run read is = absurd is
-ends_call words reading input (Err ReadFault) run read is = absurd is
-ends_call words reading input (Err TooLong) run read is = absurd is
-ends_call words reading input (Err NotJson) run read is = (run, record { input = input; read = read; is = is })
-ends_call words reading input (Err (BadShape command)) run read is = (run, record { input = input; read = read; is = is })
-ends_call words reading input (Err (Unbuilt command)) run read is = (run, record { input = input; read = read; is = is })
-ends_call words reading input (Err (Refused refusal)) run read is = (run, record { input = input; read = read; is = is })
-ends_call words reading input (Err NoMemory) run read is = tt
+    → (asked : Asked) → Asks words asked → IsRead reading input → Ends (answer_of asked input) result → EndsCall words reading result
+ends_call words reading input (Ok text) asked asks read is = record { asked = asked; asks = asks; input = input; read = read; is = is }
+ends_call words reading input (Err BadWords) asked asks read is = absurd is
+ends_call words reading input (Err ReadFault) asked asks read is = absurd is
+ends_call words reading input (Err TooLong) asked asks read is = absurd is
+ends_call words reading input (Err NotJson) asked asks read is = record { asked = asked; asks = asks; input = input; read = read; is = is }
+ends_call words reading input (Err (BadShape command)) asked asks read is = record { asked = asked; asks = asks; input = input; read = read; is = is }
+ends_call words reading input (Err (Unbuilt command)) asked asks read is = record { asked = asked; asks = asks; input = input; read = read; is = is }
+ends_call words reading input (Err (Refused refusal)) asked asks read is = record { asked = asked; asks = asks; input = input; read = read; is = is }
+ends_call words reading input (Err NoMemory) asked asks read is = tt
 
 -- what was sent of a reply is told
 pub told_of : (words : List (String Global)) (reading : Reading) (writing : Writing) (status : Status) (text : List ℕ) (result : Status)

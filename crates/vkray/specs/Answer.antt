@@ -1,5 +1,5 @@
--- What a run of an input ends with: its text, or why it has none, as one function. (Own.)
-use Rattle.std.specs.Prelude.{ℕ, zero, suc, ◌+◌, List, length, Option, Some, None, Result, Ok, Err, nat_le, if◌then◌else◌, option_map}
+-- What an input ends with, by what it is asked for: a text, or why there is none, as one function. (Own.)
+use Rattle.std.specs.Prelude.{ℕ, zero, suc, ◌+◌, List, length, Option, Some, None, Result, Ok, Err, nat_le, if◌then◌else◌, option_map, codes}
 use Rattle.std.specs.Option.{option_or}
 use Rattle.ray_cmd.specs.declared.command.Command.{Command}
 use Rattle.ray_cmd.specs.declared.fault.RecordingFault.{RecordingFault}
@@ -10,6 +10,8 @@ use Rattle.ray_cmd.specs.Recordings.{recording_of}
 use Rattle.ray_rules.specs.Verdict.{rule_refusal}
 use Rattle.ray_state.specs.Meaning.{Fault}
 use Rattle.ray_state.specs.Run.{fault_of, outcome_at, text_before}
+use Rattle.vkray.specs.declared.asked.Asked.{Asked}
+use Rattle.vkray.specs.declared.asked.Asked.TheVariants.{Run, Check}
 use Rattle.vkray.specs.declared.stop.Stop.{Stop}
 use Rattle.vkray.specs.declared.stop.Stop.TheVariants.{NotJson, BadShape, Unbuilt, Refused, NoMemory}
 use Rattle.vkray.specs.PathForm.{agrees_at}
@@ -63,13 +65,22 @@ run_with rec (Some refusal) (Some unbuilt) =
 abbrev pub run_of : List Command → Ending
 run_of rec = run_with rec (rule_refusal rec) (unbuilt_in rec)
 
--- a run of what was read
-abbrev pub run_of_reading : Result (List Command) RecordingFault → Ending
-run_of_reading (Ok rec) = run_of rec
-run_of_reading (Err recordings.NotJson) = Err NotJson
-run_of_reading (Err (recordings.BadShape command)) = Err (BadShape command)
-run_of_reading (Err recordings.NoMemory) = Err NoMemory
+-- what rules say of a recording: `ok`, or its refusal
+abbrev pub check_of : List Command → Ending
+check_of rec = refused_or (rule_refusal rec) (Ok (codes "ok\n"))
 
--- a run of an input
-unfoldable pub answer_of : List ℕ → Ending
-answer_of input = run_of_reading (recording_of input)
+-- what a recording is asked for
+abbrev pub ending_of : Asked → List Command → Ending
+ending_of Run rec = run_of rec
+ending_of Check rec = check_of rec
+
+-- the same of what was read
+abbrev pub ending_of_reading : Asked → Result (List Command) RecordingFault → Ending
+ending_of_reading asked (Ok rec) = ending_of asked rec
+ending_of_reading asked (Err recordings.NotJson) = Err NotJson
+ending_of_reading asked (Err (recordings.BadShape command)) = Err (BadShape command)
+ending_of_reading asked (Err recordings.NoMemory) = Err NoMemory
+
+-- the answer to what an input is asked for
+unfoldable pub answer_of : Asked → List ℕ → Ending
+answer_of asked input = ending_of_reading asked (recording_of input)

@@ -7,11 +7,12 @@ use Rattle.ray_io.specs.Faults.{HasRisen}
 use Rattle.ray_io.specs.ReadAll.{LeavesAllBut}
 use Rattle.ray_rules.specs.Verdict.{rule_refusal}
 use Rattle.ray_state.specs.Run.{text_before}
+use Rattle.vkray.specs.declared.asked.Asked.{Asked}
 use Rattle.vkray.specs.declared.status.Status.{Status}
 use Rattle.vkray.specs.declared.status.Status.TheVariants as statuses
 use Rattle.vkray.specs.declared.stop.Stop.TheVariants.{BadWords, ReadFault, TooLong, NotJson, BadShape, Unbuilt, Refused, NoMemory}
 use Rattle.vkray.specs.Answer.{Ending, answer_of, data_refusal, unbuilt_in}
-use Rattle.vkray.specs.Words.{IsRun}
+use Rattle.vkray.specs.Words.{AreWords, Asks}
 use Rattle.vkray.specs.Written.{status_of, text_of}
 
 -- the greatest number of bytes of an input: 2^26
@@ -83,23 +84,25 @@ IsCut writing text = IfSome writing.before (λ bytes. (count : ℕ) × (count �
 abbrev pub HasFailed : Writing → Type 0
 HasFailed writing = HasRisen writing.faults_before writing.faults_after ⊎ HasRisen writing.zero_writes_before writing.zero_writes_after
 
--- an input was read to its end, and its answer is this
-pub record IsAnswerOfInput (reading : Reading) (ending : Ending) : Type 0 where
+-- the words ask for something, an input was read to its end, and its answer to that is this
+pub record IsAnswerOfInput (words : List (String Global)) (reading : Reading) (ending : Ending) : Type 0 where
+  pub asked : Asked
+  pub asks : Asks words asked
   pub input : List ℕ
   pub read : IsRead reading input
-  pub is : answer_of input ≡ ending
+  pub is : answer_of asked input ≡ ending
 
 -- what the words and the source give: bad words read nothing; a read failed, or there are too many bytes; or else the
 -- answer of the input
 abbrev pub IsEnding : List (String Global) → Reading → Ending → Type 0
-IsEnding words reading (Ok text) = IsRun words × IsAnswerOfInput reading (Ok text)
-IsEnding words reading (Err BadWords) = (¬ IsRun words) × (reading.after ≡ reading.before)
-IsEnding words reading (Err ReadFault) = IsRun words × HasRisen reading.faults_before reading.faults_after × (¬ TakesTooMany reading) × TakesPrefix reading
-IsEnding words reading (Err TooLong) = IsRun words × IsTooLong reading
-IsEnding words reading (Err NotJson) = IsRun words × IsAnswerOfInput reading (Err NotJson)
-IsEnding words reading (Err (BadShape command)) = IsRun words × IsAnswerOfInput reading (Err (BadShape command))
-IsEnding words reading (Err (Unbuilt command)) = IsRun words × IsAnswerOfInput reading (Err (Unbuilt command))
-IsEnding words reading (Err (Refused refusal)) = IsRun words × IsAnswerOfInput reading (Err (Refused refusal))
+IsEnding words reading (Ok text) = IsAnswerOfInput words reading (Ok text)
+IsEnding words reading (Err BadWords) = (¬ AreWords words) × (reading.after ≡ reading.before)
+IsEnding words reading (Err ReadFault) = AreWords words × HasRisen reading.faults_before reading.faults_after × (¬ TakesTooMany reading) × TakesPrefix reading
+IsEnding words reading (Err TooLong) = AreWords words × IsTooLong reading
+IsEnding words reading (Err NotJson) = IsAnswerOfInput words reading (Err NotJson)
+IsEnding words reading (Err (BadShape command)) = IsAnswerOfInput words reading (Err (BadShape command))
+IsEnding words reading (Err (Unbuilt command)) = IsAnswerOfInput words reading (Err (Unbuilt command))
+IsEnding words reading (Err (Refused refusal)) = IsAnswerOfInput words reading (Err (Refused refusal))
 IsEnding words reading (Err NoMemory) = ⊥
 
 -- a text was sent: it is written, and the status is its own; or a write failed
@@ -123,20 +126,26 @@ pub record IsOutOfMemory (reading : Reading) (writing : Writing) (result : Statu
 abbrev pub Answers : List (String Global) → Reading → Writing → Status → Type 0
 Answers words reading writing result = IsOutOfMemory reading writing result ⊎ IsTold words reading writing result
 
--- a call that is to be answered: the word is `run`, the source gives all of an input within the limit without a fault, the
--- sink takes what is written, and the input is a recording that breaks no rule and whose commands have built forms
-pub record IsGoodCall (words : List (String Global)) (reading : Reading) (writing : Writing) (input : List ℕ) (commands : List Command) : Type 0 where
-  pub run : IsRun words
+-- a call that is to be answered: the word is this, the source gives all of an input within the limit without a fault, the
+-- sink takes what is written, and the input is a recording that breaks no rule V1 to V32
+pub record IsGoodCall (asked : Asked) (words : List (String Global)) (reading : Reading) (writing : Writing) (input : List ℕ) (commands : List Command) : Type 0 where
+  pub asks : Asks words asked
   pub told : reading.before ≡ Some input
   pub limited : length input ≤ most_bytes
   pub source_holds : ¬ HasRisen reading.faults_before reading.faults_after
   pub sink_holds : ¬ HasFailed writing
   pub reads : recording_of input ≡ Ok commands
   pub rules : rule_refusal commands ≡ None
+
+-- a recording whose commands have built forms, and that breaks no data rule
+pub record Runs (commands : List Command) : Type 0 where
   pub built : unbuilt_in commands ≡ None
   pub data_rules : data_refusal commands (length commands) ≡ None
 
--- the run's whole text is written, or memory ran out
-abbrev pub IsCompleted : Writing → List Command → Status → Type 0
-IsCompleted writing commands result =
-    (result ≡ statuses.NoMemory) ⊎ ((result ≡ statuses.Done) × IsWritten writing (text_before commands (length commands)))
+-- a whole text is written, or memory ran out
+abbrev pub IsCompleted : Writing → List ℕ → Status → Type 0
+IsCompleted writing text result = (result ≡ statuses.NoMemory) ⊎ ((result ≡ statuses.Done) × IsWritten writing text)
+
+-- the text of the run of a good recording
+abbrev pub run_text : List Command → List ℕ
+run_text commands = text_before commands (length commands)

@@ -1,8 +1,9 @@
 ghost use Rattle.std.specs.Prelude.{◌≤◌, Err, IfSome, None, Some, length};
 ghost use Rattle.ray_state.specs.Run.{HaveMeaning};
-ghost use Rattle.vkray.specs.Answer.{answer_of, run_below, run_of, run_with};
+ghost use Rattle.vkray.specs.Answer.{answer_of, check_of, ending_of, run_below, run_of, run_with};
 ghost use Rattle.vkray.specs.Endings.{Ends, IsRunBelow, StopsSo};
 
+use crate::asked::Asked;
 use crate::gate::Gate;
 use crate::path_form::first_unbuilt;
 use crate::run_fault::RunFault;
@@ -14,19 +15,50 @@ use ray_state::State;
 use std::alloc::Global;
 use std::thread::Threads;
 
-// Reads the bytes as a recording, and runs it.
+// Reads the bytes as a recording, and does what is asked.
 #[tactic(auto, unfolding(crate::specs::Answer::answer_of))]
 pub(crate) fn execute<R: Threads + Sync, G: Gate + Sync>(
     rt: &R,
     alloc: Global,
+    asked: Asked,
     bytes: &[u8],
     gate: &G,
 ) -> Result<Vec<u8>, Stop>
-    ensures { Ends (answer_of bytes.now) result }
+    ensures { Ends (answer_of asked bytes.now) result }
 {
     match read_recording(alloc, bytes) {
-        Ok(recording) => run(rt, alloc, &recording, gate),
+        Ok(recording) => execute_recording(rt, alloc, asked, &recording, gate),
         Err(fault) => Err(Stop::from(fault)),
+    }
+}
+
+// Does what a recording is asked for.
+fn execute_recording<R: Threads + Sync, G: Gate + Sync>(
+    rt: &R,
+    alloc: Global,
+    asked: Asked,
+    recording: &Recording,
+    gate: &G,
+) -> Result<Vec<u8>, Stop>
+    ensures { Ends (ending_of asked recording.now) result }
+{
+    match asked {
+        Asked::Run => run(rt, alloc, recording, gate),
+        Asked::Check => check(alloc, recording),
+    }
+}
+
+// Checks a recording: `ok` where it breaks no rule V1 to V32.
+fn check(alloc: Global, recording: &Recording) -> Result<Vec<u8>, Stop>
+    ensures { Ends (check_of recording.now) result }
+{
+    match check_rules(alloc, recording) {
+        Ok(Some(refusal)) => Err(Stop::Refused(refusal)),
+        Ok(None) => match Vec::from_slice(alloc, b"ok\n") {
+            Ok(text) => Ok(text),
+            Err(_) => Err(Stop::NoMemory),
+        },
+        Err(_) => Err(Stop::NoMemory),
     }
 }
 

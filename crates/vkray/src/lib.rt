@@ -13,6 +13,7 @@
 //! the recording alone) and ray_state (what each command does).
 #![tactic(auto)]
 
+mod asked;
 mod executing;
 mod gate;
 mod line;

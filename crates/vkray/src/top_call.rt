@@ -1,11 +1,13 @@
-ghost use Rattle.std.specs.Prelude.{◌≡◌, ◌↔◌, ℕ, List, IfOk, IsTrue};
+ghost use Rattle.std.specs.Prelude.{◌≡◌, ℕ, List, IfOk, codes};
 ghost use Rattle.ray_cmd.specs.declared.command.Command.{Command};
-ghost use Rattle.vkray.specs.Words.{IsRun};
+ghost use Rattle.vkray.specs.declared.asked.Asked.TheVariants.{Check, Run};
+ghost use Rattle.vkray.specs.Words.{AreWords};
 ghost use Rattle.vkray.specs.Answer.{Ending};
-ghost use Rattle.vkray.specs.Call.{reading, writing, Answers, IsEnding, IsSent, IsGoodCall, IsCompleted, TakesPrefix};
+ghost use Rattle.vkray.specs.Call.{reading, writing, Answers, IsEnding, IsSent, IsGoodCall, IsCompleted, Runs, TakesPrefix, run_text};
 ghost use Rattle.vkray.specs.Endings.{EndsCall};
 ghost use Rattle.vkray.specs.Written.{status_of, text_of};
 
+use crate::asked::Asked;
 use crate::executing::execute;
 use crate::gate::Gate;
 use crate::reply::Reply;
@@ -19,8 +21,8 @@ use std::thread::Threads;
 pub const MOST_BYTES: u32 = 1 << 26;
 
 /// The program. `words` are those after the program's name: `run` reads a recording from the
-/// source, runs it and writes its text to the sink; all others are bad. Whatever ends the run
-/// before its text, one line says why. The whole text is made before the first write. After a read
+/// source, runs it and writes its text to the sink, and `check` writes `ok` where it breaks no rule
+/// V1 to V32; all others are bad. Whatever ends the call before its text, one line says why. The whole text is made before the first write. After a read
 /// fault, or for want of memory, the source may have given a prefix of what it had left.
 pub fn vkray<R: Threads + Sync, S: Source, K: Sink, G: Gate + Sync>(
     rt: &R,
@@ -35,15 +37,20 @@ pub fn vkray<R: Threads + Sync, S: Source, K: Sink, G: Gate + Sync>(
         (writing K.taken K.faults K.zero_writes sink.old sink.new)
         result }
 
-    // A good input is answered.
-    ensures complete { (input : List ℕ) (commands : List Command) → IsGoodCall words.now
+    // A good input is answered: the run's whole text is written, and `ok` by a check.
+    ensures complete { (input : List ℕ) (commands : List Command) → IsGoodCall Run words.now
+        (reading S.left S.faults source.old source.new)
+        (writing K.taken K.faults K.zero_writes sink.old sink.new)
+        input commands → Runs commands
+        → IsCompleted (writing K.taken K.faults K.zero_writes sink.old sink.new) (run_text commands) result }
+    ensures checked { (input : List ℕ) (commands : List Command) → IsGoodCall Check words.now
         (reading S.left S.faults source.old source.new)
         (writing K.taken K.faults K.zero_writes sink.old sink.new)
         input commands
-        → IsCompleted (writing K.taken K.faults K.zero_writes sink.old sink.new) commands result }
+        → IsCompleted (writing K.taken K.faults K.zero_writes sink.old sink.new) (codes "ok\n") result }
 
     // Bad words read nothing, and for want of memory nothing is written.
-    ensures unread { ¬ IsRun words.now → source.new ≡ source.old }
+    ensures unread { ¬ AreWords words.now → source.new ≡ source.old }
     ensures unwritten { result ≡ Status.NoMemory → sink.new ≡ sink.old }
 {
     match reply(rt, alloc, words, source, gate) {
@@ -76,7 +83,7 @@ fn reply<R: Threads + Sync, S: Source, G: Gate + Sync>(
         × IsEnding words.now (reading S.left S.faults source.old source.new) ending
         × (reply.status ≡ status_of ending) × (reply.text.items ≡ text_of ending)) }
     ensures prefix { TakesPrefix (reading S.left S.faults source.old source.new) }
-    ensures unread { ¬ IsRun words.now → source.new ≡ source.old }
+    ensures unread { ¬ AreWords words.now → source.new ≡ source.old }
 {
     match read_and_run(rt, alloc, words, source, gate) {
         Ok(text) => Ok(Reply {
@@ -87,7 +94,7 @@ fn reply<R: Threads + Sync, S: Source, G: Gate + Sync>(
     }
 }
 
-// Reads the recording and runs it: its text, or why there is none.
+// Reads the recording and does what is asked: its text, or why there is none.
 fn read_and_run<R: Threads + Sync, S: Source, G: Gate + Sync>(
     rt: &R,
     alloc: Global,
@@ -98,23 +105,13 @@ fn read_and_run<R: Threads + Sync, S: Source, G: Gate + Sync>(
     ensures called { EndsCall words.now
         (reading S.left S.faults source.old source.new) result }
     ensures prefix { TakesPrefix (reading S.left S.faults source.old source.new) }
-    ensures unread { ¬ IsRun words.now → source.new ≡ source.old }
+    ensures unread { ¬ AreWords words.now → source.new ≡ source.old }
 {
-    if !is_run(words) {
+    let Some(asked) = Asked::of_words(words) else {
         return Err(Stop::BadWords);
-    }
+    };
     match read_all(alloc, source, MOST_BYTES) {
-        Ok(bytes) => execute(rt, alloc, bytes.as_slice(), gate),
+        Ok(bytes) => execute(rt, alloc, asked, bytes.as_slice(), gate),
         Err(fault) => Err(Stop::from(fault)),
-    }
-}
-
-// Whether the words are `run` alone.
-fn is_run(words: &[String]) -> bool
-    ensures { IsTrue result ↔ IsRun words.now }
-{
-    match words {
-        [word] => word.as_str() == "run",
-        _ => false,
     }
 }

@@ -211,3 +211,34 @@ fn other_words_are_bad(rt: HostRuntime) -> Result<(), Fail> {
     }
     Ok(())
 }
+
+// With the first barrier for traces alone, the top structure is built from a bottom whose build isn't
+// covered to reads of structures by builds.
+#[test]
+fn checks_are_answered(rt: HostRuntime) -> Result<(), Fail> {
+    let triangle = recording(rt.alloc(), VERTICES, RAY)?;
+    let uncovered = triangle.replacen(
+        rt.alloc(),
+        r#""dst_stages":["all"],"dst_access":["memory_read","memory_write"]"#,
+        r#""dst_stages":["compute"],"dst_access":["shader_read"]"#,
+        1,
+    )?;
+    let rows = [
+        (triangle.as_str(), Status::Done, "ok\n"),
+        (
+            uncovered.as_str(),
+            Status::Refused,
+            "refused 9 V25 with 7\n",
+        ),
+    ];
+    for (input, want, text) in &rows {
+        let call = Call {
+            words: &["check"],
+            ..run(input.as_bytes())
+        };
+        let (status, sink) = answer(&rt, rt.alloc(), &call)?;
+        assert_eq!(rt; status, *want);
+        assert_eq!(rt; sink.bytes(), text.as_bytes());
+    }
+    Ok(())
+}

@@ -1,5 +1,8 @@
 use Rattle.std.proofs.Common.{inr}
-use Rattle.vkray.proofs.Completeness.{completed}
+use Rattle.std.specs.Prelude.{codes}
+use Rattle.vkray.specs.declared.asked.Asked.TheVariants.{Check, Run}
+use Rattle.vkray.specs.Call.{run_text}
+use Rattle.vkray.proofs.Completeness.{check_is_ok, completed, run_is_text}
 use Rattle.vkray.proofs.Telling.{told_of}
 use Rattle.vkray.proofs.top_call.vkray.Goals as goal
 
@@ -9,7 +12,14 @@ returns-in-Ok-clause-answer g c =
     c.in-Ok.ensures.replies c.write_reply.ensures)
 
 pub returns-in-Ok-clause-complete : goal.returns-in-Ok-clause-complete
-returns-in-Ok-clause-complete g c input commands good =
-    completed _ _ _ input commands good c.write_reply.result
+returns-in-Ok-clause-complete g c input commands good runs =
+    completed Run _ _ _ input commands good (run_text commands)
+    (run_is_text commands good.rules runs.built runs.data_rules) c.write_reply.result
+    (inr (told_of c.args.words.now _ _ c.in-Ok.reply.status c.in-Ok.reply.text.items c.write_reply.result
+    c.in-Ok.ensures.replies c.write_reply.ensures))
+
+pub returns-in-Ok-clause-checked : goal.returns-in-Ok-clause-checked
+returns-in-Ok-clause-checked g c input commands good =
+    completed Check _ _ _ input commands good (codes "ok\n") (check_is_ok commands good.rules) c.write_reply.result
     (inr (told_of c.args.words.now _ _ c.in-Ok.reply.status c.in-Ok.reply.text.items c.write_reply.result
     c.in-Ok.ensures.replies c.write_reply.ensures))
