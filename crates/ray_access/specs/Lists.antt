@@ -1,11 +1,11 @@
 -- Lists of touches, with their numbers. (Own.)
-use Rattle.std.specs.Prelude.{◌≡◌, ◌++◌, List, [], ◌∷◌, Option, map, All}
+use Rattle.std.specs.Prelude.{ℕ, ◌≡◌, ◌++◌, List, [], ◌∷◌, Option, map, All}
 use Rattle.std.specs.Option.{option_map_or}
-use Rattle.ray_rules.specs.declared.access_type.AccessType.TheVariants.{ShaderRead}
+use Rattle.ray_rules.specs.declared.access_type.AccessType.TheVariants.{HostRead, ShaderRead}
 use Rattle.ray_rules.specs.declared.byte_range.ByteRange.{ByteRange}
 use Rattle.ray_rules.specs.declared.reach.Reach.TheVariants.{Bytes}
 use Rattle.ray_rules.specs.declared.touch.Touch.{Touch}
-use Rattle.ray_rules.specs.Access.{Accesses}
+use Rattle.ray_rules.specs.Access.{Accesses, at_bytes}
 use Rattle.ray_rules.specs.Status.{Status}
 use Rattle.ray_access.specs.declared.touched.Touched.{Touched}
 use Rattle.ray_access.specs.declared.touches.Touches.{Touches}
@@ -30,3 +30,7 @@ pub record Adds (z : Status) (ts : List Touch) (old new : List Touched) : Type 0
 pub record AreOf (z : Status) (accesses : Accesses) (touches : Touches) : Type 0 where
   pub reads : AreTouched z accesses.reads touches.reads.items
   pub writes : AreTouched z accesses.writes touches.writes.items
+
+-- a list is that of the one read by the host
+abbrev pub IsHostRead : Status → ℕ → ℕ → ℕ → List Touched → Type 0
+IsHostRead z buffer from size list = AreTouched z (at_bytes HostRead buffer from size ∷ []) list

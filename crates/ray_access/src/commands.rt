@@ -1,8 +1,10 @@
 ghost use Rattle.std.specs.Prelude.{◌≡◌, ◌<◌, ◌≤◌, ◌+◌, ◌*◌, ◌^◌, IfOk, [], ◌∷◌, length, map};
-ghost use Rattle.ray_rules.specs.declared.access_type.AccessType.TheVariants.{HostRead, StructureRead, StructureWrite, TransferRead, TransferWrite};
-ghost use Rattle.ray_rules.specs.Access.{all_accesses, at_bytes, at_structure, info_accesses, ray_accesses, region_accesses, structure_reads, uses_at};
+ghost use Rattle.ray_rules.specs.declared.access_type.AccessType.TheVariants.{StructureWrite};
+ghost use Rattle.ray_rules.specs.Access.{at_bytes, at_structure, build_accesses, copy_accesses, deserialize_accesses};
+ghost use Rattle.ray_rules.specs.Access.{info_accesses, property_accesses, ray_accesses, region_accesses};
+ghost use Rattle.ray_rules.specs.Access.{serialize_accesses, structure_copy_accesses, structure_reads, uses_at, write_accesses};
 ghost use Rattle.ray_access.specs.Axis.{TouchFits};
-ghost use Rattle.ray_access.specs.Lists.{AreOf, AreTouched};
+ghost use Rattle.ray_access.specs.Lists.{AreOf, IsHostRead};
 
 use crate::infos::{add_info_reads, add_info_writes};
 use crate::lists::{add, add_structures, structure_read};
@@ -11,7 +13,7 @@ use crate::touches::Touches;
 use ray_cmd::{Info, Recording, Region, Spot, Stretch};
 use ray_rules::{AccessType, Reach, Touch};
 use ray_status::{Status, range, uses_of};
-use std::alloc::{AllocError, Global};
+use std::alloc::{AllocError as NoMemory, Global};
 
 // An access of bytes.
 fn bytes(access: AccessType, buffer: u32, from: u64, size: u64) -> Touch
@@ -52,9 +54,8 @@ pub(crate) fn one_write(
     buffer: u32,
     offset: u64,
     size: u64,
-) -> Result<Touches, AllocError>
-    ensures { IfOk result
-        (AreOf status.now (record { reads = []; writes = at_bytes TransferWrite buffer offset size ∷ [] })) }
+) -> Result<Touches, NoMemory>
+    ensures { IfOk result (AreOf status.now (write_accesses buffer offset size)) }
 {
     let reads = Vec::new(alloc);
     let mut writes = Vec::new(alloc);
@@ -71,8 +72,8 @@ pub(crate) fn copy(
     src: u32,
     dst: u32,
     regions: &[Region],
-) -> Result<Touches, AllocError>
-    ensures { IfOk result (AreOf status.now (all_accesses (map (region_accesses src dst) regions.now))) }
+) -> Result<Touches, NoMemory>
+    ensures { IfOk result (AreOf status.now (copy_accesses src dst regions.now)) }
 {
     let mut reads = Vec::new(alloc);
     let mut writes = Vec::new(alloc);
@@ -96,8 +97,8 @@ pub(crate) fn copy(
 
 // What the infos of a build read and write.
 #[tactic(auto, using(crate::proofs::Joining::adds_none))]
-pub(crate) fn build(alloc: Global, status: &Status, infos: &[Info]) -> Result<Touches, AllocError>
-    ensures { IfOk result (AreOf status.now (all_accesses (map (info_accesses status.now.buffers) infos.now))) }
+pub(crate) fn build(alloc: Global, status: &Status, infos: &[Info]) -> Result<Touches, NoMemory>
+    ensures { IfOk result (AreOf status.now (build_accesses status.now.buffers infos.now)) }
 {
     let mut reads = Vec::new(alloc);
     let mut writes = Vec::new(alloc);
@@ -115,9 +116,8 @@ pub(crate) fn copy_structure(
     status: &Status,
     src: u32,
     dst: u32,
-) -> Result<Touches, AllocError>
-    ensures { IfOk result (AreOf status.now
-        (record { reads = at_structure StructureRead src ∷ []; writes = at_structure StructureWrite dst ∷ [] })) }
+) -> Result<Touches, NoMemory>
+    ensures { IfOk result (AreOf status.now (structure_copy_accesses src dst)) }
 {
     let mut reads = Vec::new(alloc);
     let mut writes = Vec::new(alloc);
@@ -133,11 +133,8 @@ pub(crate) fn serialize(
     status: &Status,
     src: u32,
     dst: Stretch,
-) -> Result<Touches, AllocError>
-    ensures { IfOk result (AreOf status.now (record {
-      reads = at_structure StructureRead src ∷ [];
-      writes = at_bytes TransferWrite dst.buffer dst.offset dst.size ∷ [];
-    })) }
+) -> Result<Touches, NoMemory>
+    ensures { IfOk result (AreOf status.now (serialize_accesses src dst)) }
 {
     let mut reads = Vec::new(alloc);
     let mut writes = Vec::new(alloc);
@@ -159,11 +156,8 @@ pub(crate) fn deserialize(
     src: Stretch,
     dst: u32,
     uses: &[u32],
-) -> Result<Touches, AllocError>
-    ensures { IfOk result (AreOf status.now (record {
-      reads = at_bytes TransferRead src.buffer src.offset src.size ∷ structure_reads uses.now;
-      writes = at_structure StructureWrite dst ∷ [];
-    })) }
+) -> Result<Touches, NoMemory>
+    ensures { IfOk result (AreOf status.now (deserialize_accesses src dst uses.now)) }
 {
     let mut reads = Vec::new(alloc);
     let mut writes = Vec::new(alloc);
@@ -185,12 +179,9 @@ pub(crate) fn property(
     status: &Status,
     structures: &[u32],
     dst: Spot,
-) -> Result<Touches, AllocError>
+) -> Result<Touches, NoMemory>
     requires { length structures.now ≤ 67108864 }
-    ensures { IfOk result (AreOf status.now (record {
-      reads = structure_reads structures.now;
-      writes = at_bytes TransferWrite dst.buffer dst.offset (8 * length structures.now) ∷ [];
-    })) }
+    ensures { IfOk result (AreOf status.now (property_accesses structures.now dst)) }
 {
     let mut reads = Vec::new(alloc);
     let mut writes = Vec::new(alloc);
@@ -215,7 +206,7 @@ pub(crate) fn trace(
     rays: Spot,
     count: u32,
     hits: Spot,
-) -> Result<Touches, AllocError>
+) -> Result<Touches, NoMemory>
     ensures { IfOk result (AreOf status.now (ray_accesses rec.now status.now top rays hits 0 count)) }
 {
     let mut reads = Vec::new(alloc);
@@ -247,8 +238,8 @@ pub(crate) fn host_read(
     buffer: u32,
     offset: u64,
     size: u64,
-) -> Result<Vec<Touched>, AllocError>
-    ensures { IfOk result (λ list. AreTouched status.now (at_bytes HostRead buffer offset size ∷ []) list.items) }
+) -> Result<Vec<Touched>, NoMemory>
+    ensures { IfOk result (λ list. IsHostRead status.now buffer offset size list.items) }
 {
     let mut reads = Vec::new(alloc);
     add(

@@ -10,14 +10,14 @@ use crate::touched::Touched;
 use ray_cmd::{Geometry, Info, Listed};
 use ray_rules::{AccessType, Reach, Touch};
 use ray_status::{Status, scratch_range};
-use std::alloc::AllocError;
+use std::alloc::AllocError as NoMemory;
 
 // Puts what an info reads at the end.
 pub(crate) fn add_info_reads(
     list: &mut Vec<Touched>,
     status: &Status,
     info: &Info,
-) -> Result<(), AllocError>
+) -> Result<(), NoMemory>
     ensures { OnOk result (Adds status.now (info_accesses status.now.buffers info.now).reads list.old.items list.new.items) }
 {
     add_listed_geometries(list, status, &info.geometries)?;
@@ -32,7 +32,7 @@ pub(crate) fn add_info_writes(
     list: &mut Vec<Touched>,
     status: &Status,
     info: &Info,
-) -> Result<(), AllocError>
+) -> Result<(), NoMemory>
     ensures { OnOk result (Adds status.now (info_accesses status.now.buffers info.now).writes list.old.items list.new.items) }
 {
     let access = AccessType::StructureWrite;
@@ -53,7 +53,7 @@ fn scratch(info: &Info, access: AccessType) -> Touch
 }
 
 // Puts the reads of listed structures at the end.
-fn add_uses(list: &mut Vec<Touched>, status: &Status, uses: &Listed<u32>) -> Result<(), AllocError>
+fn add_uses(list: &mut Vec<Touched>, status: &Status, uses: &Listed<u32>) -> Result<(), NoMemory>
     ensures { OnOk result (Adds status.now (structure_reads uses.now) list.old.items list.new.items) }
 {
     add_structures(list, status, uses.as_slice())
@@ -64,7 +64,7 @@ fn add_listed_geometries(
     list: &mut Vec<Touched>,
     status: &Status,
     geometries: &Listed<Geometry>,
-) -> Result<(), AllocError>
+) -> Result<(), NoMemory>
     ensures { OnOk result
         (Adds status.now (flat_map (input_reads status.now.buffers) geometries.now) list.old.items list.new.items) }
 {
@@ -77,7 +77,7 @@ fn add_geometries(
     list: &mut Vec<Touched>,
     status: &Status,
     geometries: &[Geometry],
-) -> Result<(), AllocError>
+) -> Result<(), NoMemory>
     ensures { OnOk result
         (Adds status.now (flat_map (input_reads status.now.buffers) geometries.now) list.old.items list.new.items) }
 {

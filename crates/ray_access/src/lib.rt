@@ -21,3 +21,4 @@ mod touches;
 pub use crate::laws::sharing_is_meeting;
 pub use crate::touched::Touched;
 pub use crate::touches::{Touches, host_touches_of, touches_of};
+pub use std::alloc::AllocError as NoMemory;

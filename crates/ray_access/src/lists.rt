@@ -11,11 +11,11 @@ use crate::touched::Touched;
 use ray_cmd::Geometry;
 use ray_rules::{AccessType, ByteRange, Reach, Touch};
 use ray_status::{Status, inputs_read};
-use std::alloc::AllocError;
+use std::alloc::AllocError as NoMemory;
 
 // Puts one more touch at the end.
 #[tactic(auto, using(crate::proofs::Joining::adds_one))]
-pub(crate) fn add(list: &mut Vec<Touched>, status: &Status, touch: Touch) -> Result<(), AllocError>
+pub(crate) fn add(list: &mut Vec<Touched>, status: &Status, touch: Touch) -> Result<(), NoMemory>
     requires { TouchFits touch }
     ensures { OnOk result (Adds status.now (touch ∷ []) list.old.items list.new.items) }
 {
@@ -29,7 +29,7 @@ pub(crate) fn add_structures(
     list: &mut Vec<Touched>,
     status: &Status,
     ids: &[u32],
-) -> Result<(), AllocError>
+) -> Result<(), NoMemory>
     ensures { OnOk result (Adds status.now (structure_reads ids.now) list.old.items list.new.items) }
 {
     for id in ids {
@@ -44,7 +44,7 @@ pub(crate) fn add_structure_if(
     list: &mut Vec<Touched>,
     status: &Status,
     id: Option<u32>,
-) -> Result<(), AllocError>
+) -> Result<(), NoMemory>
     ensures { OnOk result
         (Adds status.now (structure_reads (option_to_list id)) list.old.items list.new.items) }
 {
@@ -71,7 +71,7 @@ pub(crate) fn add_inputs(
     list: &mut Vec<Touched>,
     status: &Status,
     geometry: &Geometry,
-) -> Result<(), AllocError>
+) -> Result<(), NoMemory>
     ensures { OnOk result
         (Adds status.now (input_reads status.now.buffers geometry.now) list.old.items list.new.items) }
 {
@@ -87,7 +87,7 @@ fn add_input(
     list: &mut Vec<Touched>,
     status: &Status,
     range: Option<ByteRange>,
-) -> Result<(), AllocError>
+) -> Result<(), NoMemory>
     requires { FitsIf range }
     ensures { OnOk result (Adds status.now (input_touches range) list.old.items list.new.items) }
 {

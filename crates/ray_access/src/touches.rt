@@ -9,7 +9,7 @@ use crate::commands::{
 use crate::touched::Touched;
 use ray_cmd::{Command, Recording};
 use ray_status::Status;
-use std::alloc::{AllocError, Global};
+use std::alloc::{AllocError as NoMemory, Global};
 
 /// What a command reads and writes. Own.
 #[derive(Drop)]
@@ -31,7 +31,7 @@ pub fn touches_of(
     rec: &Recording,
     status: &Status,
     command: &Command,
-) -> Result<Touches, AllocError>
+) -> Result<Touches, NoMemory>
     ensures { IfOk result (AreOf status.now (accesses_of rec.now status.now command.now)) }
 {
     match command {
@@ -89,7 +89,7 @@ pub fn host_touches_of(
     alloc: Global,
     status: &Status,
     command: &Command,
-) -> Result<Vec<Touched>, AllocError>
+) -> Result<Vec<Touched>, NoMemory>
     ensures { IfOk result (λ list. AreTouched status.now (host_reads command.now) list.items) }
 {
     match command {

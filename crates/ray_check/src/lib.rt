@@ -15,3 +15,4 @@ mod tests;
 mod verdict;
 
 pub use crate::verdict::check_rules;
+pub use std::alloc::AllocError as NoMemory;

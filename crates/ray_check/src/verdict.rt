@@ -5,7 +5,7 @@ use crate::joining::{first_of_two, looked_at};
 use ray_cmd::{Recording, Refusal};
 use ray_sync::{check_sync, order_of};
 use ray_valid::check_static;
-use std::alloc::{AllocError, Global};
+use std::alloc::{AllocError as NoMemory, Global};
 
 /// The refusal of the first command of a recording that breaks a rule V1 to V32, by the least rule
 /// that it breaks, with its place. None exactly where none does. The end of the recording counts as
@@ -14,7 +14,7 @@ use std::alloc::{AllocError, Global};
 /// # Errors
 ///
 /// For want of memory alone.
-pub fn check_rules(alloc: Global, rec: &Recording) -> Result<Option<Refusal>, AllocError>
+pub fn check_rules(alloc: Global, rec: &Recording) -> Result<Option<Refusal>, NoMemory>
     ensures value { IfOk result (λ refusal. refusal ≡ rule_refusal rec.now) }
     ensures within { IfOk result (λ refusal. IfSome refusal (λ r. r.command ≤ length rec.now)) }
 {

@@ -32,3 +32,4 @@ pub use crate::members::{member, only_members, optional_member};
 pub use crate::numbers::{read_bool, read_u32, read_u64};
 pub use crate::reader::Reader;
 pub use crate::words::{read_text, read_word, read_words};
+pub use std::alloc::AllocError as NoMemory;

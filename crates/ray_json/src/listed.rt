@@ -1,6 +1,6 @@
 ghost use Rattle.std.specs.Prelude.{◌≡◌, ◌≤◌, ◌++◌, [], ◌∷◌, OnOk, OnErr, length};
 
-use std::alloc::{AllocError, Global};
+use std::alloc::{AllocError as NoMemory, Global};
 use std::marker::Model;
 
 // The greatest number of items of a list, 2^26.
@@ -36,14 +36,14 @@ impl<T> Listed<T> {
 
     /// Puts one more item at the end. Without memory for it, or where the list has 2^26 items, the
     /// list stays as it was.
-    pub fn push(&mut self, item: T) -> Result<(), AllocError>
+    pub fn push(&mut self, item: T) -> Result<(), NoMemory>
     where
         T: Drop,
         ensures pushed { OnOk result (self.new ≡ self.old ++ item ∷ []) }
         ensures kept { OnErr result (self.new ≡ self.old) }
     {
         if self.items.len() == MOST_ITEMS {
-            return Err(AllocError);
+            return Err(NoMemory);
         }
         self.items.push(item)?;
         Ok(())

@@ -14,3 +14,4 @@ mod node;
 mod tests;
 
 pub use crate::marks::Marks;
+pub use std::alloc::AllocError as NoMemory;

@@ -3,7 +3,7 @@ ghost use Rattle.ray_marks.specs.Rising.{IsGreatest, is_marked, mark_of};
 ghost use Rattle.ray_marks.specs.Tree.{IsOver, cells_of, size_of, marks_of, no_mark};
 
 use crate::node::{Node, greatest, mark};
-use std::alloc::{AllocError, Global};
+use std::alloc::{AllocError as NoMemory, Global};
 use std::marker::Model;
 
 /// So many cells, each with a mark that only rises. Contracts see it as the list of the
@@ -32,7 +32,7 @@ impl Marks {
     /// # Errors
     ///
     /// For want of memory alone.
-    pub fn new(alloc: Global, cells: usize) -> Result<Marks, AllocError>
+    pub fn new(alloc: Global, cells: usize) -> Result<Marks, NoMemory>
         requires { cells ≤ 2 ^ 32 }
         ensures cells { IfOk result (λ marks. length marks ≡ cells) }
         ensures marks { IfOk result (λ marks. (c : ℕ) → mark_of marks c ≡ 0) }
@@ -81,7 +81,7 @@ impl Marks {
 }
 
 // So many nodes without marks.
-fn blank(alloc: Global, many: usize) -> Result<Vec<Node>, AllocError>
+fn blank(alloc: Global, many: usize) -> Result<Vec<Node>, NoMemory>
     ensures { IfOk result (λ nodes. nodes.items ≡ replicate many no_mark) }
 {
     vec![in alloc; Node { whole: 0, part: 0 }; many]

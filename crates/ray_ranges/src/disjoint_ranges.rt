@@ -6,7 +6,7 @@ ghost use Rattle.ray_ranges.specs.Meeting.{meets, meets_any, HasNoMore};
 ghost use Rattle.ray_ranges.specs.Sweep.{HasAlso};
 
 use crate::range::Range;
-use std::alloc::{AllocError, Global};
+use std::alloc::{AllocError as NoMemory, Global};
 use std::collections::BTreeMap;
 use std::marker::Model;
 
@@ -62,7 +62,7 @@ impl DisjointRanges {
 
     /// Puts one more range into the set, which isn't empty and meets none. After an error the set
     /// is as before.
-    pub fn add(&mut self, range: Range) -> Result<(), AllocError>
+    pub fn add(&mut self, range: Range) -> Result<(), NoMemory>
         requires some { range.from < range.end }
         requires free { meets_any self.old range ≡ false }
         ensures ranges { OnOk result (HaveTheSame self.new (range ∷ self.old)) }
@@ -73,7 +73,7 @@ impl DisjointRanges {
     }
 
     // Puts the numbers of a range that meets none into the set: none, where it is empty.
-    pub(crate) fn put(&mut self, range: Range) -> Result<(), AllocError>
+    pub(crate) fn put(&mut self, range: Range) -> Result<(), NoMemory>
         requires { meets_any self.old range ≡ false }
         ensures { OnOk result (HasAlso range self.old self.new) }
     {
@@ -86,7 +86,7 @@ impl DisjointRanges {
 
     // Puts the numbers of the range into the set: those ranges that it meets become one with it.
     // After an error some of these are gone.
-    pub(crate) fn cover(&mut self, range: Range) -> Result<(), AllocError>
+    pub(crate) fn cover(&mut self, range: Range) -> Result<(), NoMemory>
         ensures { OnOk result (HasAlso range self.old self.new) }
     {
         if range.end <= range.from {

@@ -6,7 +6,7 @@ ghost use Rattle.ray_ranges.specs.First.{first_meeting, first_meeting_any, first
 use crate::disjoint_ranges::DisjointRanges;
 use crate::range::Range;
 use crate::sweep::are_free;
-use std::alloc::{AllocError, Global};
+use std::alloc::{AllocError as NoMemory, Global};
 
 /// The least number of a range that meets one of the others, or one that stands before it. It takes
 /// n log n steps.
@@ -14,7 +14,7 @@ pub fn first_meeting(
     alloc: Global,
     ranges: &[Range],
     others: &[Range],
-) -> Result<Option<usize>, AllocError>
+) -> Result<Option<usize>, NoMemory>
     ensures { IfOk result (λ first. first ≡ first_meeting ranges.now others.now) }
 {
     if are_free(alloc, ranges, others)? {
@@ -31,7 +31,7 @@ pub fn first_meeting(
 }
 
 /// The least number of a range that meets one that stands before it.
-pub fn first_meeting_earlier(alloc: Global, ranges: &[Range]) -> Result<Option<usize>, AllocError>
+pub fn first_meeting_earlier(alloc: Global, ranges: &[Range]) -> Result<Option<usize>, NoMemory>
     ensures { IfOk result (λ first. first ≡ first_meeting_earlier ranges.now) }
 {
     first_meeting(alloc, ranges, &[])
@@ -42,7 +42,7 @@ pub fn first_meeting_any(
     alloc: Global,
     ranges: &[Range],
     others: &[Range],
-) -> Result<Option<usize>, AllocError>
+) -> Result<Option<usize>, NoMemory>
     ensures { IfOk result (λ first. first ≡ first_meeting_any ranges.now others.now) }
 {
     if are_free(alloc, ranges, others)? {
@@ -60,7 +60,7 @@ fn first_met(taken: &DisjointRanges, ranges: &[Range]) -> Option<usize>
 }
 
 // The numbers of all these ranges, as a set.
-fn union(alloc: Global, ranges: &[Range]) -> Result<DisjointRanges, AllocError>
+fn union(alloc: Global, ranges: &[Range]) -> Result<DisjointRanges, NoMemory>
     ensures { IfOk result (λ set. (n : ℕ) → covers set n ≡ covers ranges.now n) }
 {
     let mut set = DisjointRanges::new(alloc);

@@ -30,3 +30,4 @@ pub use overlapping::first_overlapping;
 pub use place::Place;
 pub use placed::Placed;
 pub use range::Range;
+pub use std::alloc::AllocError as NoMemory;

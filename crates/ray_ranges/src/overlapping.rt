@@ -7,10 +7,10 @@ use crate::addresses::addresses;
 use crate::first::first_meeting_earlier;
 use crate::place::Place;
 use crate::range::Range;
-use std::alloc::{AllocError, Global};
+use std::alloc::{AllocError as NoMemory, Global};
 
 /// The least number of a place that shares a byte with one that stands before it.
-pub fn first_overlapping(alloc: Global, places: &[Place]) -> Result<Option<usize>, AllocError>
+pub fn first_overlapping(alloc: Global, places: &[Place]) -> Result<Option<usize>, NoMemory>
     ensures { IfOk result (λ first. first ≡ first_overlapping places.now) }
 {
     let ranges = each_addresses(alloc, places)?;
@@ -18,7 +18,7 @@ pub fn first_overlapping(alloc: Global, places: &[Place]) -> Result<Option<usize
 }
 
 // The addresses of each place.
-fn each_addresses(alloc: Global, places: &[Place]) -> Result<Vec<Range>, AllocError>
+fn each_addresses(alloc: Global, places: &[Place]) -> Result<Vec<Range>, NoMemory>
     ensures value { IfOk result (λ ranges. ranges.items ≡ map addresses_of places.now) }
     ensures fit { IfOk result (λ _. All (λ place. place.from + place.size ≤ 2 ^ 66) places.now) }
 {

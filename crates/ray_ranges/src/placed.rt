@@ -7,7 +7,7 @@ ghost use Rattle.ray_ranges.specs.Addresses.{addresses_of, all_addresses};
 use crate::addresses::{addresses, whole};
 use crate::disjoint_ranges::DisjointRanges;
 use crate::place::Place;
-use std::alloc::{AllocError, Global};
+use std::alloc::{AllocError as NoMemory, Global};
 use std::collections::BTreeMap;
 use std::marker::Model;
 
@@ -79,7 +79,7 @@ impl Placed {
 
     /// Gives an id that has none a place that isn't empty and shares no byte with another. After an
     /// error all is as before.
-    pub fn insert(&mut self, id: u32, place: Place) -> Result<(), AllocError>
+    pub fn insert(&mut self, id: u32, place: Place) -> Result<(), NoMemory>
         requires fresh { place_at id self.old ≡ None }
         requires some { 0 < place.size }
         requires free { overlaps_any self.old place ≡ false }

@@ -2,7 +2,7 @@ ghost use Rattle.std.specs.Prelude.{◌≡◌, true, IfOk};
 ghost use Rattle.ray_ranges.specs.Sweep.{AreFree, ascend_from, greater, swept};
 
 use crate::range::Range;
-use std::alloc::{AllocError, Global};
+use std::alloc::{AllocError as NoMemory, Global};
 
 // A range of one of two lists.
 #[derive(Clone, Copy)]
@@ -13,11 +13,7 @@ pub(crate) struct Swept {
 
 // Whether the ranges and the others ascend once they are sorted. Where they do, no range meets one
 // of the others or an earlier one.
-pub(crate) fn are_free(
-    alloc: Global,
-    ranges: &[Range],
-    others: &[Range],
-) -> Result<bool, AllocError>
+pub(crate) fn are_free(alloc: Global, ranges: &[Range], others: &[Range]) -> Result<bool, NoMemory>
     ensures { IfOk result (λ free. free ≡ true → AreFree ranges.now others.now) }
 {
     let mut all = both(alloc, ranges, others)?;
@@ -26,7 +22,7 @@ pub(crate) fn are_free(
 }
 
 // All of both lists.
-fn both(alloc: Global, ranges: &[Range], others: &[Range]) -> Result<Vec<Swept>, AllocError>
+fn both(alloc: Global, ranges: &[Range], others: &[Range]) -> Result<Vec<Swept>, NoMemory>
     ensures { IfOk result (λ all. all.items ≡ swept ranges.now others.now) }
 {
     let mut all = Vec::new(alloc);

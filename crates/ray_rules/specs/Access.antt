@@ -9,6 +9,7 @@ use Rattle.ray_cmd.specs.declared.geometry.Geometry.{Geometry}
 use Rattle.ray_cmd.specs.declared.info.Info.{Info}
 use Rattle.ray_cmd.specs.declared.region.Region.{Region}
 use Rattle.ray_cmd.specs.declared.spot.Spot.{Spot}
+use Rattle.ray_cmd.specs.declared.stretch.Stretch.{Stretch}
 use Rattle.ray_rules.specs.declared.access_type.AccessType.{AccessType}
 use Rattle.ray_rules.specs.declared.access_type.AccessType.TheVariants.{TransferRead, TransferWrite, ShaderRead, ShaderWrite, StructureRead, StructureWrite, HostRead}
 use Rattle.ray_rules.specs.declared.byte_range.ByteRange.{ByteRange}
@@ -98,26 +99,52 @@ ray_accesses rec z top rays hits first count = record {
 abbrev pub all_accesses : List Accesses → Accesses
 all_accesses parts = record { reads = flat_map (λ (p : Accesses). p.reads) parts; writes = flat_map (λ (p : Accesses). p.writes) parts }
 
--- what a device command reads and writes where this status stands before it
-unfoldable pub accesses_of : List Command → Status → Command → Accesses
-accesses_of rec z (commands.Update buffer offset content) =
-    record { reads = []; writes = at_bytes TransferWrite buffer offset (length content) ∷ [] }
-accesses_of rec z (commands.Fill buffer offset size value) =
-    record { reads = []; writes = at_bytes TransferWrite buffer offset size ∷ [] }
-accesses_of rec z (commands.Copy src dst regions) = all_accesses (map (region_accesses src dst) regions)
-accesses_of rec z (commands.Build infos) = all_accesses (map (info_accesses z.buffers) infos)
-accesses_of rec z (commands.CopyStructure mode src dst) =
+-- what an update or a fill writes
+abbrev pub write_accesses : ℕ → ℕ → ℕ → Accesses
+write_accesses buffer from size = record { reads = []; writes = at_bytes TransferWrite buffer from size ∷ [] }
+
+-- what a copy of regions reads and writes
+abbrev pub copy_accesses : ℕ → ℕ → List Region → Accesses
+copy_accesses src dst regions = all_accesses (map (region_accesses src dst) regions)
+
+-- what a build reads and writes
+abbrev pub build_accesses : Ids LiveBuffer → List Info → Accesses
+build_accesses buffers infos = all_accesses (map (info_accesses buffers) infos)
+
+-- what a copy of a structure reads and writes
+abbrev pub structure_copy_accesses : ℕ → ℕ → Accesses
+structure_copy_accesses src dst =
     record { reads = at_structure StructureRead src ∷ []; writes = at_structure StructureWrite dst ∷ [] }
-accesses_of rec z (commands.Serialize src dst) =
+
+-- what the serializing of a structure reads and writes
+abbrev pub serialize_accesses : ℕ → Stretch → Accesses
+serialize_accesses src dst =
     record { reads = at_structure StructureRead src ∷ []; writes = at_bytes TransferWrite dst.buffer dst.offset dst.size ∷ [] }
-accesses_of rec z (commands.Deserialize src dst uses) = record {
+
+-- what the making of a structure from serialized bytes reads and writes
+abbrev pub deserialize_accesses : Stretch → ℕ → List ℕ → Accesses
+deserialize_accesses src dst uses = record {
   reads = at_bytes TransferRead src.buffer src.offset src.size ∷ structure_reads uses;
   writes = at_structure StructureWrite dst ∷ [];
 }
-accesses_of rec z (commands.Property what structures dst) = record {
+
+-- what the asking for a number of structures reads and writes
+abbrev pub property_accesses : List ℕ → Spot → Accesses
+property_accesses structures dst = record {
   reads = structure_reads structures;
   writes = at_bytes TransferWrite dst.buffer dst.offset (8 * length structures) ∷ [];
 }
+
+-- what a device command reads and writes where this status stands before it
+unfoldable pub accesses_of : List Command → Status → Command → Accesses
+accesses_of rec z (commands.Update buffer offset content) = write_accesses buffer offset (length content)
+accesses_of rec z (commands.Fill buffer offset size value) = write_accesses buffer offset size
+accesses_of rec z (commands.Copy src dst regions) = copy_accesses src dst regions
+accesses_of rec z (commands.Build infos) = build_accesses z.buffers infos
+accesses_of rec z (commands.CopyStructure mode src dst) = structure_copy_accesses src dst
+accesses_of rec z (commands.Serialize src dst) = serialize_accesses src dst
+accesses_of rec z (commands.Deserialize src dst uses) = deserialize_accesses src dst uses
+accesses_of rec z (commands.Property what structures dst) = property_accesses structures dst
 accesses_of rec z (commands.Trace top rays count hits flags mask script) = ray_accesses rec z top rays hits 0 count
 accesses_of rec z _ = no_access
 

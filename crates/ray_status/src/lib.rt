@@ -33,3 +33,4 @@ pub use crate::usages::{
     is_private, is_private_at, lacks_input, lacks_scratch, lacks_storage, lacks_structures,
     lacks_transfer_dst, lacks_transfer_src,
 };
+pub use std::alloc::AllocError as NoMemory;

@@ -10,7 +10,7 @@ ghost use Rattle.ray_rules.specs.Structures.{overlaps_structure, structure_range
 use crate::structures::Structures;
 use ray_cmd::Thing;
 use ray_rules::{Built, ByteRange, LiveBuffer, LiveStructure, Phase};
-use std::alloc::{AllocError, Global};
+use std::alloc::{AllocError as NoMemory, Global};
 use std::collections::BTreeMap;
 use std::marker::Model;
 
@@ -162,7 +162,7 @@ impl Status {
     }
 
     // A buffer is live. Its id is that of no live buffer, and the sizes of all are at most 2^28.
-    pub(crate) fn make_buffer(&mut self, id: u32, made: LiveBuffer) -> Result<(), AllocError>
+    pub(crate) fn make_buffer(&mut self, id: u32, made: LiveBuffer) -> Result<(), NoMemory>
         requires free { look self.old.buffers id ≡ None }
         requires few { live_bytes self.old + made.size ≤ 268435456 }
         ensures { OnOk result (self.new ≡ with_buffer id made self.old) }
@@ -173,7 +173,7 @@ impl Status {
     }
 
     // A structure is live. Its id is that of no live structure, it has a byte, and it overlaps none.
-    pub(crate) fn make_structure(&mut self, id: u32, made: LiveStructure) -> Result<(), AllocError>
+    pub(crate) fn make_structure(&mut self, id: u32, made: LiveStructure) -> Result<(), NoMemory>
         requires free { look self.old.structures id ≡ None }
         requires some { 0 < made.size }
         requires apart { overlaps_structure self.old (structure_range made) ≡ false }
@@ -202,7 +202,7 @@ impl Status {
     }
 
     // The structure of an id, where it is live, is built by this.
-    pub(crate) fn fill_in(&mut self, id: u32, built: Option<Built>) -> Result<(), AllocError>
+    pub(crate) fn fill_in(&mut self, id: u32, built: Option<Built>) -> Result<(), NoMemory>
         ensures { OnOk result (self.new ≡ fill_in id built self.old) }
     {
         if let Some(structure) = self.structure(id) {

@@ -7,14 +7,14 @@ ghost use Rattle.ray_rules.specs.Structures.{v6};
 use crate::status::Status;
 use ray_cmd::{Command, Info};
 use ray_rules::{Built, LiveBuffer, LiveStructure, Phase};
-use std::alloc::AllocError;
+use std::alloc::AllocError as NoMemory;
 
 impl Status {
     /// Goes on past command number `i`, which names what is live, has the sizes that it needs and
     /// makes no structure over another. After a want of memory the status may be that of a part of
     /// the command.
     #[tactic(auto, unfolding(ray_rules::specs::Status::after))]
-    pub fn step(&mut self, i: u32, command: &Command) -> Result<(), AllocError>
+    pub fn step(&mut self, i: u32, command: &Command) -> Result<(), NoMemory>
         requires named { v1 self.old command.now ≡ None }
         requires sized { v2 self.old command.now ≡ None }
         requires placed { v6 self.old command.now ≡ None }
@@ -72,7 +72,7 @@ impl Status {
     }
 
     // Goes on past the infos of command number `i`.
-    fn build(&mut self, i: u32, infos: &[Info]) -> Result<(), AllocError>
+    fn build(&mut self, i: u32, infos: &[Info]) -> Result<(), NoMemory>
         ensures { OnOk result (self.new ≡ after_infos i 0 infos.now self.old) }
     {
         for k in 0..infos.len() {
@@ -82,7 +82,7 @@ impl Status {
     }
 
     // Goes on past a copy by command number `i`.
-    fn copy(&mut self, i: u32, src: u32, dst: u32) -> Result<(), AllocError>
+    fn copy(&mut self, i: u32, src: u32, dst: u32) -> Result<(), NoMemory>
         ensures { OnOk result (self.new ≡ fill_in dst (copied_by i (built_at self.old src)) self.old) }
     {
         let copied = copied_by(i, self.built(src));

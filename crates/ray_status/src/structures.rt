@@ -11,7 +11,7 @@ ghost use Rattle.ray_status.specs.Parts.{overlaps_one, structure_place};
 use crate::ranges::{meets, place_of, structure_place, structure_range};
 use ray_ranges::Placed;
 use ray_rules::{ByteRange, LiveStructure};
-use std::alloc::{AllocError, Global};
+use std::alloc::{AllocError as NoMemory, Global};
 use std::collections::BTreeMap;
 use std::marker::Model;
 
@@ -89,7 +89,7 @@ impl Structures {
     }
 
     /// Makes a structure live. Its id is that of none, it has a byte, and it overlaps none.
-    pub(crate) fn insert(&mut self, id: u32, made: LiveStructure) -> Result<(), AllocError>
+    pub(crate) fn insert(&mut self, id: u32, made: LiveStructure) -> Result<(), NoMemory>
         requires fresh { look self.old id ≡ None }
         requires some { 0 < made.size }
         requires apart { overlaps_one self.old (structure_range made) ≡ false }
@@ -106,7 +106,7 @@ impl Structures {
     }
 
     /// Puts a structure under the id of one that stands in the same bytes.
-    pub(crate) fn replace(&mut self, id: u32, other: LiveStructure) -> Result<(), AllocError>
+    pub(crate) fn replace(&mut self, id: u32, other: LiveStructure) -> Result<(), NoMemory>
         requires { option_map structure_place (look self.old id) ≡ Some (structure_place other) }
         ensures { OnOk result (self.new ≡ with_id id other self.old) }
     {

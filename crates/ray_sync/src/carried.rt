@@ -123,12 +123,4 @@ impl Carried {
     {
         self.at(access).at(stage)
     }
-
-    /// Whether what command number `i`, one of these, wrote is covered to an access at a stage.
-    pub fn covers(self, i: u32, stage: Stage, access: AccessType) -> bool
-        ensures { (rec : List ACommand) (n : ℕ) → IsCarried rec n self
-            → result ≡ (handed_at (takes self.source) rec i n).pairs stage access }
-    {
-        i < self.at(access).at(stage)
-    }
 }

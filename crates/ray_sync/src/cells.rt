@@ -1,7 +1,7 @@
 ghost use Rattle.std.specs.Prelude.{◌≡◌, ◌≤◌, ℕ, IfOk, length};
 ghost use Rattle.ray_sync.specs.Cells.{cell_of, is_start};
 
-use std::alloc::{AllocError, Global};
+use std::alloc::{AllocError as NoMemory, Global};
 use std::collections::BTreeSet;
 use std::marker::Model;
 
@@ -24,7 +24,7 @@ impl Model for Cells {
 
 impl Cells {
     // The cells of an axis that is cut at these numbers.
-    pub(crate) fn of(alloc: Global, set: &BTreeSet<u128>) -> Result<Cells, AllocError>
+    pub(crate) fn of(alloc: Global, set: &BTreeSet<u128>) -> Result<Cells, NoMemory>
         ensures { IfOk result (λ cells. (p : ℕ) → is_start cells p ≡ is_start set.now.keys p) }
     {
         let mut starts = Vec::new(alloc);

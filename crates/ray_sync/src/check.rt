@@ -22,7 +22,7 @@ use ray_access::{Touched, sharing_is_meeting};
 use ray_cmd::{Place, Recording, Refusal, Rule};
 use ray_rules::Stage;
 use ray_status::Status;
-use std::alloc::{AllocError, Global};
+use std::alloc::{AllocError as NoMemory, Global};
 
 // The greatest number of cells, 2^32.
 const MOST_CELLS: usize = 4_294_967_296;
@@ -39,7 +39,7 @@ pub fn check_sync(
     alloc: Global,
     rec: &Recording,
     order: &Order,
-) -> Result<Option<Refusal>, AllocError>
+) -> Result<Option<Refusal>, NoMemory>
     requires until { length order.now ≤ length rec.now }
     requires go_on { GoOn rec.now (length order.now) }
     ensures { IfOk result (λ hazard. hazard ≡ first_hazard rec.now (length order.now)) }
@@ -49,7 +49,7 @@ pub fn check_sync(
     let starts = starts_of(alloc, rec, until)?;
     let cells = Cells::of(alloc, &starts)?;
     if MOST_CELLS < cells.count() {
-        return Err(AllocError);
+        return Err(NoMemory);
     }
     checked(alloc, rec, until, &cells)
 }
@@ -60,7 +60,7 @@ fn checked(
     rec: &Recording,
     until: u32,
     cells: &Cells,
-) -> Result<Option<Refusal>, AllocError>
+) -> Result<Option<Refusal>, NoMemory>
     requires until { until ≤ length rec.now }
     requires cells { length cells.now ≤ 2 ^ 32 }
     requires go_on { GoOn rec.now until }
@@ -95,13 +95,25 @@ fn hazard_of(n: u32, doing: &Doing, lanes: &Lanes, fronts: Fronts, cells: &Cells
     let written = uncovered_at(doing.stage, writes, lanes, cells);
     let overwritten = unordered_at(n, doing.stage, fronts, writes, lanes, cells);
     let shown = uncovered(Stage::Host, doing.host.as_slice(), lanes, cells);
-    let last = or_later(n, 32, shown, None);
-    or_later(
-        n,
-        25,
-        read,
-        or_later(n, 26, written, or_later(n, 27, overwritten, last)),
-    )
+    least(n, read, written, overwritten, shown)
+}
+
+// The refusal of command number `n` by the least of V25, V26, V27 and V32 that is broken, where any
+// is.
+fn least(
+    n: u32,
+    read: Option<Place>,
+    written: Option<Place>,
+    overwritten: Option<Place>,
+    shown: Option<Place>,
+) -> Option<Refusal>
+    ensures { result ≡ or_later n 25 read
+        (or_later n 26 written (or_later n 27 overwritten (or_later n 32 shown None))) }
+{
+    let host = or_later(n, 32, shown, None);
+    let order = or_later(n, 27, overwritten, host);
+    let write = or_later(n, 26, written, order);
+    or_later(n, 25, read, write)
 }
 
 // The refusal of command number `n` by a rule where it is broken, and else by the later ones.

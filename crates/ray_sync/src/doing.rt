@@ -7,7 +7,7 @@ use ray_access::{Touched, Touches, host_touches_of, touches_of};
 use ray_cmd::{Command, Recording};
 use ray_rules::Stage;
 use ray_status::Status;
-use std::alloc::{AllocError, Global};
+use std::alloc::{AllocError as NoMemory, Global};
 
 // What a command does: its stage, what it reads and writes there, and what it reads on the host.
 #[derive(Drop)]
@@ -23,7 +23,7 @@ pub(crate) fn doing_of(
     rec: &Recording,
     status: &Status,
     command: &Command,
-) -> Result<Doing, AllocError>
+) -> Result<Doing, NoMemory>
     ensures { IfOk result (λ doing. (n : ℕ) → slice_get rec.now n ≡ Some command.now
         → status.now ≡ status_at rec.now n → IsDoing rec.now n doing) }
 {

@@ -13,7 +13,7 @@ use ray_access::Touched;
 use ray_cmd::Command;
 use ray_marks::Marks;
 use ray_rules::{AccessType, Stage};
-use std::alloc::{AllocError, Global};
+use std::alloc::{AllocError as NoMemory, Global};
 
 /// What is kept of one way of writing: how far such writes are covered, and for each cell one more
 /// than the last command that wrote it so, 0 where there is none.
@@ -30,7 +30,7 @@ impl Lane {
         stage: Stage,
         access: AccessType,
         cells: usize,
-    ) -> Result<Lane, AllocError>
+    ) -> Result<Lane, NoMemory>
         requires { cells ≤ 2 ^ 32 }
         ensures { IfOk result (λ lane. (rec : List ACommand) (starts : List ℕ)
             → length starts ≡ cells → IsLane rec starts stage access 0 lane) }

@@ -8,7 +8,7 @@ use crate::lane::{Lane, above};
 use crate::per_kind::{PerKind, greater};
 use ray_marks::Marks;
 use ray_rules::{AccessType, Stage};
-use std::alloc::{AllocError, Global};
+use std::alloc::{AllocError as NoMemory, Global};
 
 /// What is kept of all commands so far: a lane for each way of writing, and for each stage and each
 /// cell one more than the last command that read it, 0 where there is none.
@@ -25,7 +25,7 @@ pub(crate) struct Lanes {
 
 impl Lanes {
     // No command has read or written.
-    pub(crate) fn new(alloc: Global, cells: usize) -> Result<Lanes, AllocError>
+    pub(crate) fn new(alloc: Global, cells: usize) -> Result<Lanes, NoMemory>
         requires { cells ≤ 2 ^ 32 }
         ensures { IfOk result (λ lanes. (rec : List ACommand) (starts : List ℕ)
             → length starts ≡ cells → AreLanes rec starts 0 lanes) }

@@ -41,3 +41,4 @@ pub use crate::front::Front;
 pub use crate::laws::covered_is_ordered;
 pub use crate::order::{Order, order_of};
 pub use crate::source::Source;
+pub use std::alloc::AllocError as NoMemory;

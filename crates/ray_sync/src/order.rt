@@ -7,7 +7,7 @@ use crate::fronts::Fronts;
 use crate::kind::{Kind, kind_of};
 use crate::per_kind::{PerKind, greater};
 use ray_cmd::Recording;
-use std::alloc::{AllocError, Global};
+use std::alloc::{AllocError as NoMemory, Global};
 use std::marker::Model;
 
 /// What the order says of one command.
@@ -73,7 +73,7 @@ impl Order {
 /// # Errors
 ///
 /// For want of memory alone.
-pub fn order_of(alloc: Global, rec: &Recording, until: u32) -> Result<Order, AllocError>
+pub fn order_of(alloc: Global, rec: &Recording, until: u32) -> Result<Order, NoMemory>
     requires { until ≤ length rec.now }
     ensures order { IfOk result (λ order. IsOrderOf rec.now order) }
     ensures until { IfOk result (λ order. length order ≡ until) }

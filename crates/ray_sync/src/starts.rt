@@ -8,7 +8,7 @@ use crate::doing::doing_of;
 use ray_access::Touched;
 use ray_cmd::Recording;
 use ray_status::Status;
-use std::alloc::{AllocError, Global};
+use std::alloc::{AllocError as NoMemory, Global};
 use std::collections::BTreeSet;
 
 // The numbers at which what the first commands read and write begins.
@@ -16,7 +16,7 @@ pub(crate) fn starts_of(
     alloc: Global,
     rec: &Recording,
     until: u32,
-) -> Result<BTreeSet<u128>, AllocError>
+) -> Result<BTreeSet<u128>, NoMemory>
     requires until { until ≤ length rec.now }
     requires go_on { GoOn rec.now until }
     ensures { IfOk result (λ set. HaveStarts rec.now set.keys until) }
@@ -35,7 +35,7 @@ pub(crate) fn starts_of(
 }
 
 // Puts the numbers at which touches begin into a set.
-fn add_starts(set: &mut BTreeSet<u128>, touches: &[Touched]) -> Result<(), AllocError>
+fn add_starts(set: &mut BTreeSet<u128>, touches: &[Touched]) -> Result<(), NoMemory>
     ensures { OnOk result (HasStarts touches.now set.old.keys set.new.keys) }
 {
     for touch in touches {
@@ -45,7 +45,7 @@ fn add_starts(set: &mut BTreeSet<u128>, touches: &[Touched]) -> Result<(), Alloc
 }
 
 // Puts one more number into a set.
-fn add_start(set: &mut BTreeSet<u128>, start: u128) -> Result<(), AllocError>
+fn add_start(set: &mut BTreeSet<u128>, start: u128) -> Result<(), NoMemory>
     ensures { OnOk result ((test : ℕ → Bool)
         → list_any test set.new.keys ≡ (test start || list_any test set.old.keys)) }
 {

@@ -42,8 +42,8 @@ fn coverage_by_a_barrier(rt: HostRuntime) -> Result<(), AllocError> {
             for n in 0..3 {
                 carried = carried.after(n, rec.command(n));
             }
-            assert!(rt; carried.covers(1, Stage::Transfer, AccessType::TransferRead));
-            assert!(rt; !carried.covers(1, Stage::Transfer, AccessType::TransferWrite));
+            assert!(rt; carried.limit(Stage::Transfer, AccessType::TransferRead) == 2);
+            assert!(rt; carried.limit(Stage::Transfer, AccessType::TransferWrite) == 0);
         }
         Err(_) => assert!(rt; false),
     }

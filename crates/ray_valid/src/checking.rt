@@ -14,7 +14,7 @@ use crate::spans::{v4, v5, v12, v31};
 use crate::structures::{v6, v11, v19};
 use ray_cmd::{Command, Place, Recording, Refusal, Rule};
 use ray_status::Status;
-use std::alloc::{AllocError, Global};
+use std::alloc::{AllocError as NoMemory, Global};
 
 /// The refusal of the first command of a recording that breaks one of the static rules V1 to V24 or
 /// V28 to V31, by the least rule that it breaks, with its place. None exactly where none does. The
@@ -24,7 +24,7 @@ use std::alloc::{AllocError, Global};
 ///
 /// For want of memory alone.
 #[tactic(auto, unfolding(ray_rules::specs::Refusals::static_refusal))]
-pub fn check_static(alloc: Global, rec: &Recording) -> Result<Option<Refusal>, AllocError>
+pub fn check_static(alloc: Global, rec: &Recording) -> Result<Option<Refusal>, NoMemory>
     ensures value { IfOk result (λ refusal. refusal ≡ static_refusal rec.now) }
     ensures within { IfOk result (λ refusal. IfSome refusal (λ r. r.command ≤ length rec.now)) }
 {
@@ -52,7 +52,7 @@ pub fn refusal_of(
     i: u32,
     status: &Status,
     command: &Command,
-) -> Result<Option<Refusal>, AllocError>
+) -> Result<Option<Refusal>, NoMemory>
     ensures value { IfOk result (λ refusal. refusal ≡ static_refusal_of rec.now i status.now command.now) }
 
     ensures at { IfOk result (λ refusal. IfSome refusal (λ r. r.command ≡ i)) }

@@ -7,11 +7,11 @@ use crate::seen::Seen;
 use ray_cmd::{Command, Info, Place, Region};
 use ray_ranges::{Range, first_meeting};
 use ray_status::{meets, range};
-use std::alloc::{AllocError, Global};
+use std::alloc::{AllocError as NoMemory, Global};
 
 // V16: pieces of one command conflict.
 #[tactic(auto, unfolding(ray_rules::specs::Conflicts::v16))]
-pub(crate) fn v16(alloc: Global, command: &Command) -> Result<Option<Place>, AllocError>
+pub(crate) fn v16(alloc: Global, command: &Command) -> Result<Option<Place>, NoMemory>
     ensures { IfOk result (λ place. place ≡ v16 command.now) }
 {
     match command {
@@ -36,7 +36,7 @@ pub(crate) fn v16(alloc: Global, command: &Command) -> Result<Option<Place>, All
 }
 
 // The number of the first info that conflicts with an earlier one. It takes n log n steps.
-fn first_conflict(alloc: Global, infos: &[Info]) -> Result<Option<usize>, AllocError>
+fn first_conflict(alloc: Global, infos: &[Info]) -> Result<Option<usize>, NoMemory>
     requires { length infos.now ≤ 67108864 }
     ensures value { IfOk result (λ first. first ≡ first_conflict [] 0 infos.now) }
     ensures few { IfOk result (λ first. IfSome first (λ k. k < 2 ^ 32)) }
@@ -58,7 +58,7 @@ fn first_region_conflict(
     src: u32,
     dst: u32,
     regions: &[Region],
-) -> Result<Option<Place>, AllocError>
+) -> Result<Option<Place>, NoMemory>
     requires { length regions.now ≤ 67108864 }
     ensures { IfOk result (λ place. place ≡ option_map Part (first_region_conflict src dst regions.now)) }
 {
@@ -69,7 +69,7 @@ fn first_region_conflict(
 }
 
 // The bytes that regions write of their destination.
-fn targets(alloc: Global, regions: &[Region]) -> Result<Vec<Range>, AllocError>
+fn targets(alloc: Global, regions: &[Region]) -> Result<Vec<Range>, NoMemory>
     ensures { IfOk result (λ ranges. ranges.items ≡ map target_of regions.now) }
 {
     regions
@@ -79,12 +79,7 @@ fn targets(alloc: Global, regions: &[Region]) -> Result<Vec<Range>, AllocError>
 }
 
 // The sources of regions, where they stand in the buffer that is written.
-fn sources_in(
-    alloc: Global,
-    src: u32,
-    dst: u32,
-    regions: &[Region],
-) -> Result<Vec<Range>, AllocError>
+fn sources_in(alloc: Global, src: u32, dst: u32, regions: &[Region]) -> Result<Vec<Range>, NoMemory>
     ensures { IfOk result (λ ranges. ranges.items ≡ sources_in src dst regions.now) }
 {
     if src == dst {
@@ -95,7 +90,7 @@ fn sources_in(
 }
 
 // The bytes that regions read of their source.
-fn sources(alloc: Global, regions: &[Region]) -> Result<Vec<Range>, AllocError>
+fn sources(alloc: Global, regions: &[Region]) -> Result<Vec<Range>, NoMemory>
     ensures { IfOk result (λ ranges. ranges.items ≡ map source_of regions.now) }
 {
     regions

@@ -26,3 +26,4 @@ mod structures;
 mod tests;
 
 pub use crate::checking::{check_static, refusal_of};
+pub use std::alloc::AllocError as NoMemory;

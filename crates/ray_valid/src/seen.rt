@@ -9,7 +9,7 @@ ghost use Rattle.ray_valid.specs.Parts.{HasAdded, has_id, is_met, reads_any, rea
 use ray_cmd::Info;
 use ray_ranges::{DisjointRanges, Range};
 use ray_status::scratch_range;
-use std::alloc::{AllocError, Global};
+use std::alloc::{AllocError as NoMemory, Global};
 use std::collections::BTreeSet;
 
 /// What infos write, read and take, so that a question whether one more conflicts with them takes
@@ -52,7 +52,7 @@ impl Seen {
     }
 
     /// Takes one more info into account, whose scratch memory is apart from that of these.
-    pub(crate) fn add(&mut self, info: &Info) -> Result<(), AllocError>
+    pub(crate) fn add(&mut self, info: &Info) -> Result<(), NoMemory>
         requires { meets_any self.old.scratch (scratch_addresses info.now) ≡ false }
         ensures written { OnOk result
             (HasAdded (λ test. test info.now.dst) self.old.written.keys self.new.written.keys) }
@@ -113,7 +113,7 @@ fn has_one(uses: &[u32], ids: &BTreeSet<u32>) -> bool
 }
 
 // Puts one more id into a set.
-fn put(ids: &mut BTreeSet<u32>, id: u32) -> Result<(), AllocError>
+fn put(ids: &mut BTreeSet<u32>, id: u32) -> Result<(), NoMemory>
     ensures { OnOk result (HasAdded (λ test. test id) ids.old.keys ids.new.keys) }
 {
     ids.insert(id)?;
@@ -121,7 +121,7 @@ fn put(ids: &mut BTreeSet<u32>, id: u32) -> Result<(), AllocError>
 }
 
 // Puts those ids that an info reads into a set.
-fn put_read(ids: &mut BTreeSet<u32>, info: &Info) -> Result<(), AllocError>
+fn put_read(ids: &mut BTreeSet<u32>, info: &Info) -> Result<(), NoMemory>
     ensures { OnOk result (HasAdded (λ test. reads_by test info.now) ids.old.keys ids.new.keys) }
 {
     put_all(ids, info.uses.as_slice())?;
@@ -129,7 +129,7 @@ fn put_read(ids: &mut BTreeSet<u32>, info: &Info) -> Result<(), AllocError>
 }
 
 // Puts an id, where there is one, into a set.
-fn put_if(ids: &mut BTreeSet<u32>, id: Option<u32>) -> Result<(), AllocError>
+fn put_if(ids: &mut BTreeSet<u32>, id: Option<u32>) -> Result<(), NoMemory>
     ensures { OnOk result (HasAdded (λ test. option_map_or test id false) ids.old.keys ids.new.keys) }
 {
     match id {
@@ -139,7 +139,7 @@ fn put_if(ids: &mut BTreeSet<u32>, id: Option<u32>) -> Result<(), AllocError>
 }
 
 // Puts these ids into a set.
-fn put_all(ids: &mut BTreeSet<u32>, uses: &[u32]) -> Result<(), AllocError>
+fn put_all(ids: &mut BTreeSet<u32>, uses: &[u32]) -> Result<(), NoMemory>
     ensures { OnOk result (HasAdded (λ test. list_any test uses.now) ids.old.keys ids.new.keys) }
 {
     for id in uses {

@@ -51,8 +51,8 @@ refused_or (Some refusal) otherwise = Err (Refused refusal)
 abbrev pub run_below : List Command → ℕ → Ending → Ending
 run_below rec n otherwise = refused_or (data_refusal rec n) otherwise
 
--- a run with the static refusal of its recording and the first command whose form isn't built, where there are these. What
--- stands lower ends it; at one command the static refusal does
+-- a run with the refusal of its recording by V1 to V32 and the first command whose form isn't built, where there are these.
+-- What stands lower ends it; at one command the refusal does
 abbrev pub run_with : List Command → Option Refusal → Option ℕ → Ending
 run_with rec None None = run_below rec (length rec) (Ok (text_before rec (length rec)))
 run_with rec None (Some unbuilt) = run_below rec unbuilt (Err (Unbuilt unbuilt))

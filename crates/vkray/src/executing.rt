@@ -108,7 +108,7 @@ fn run_all<R: Threads + Sync, G: Gate + Sync>(
     }
 }
 
-// Runs a recording up to its static refusal or the first command whose form isn't built, whichever
+// Runs a recording up to the first command that breaks a rule or whose form isn't built, whichever
 // stands lower.
 fn run_built<R: Threads + Sync, G: Gate + Sync>(
     rt: &R,

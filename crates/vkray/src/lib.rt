@@ -34,5 +34,6 @@ pub use path_form::first_unbuilt;
 pub use run_fault::RunFault;
 pub use running::run_waves;
 pub use status::Status;
+pub use std::alloc::AllocError as NoMemory;
 pub use stop::Stop;
 pub use top_call::{MOST_BYTES, vkray};

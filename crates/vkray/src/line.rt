@@ -3,17 +3,17 @@ ghost use Rattle.vkray.specs.Lines as lines;
 
 use ray_bytes::DataRule;
 use ray_cmd::{Place, Refusal, Rule};
-use std::alloc::{AllocError, Global};
+use std::alloc::{AllocError as NoMemory, Global};
 
 // The line of a command that has no shape of a command.
-pub(crate) fn bad_shape_line(alloc: Global, command: u32) -> Result<String, AllocError>
+pub(crate) fn bad_shape_line(alloc: Global, command: u32) -> Result<String, NoMemory>
     ensures { IfOk result (λ line. string_bytes line ≡ lines.bad_shape_line command) }
 {
     format!(in alloc; "bad-shape {command}\n")
 }
 
 // The line of a command whose form isn't built.
-pub(crate) fn unbuilt_line(alloc: Global, command: u32) -> Result<String, AllocError>
+pub(crate) fn unbuilt_line(alloc: Global, command: u32) -> Result<String, NoMemory>
     ensures { IfOk result (λ line. string_bytes line ≡ lines.unbuilt_line command) }
 {
     format!(in alloc; "unbuilt {command}\n")
@@ -24,7 +24,7 @@ pub(crate) fn unbuilt_line(alloc: Global, command: u32) -> Result<String, AllocE
 /// # Errors
 ///
 /// For want of memory alone.
-pub fn refusal_line(alloc: Global, refusal: &Refusal) -> Result<String, AllocError>
+pub fn refusal_line(alloc: Global, refusal: &Refusal) -> Result<String, NoMemory>
     ensures { IfOk result (λ line. string_bytes line ≡ lines.refusal_line refusal.now) }
 {
     let command = refusal.command;
@@ -34,7 +34,7 @@ pub fn refusal_line(alloc: Global, refusal: &Refusal) -> Result<String, AllocErr
 }
 
 // A rule: `V` or `X` and its number.
-fn rule_text(alloc: Global, rule: Rule) -> Result<String, AllocError>
+fn rule_text(alloc: Global, rule: Rule) -> Result<String, NoMemory>
     ensures { IfOk result (λ text. string_bytes text ≡ lines.rule_text rule) }
 {
     match rule {
@@ -68,7 +68,7 @@ fn data_rule_number(rule: DataRule) -> u8
 }
 
 // A place, with the blank before it.
-fn place_text(alloc: Global, place: Place) -> Result<String, AllocError>
+fn place_text(alloc: Global, place: Place) -> Result<String, NoMemory>
     ensures { IfOk result (λ text. string_bytes text ≡ lines.place_text place) }
 {
     match place {

@@ -5,7 +5,7 @@ ghost use Rattle.vkray.specs.Written.{status_of, text_of};
 use crate::line::{bad_shape_line, refusal_line, unbuilt_line};
 use crate::status::Status;
 use crate::stop::Stop;
-use std::alloc::{AllocError, Global};
+use std::alloc::{AllocError as NoMemory, Global};
 
 /// What is written, and the status once it is.
 #[derive(Drop)]
@@ -16,7 +16,7 @@ pub(crate) struct Reply {
 
 impl Reply {
     // The line that says why there is no text of a run. Want of memory has none.
-    pub(crate) fn of_stop(alloc: Global, stop: Stop) -> Result<Reply, AllocError>
+    pub(crate) fn of_stop(alloc: Global, stop: Stop) -> Result<Reply, NoMemory>
         ensures status { IfOk result (λ reply. reply.status ≡ status_of (Err stop)) }
         ensures text { IfOk result (λ reply. reply.text.items ≡ text_of (Err stop)) }
         ensures told { OnOk result (is_told stop ≡ true) }
@@ -38,12 +38,12 @@ impl Reply {
                 let line = refusal_line(alloc, &refusal)?;
                 Reply::of_line(alloc, Status::Refused, line.as_bytes())
             }
-            Stop::NoMemory => Err(AllocError),
+            Stop::NoMemory => Err(NoMemory),
         }
     }
 
     // A status with its line.
-    fn of_line(alloc: Global, status: Status, line: &[u8]) -> Result<Reply, AllocError>
+    fn of_line(alloc: Global, status: Status, line: &[u8]) -> Result<Reply, NoMemory>
         ensures status { IfOk result (λ reply. reply.status ≡ status) }
         ensures text { IfOk result (λ reply. reply.text.items ≡ line.now) }
     {

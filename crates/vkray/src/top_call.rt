@@ -14,7 +14,7 @@ use crate::reply::Reply;
 use crate::status::Status;
 use crate::stop::Stop;
 use ray_io::{Sink, Source, read_all, write_all};
-use std::alloc::{AllocError, Global};
+use std::alloc::{AllocError as NoMemory, Global};
 use std::thread::Threads;
 
 /// The greatest number of bytes that an input may have, 2^26.
@@ -78,7 +78,7 @@ fn reply<R: Threads + Sync, S: Source, G: Gate + Sync>(
     words: &[String],
     source: &mut S,
     gate: &G,
-) -> Result<Reply, AllocError>
+) -> Result<Reply, NoMemory>
     ensures replies { IfOk result (λ reply. (ending : Ending)
         × IsEnding words.now (reading S.left S.faults source.old source.new) ending
         × (reply.status ≡ status_of ending) × (reply.text.items ≡ text_of ending)) }

@@ -1,7 +1,6 @@
-use Rattle.std.proofs.Common.{◌∙◌, ap, arith, subst, sym}
+use Rattle.std.proofs.Common.{◌∙◌, arith, subst, sym}
 use Rattle.ray_access.specs.Lists.{AreTouched}
 use Rattle.ray_rules.specs.Hazards.{accesses_at, status_at}
-use Rattle.ray_rules.specs.Refusals.{or_later}
 use Rattle.ray_sync.specs.Lasts.{host_reads_at}
 use Rattle.ray_sync.proofs.Checking.{hazard-is, v25-is, v26-is, v27-is, v32-is}
 use Rattle.ray_sync.proofs.Starting.{starts-fewer}
@@ -20,9 +19,7 @@ returns c = λ rec lanes fronts is have.
     let b = c.uncovered_at-written.result in
     let d = c.unordered_at-overwritten.result in
     let e = c.uncovered-shown.result in
-    c.or_later-3.ensures
-    ∙ (ap (or_later n 25 a) (c.or_later-2.ensures
-    ∙ ap (or_later n 26 b) (c.or_later.ensures ∙ ap (or_later n 27 d) c.or_later-last.ensures))
+    c.least.ensures
     ∙ hazard-is rec n a b d e
     (v25-is rec n c.args.doing.now.stage a is.at
     (c.uncovered_at-read.ensures rec n _ lanes reads (have.reads n (omega arith)) before))
@@ -30,4 +27,4 @@ returns c = λ rec lanes fronts is have.
     (c.uncovered_at-written.ensures rec n _ lanes writes (have.writes n (omega arith)) before))
     (v27-is rec n c.args.doing.now.stage d is.at
     (c.unordered_at-overwritten.ensures rec _ lanes fronts writes (have.writes n (omega arith)) before))
-    (v32-is rec n e (c.uncovered-shown.ensures rec n _ lanes shown (have.host_reads n (omega arith)) before)))
+    (v32-is rec n e (c.uncovered-shown.ensures rec n _ lanes shown (have.host_reads n (omega arith)) before))
