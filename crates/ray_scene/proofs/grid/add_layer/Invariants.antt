@@ -1,0 +1,6 @@
+use Rattle.std.proofs.Common.{◌≡◌, ◌++◌}
+use Rattle.ray_scene.specs.Grid.{vertex_words, words_below}
+use Rattle.ray_scene.proofs.grid.add_layer.Given as goal
+
+abbrev pub invariant-loop-n : goal.invariant-loop-n
+invariant-loop-n l = l.words.items ≡ l.fn.words.items ++ words_below (vertex_words l.side l.layer) l.n
