@@ -1,6 +1,7 @@
 -- A good call is answered: each other answer is contradicted.
 use Rattle.std.proofs.Common.{◌≡◌, [], ◌∷◌, refl, ℕ, ◌+◌, ◌<◌, List, length, drop, Option, Some, None, Ok, Err, ap, sym, subst, ◌∙◌, inl, inr, arith, Global}
-use Rattle.std.specs.Prelude.{String, IfSome, codes}
+use Rattle.std.specs.Prelude.{String, IfSome, codes, decimal}
+use Rattle.std.proofs.lemmas.Fmt.{decimal_injective}
 use Rattle.ray_cmd.specs.declared.command.Command.{Command}
 use Rattle.ray_rules.specs.Verdict.{rule_refusal}
 use Rattle.ray_state.specs.Run.{text_before}
@@ -11,8 +12,11 @@ use Rattle.vkray.specs.declared.stop.Stop.TheVariants.{BadWords, ReadFault, TooL
 use Rattle.vkray.specs.declared.asked.Asked.{Asked}
 use Rattle.vkray.specs.declared.asked.Asked.TheVariants.{Run, Check}
 use Rattle.vkray.specs.Answer.{Ending, answer_of, check_of, data_refusal, ending_of, ending_of_reading, refused_or, run_of, run_with, unbuilt_in}
-use Rattle.vkray.specs.Words.{Asks}
-use Rattle.vkray.specs.Call.{Reading, Writing, Answers, IsAnswerOfInput, IsCompleted, IsEnding, IsGoodCall, IsRead, IsSent, IsTooLong, most_bytes}
+use Rattle.ray_scene.specs.Recording.{scene_text}
+use Rattle.vkray.specs.declared.request.Request.TheVariants.{Input, Generate}
+use Rattle.vkray.specs.declared.request.Scene.{Scene}
+use Rattle.vkray.specs.Words.{AskInput, Asks, AsksFor, word_of}
+use Rattle.vkray.specs.Call.{Reading, Writing, Answers, HasFailed, IsAnswerOfInput, IsCompleted, IsEnding, IsGoodCall, IsRead, IsSent, IsTooLong, most_bytes, text_of_scene}
 use Rattle.vkray.specs.Written.{status_of, text_of}
 
 -- the run of a recording that breaks no rule and whose commands have built forms is its text
@@ -26,7 +30,14 @@ run_is_text rec kept built clean =
 pub check_is_ok : (rec : List Command) → rule_refusal rec ≡ None → check_of rec ≡ Ok (codes "ok\n")
 check_is_ok rec kept = ap (λ refusal. refused_or refusal (Ok (codes "ok\n"))) kept
 
--- words ask for one thing
+-- words that ask an input ask for no scene
+not_both : (words : List (String Global)) (asked : Asked) (scene : Scene) → Asks words asked → AsksFor words scene → ⊥
+not_both words asked scene asks other =
+    let same : word_of asked ∷ [] ≡ codes "gen" ∷ decimal scene.side ∷ decimal scene.layers ∷ decimal scene.rays ∷ [] =
+    sym asks ∙ other.are in
+    cc
+
+-- an input is asked for one thing
 one_asked : (words : List (String Global)) (a b : Asked) → Asks words a → Asks words b → a ≡ b
 one_asked words Run Run e f = refl
 one_asked words Run Check e f = let same : codes "run" ∷ [] ≡ codes "check" ∷ [] = sym e ∙ f in absurd cc
@@ -68,8 +79,9 @@ module _ (asked : Asked) (words : List (String Global)) (reading : Reading) (wri
 
   -- the call ends with the text
   ends_with_text : (ending : Ending) → IsEnding words reading ending → ending ≡ Ok text
-  ends_with_text (Ok given) h = same_answer (Ok given) h
-  ends_with_text (Err BadWords) h = absurd (h.0 (asked, good.asks))
+  ends_with_text (Ok given) (inl h) = same_answer (Ok given) h
+  ends_with_text (Ok given) (inr h) = absurd (not_both words asked h.scene good.asks h.asks)
+  ends_with_text (Err BadWords) h = absurd (h.0 (Input asked, good.asks))
   ends_with_text (Err ReadFault) h = absurd (good.source_holds h.1)
   ends_with_text (Err TooLong) h = absurd (not_too_long h.1)
   ends_with_text (Err NotJson) h = absurd (not_stop NotJson h)
@@ -87,3 +99,48 @@ module _ (asked : Asked) (words : List (String Global)) (reading : Reading) (wri
   completed result (inl out) = inl out.told
   completed result (inr told) =
       written result (subst (λ (e : Ending). IsSent (status_of e) (text_of e) writing result) (ends_with_text told.ending told.cause) told.sent)
+
+module _ (words : List (String Global)) (reading : Reading) (writing : Writing) (scene : Scene) (asks : AsksFor words scene) (sink_holds : ¬ HasFailed writing) where
+  -- words that ask for a scene ask no input
+  no_input : AskInput words → ⊥
+  no_input h = not_both words h.0 scene h.1 asks
+
+  -- an answer of an input isn't given
+  no_answer : (ending : Ending) → IsAnswerOfInput words reading ending → ⊥
+  no_answer ending h = no_input (h.asked, h.asks)
+
+  -- a scene that they ask for is this one
+  same_scene : (other : Scene) → AsksFor words other → text_of_scene other ≡ text_of_scene scene
+  same_scene other h =
+      let same : decimal other.side ∷ decimal other.layers ∷ decimal other.rays ∷ []
+      ≡ decimal scene.side ∷ decimal scene.layers ∷ decimal scene.rays ∷ [] = ap (drop 1) (sym h.are ∙ asks.are) in
+      let mine = asks.limits in
+      let its = h.limits in
+      let a = decimal_injective other.side scene.side (omega (arith, its.side_ends)) (omega (arith, mine.side_ends)) cc in
+      let b = decimal_injective other.layers scene.layers (omega (arith, its.layers_end)) (omega (arith, mine.layers_end)) cc in
+      let c = decimal_injective other.rays scene.rays (omega (arith, its.rays_end)) (omega (arith, mine.rays_end)) cc in
+      λ i. scene_text (a i) (b i) (c i)
+
+  -- the call ends with its text
+  ends_with_scene : (ending : Ending) → IsEnding words reading ending → ending ≡ Ok (text_of_scene scene)
+  ends_with_scene (Ok given) (inl h) = absurd (no_answer (Ok given) h)
+  ends_with_scene (Ok given) (inr h) = ap Ok (sym h.is ∙ same_scene h.scene h.asks)
+  ends_with_scene (Err BadWords) h = absurd (h.0 (Generate scene, asks))
+  ends_with_scene (Err ReadFault) h = absurd (no_input h.0)
+  ends_with_scene (Err TooLong) h = absurd (no_input h.0)
+  ends_with_scene (Err NotJson) h = absurd (no_answer (Err NotJson) h)
+  ends_with_scene (Err (BadShape command)) h = absurd (no_answer (Err (BadShape command)) h)
+  ends_with_scene (Err (Unbuilt command)) h = absurd (no_answer (Err (Unbuilt command)) h)
+  ends_with_scene (Err (Refused refusal)) h = absurd (no_answer (Err (Refused refusal)) h)
+  ends_with_scene (Err NoMemory) h = absurd h
+
+  -- its text that was sent is written
+  scene_written : (result : Status) → IsSent statuses.Done (text_of_scene scene) writing result → IsCompleted writing (text_of_scene scene) result
+  scene_written result (inl sent) = inr (sent.0, sent.1)
+  scene_written result (inr failed) = absurd (sink_holds failed.2)
+
+  pub generated : (result : Status) → Answers words reading writing result → IsCompleted writing (text_of_scene scene) result
+  generated result (inl out) = inl out.told
+  generated result (inr told) =
+      scene_written result
+      (subst (λ (e : Ending). IsSent (status_of e) (text_of e) writing result) (ends_with_scene told.ending told.cause) told.sent)

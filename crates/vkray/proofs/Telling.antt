@@ -1,5 +1,5 @@
 -- From why there is no text to what is written.
-use Rattle.std.proofs.Common.{◌≡◌, ℕ, List, Result, Ok, Err, Global, Vec, true, subst}
+use Rattle.std.proofs.Common.{◌≡◌, ℕ, List, Result, Ok, Err, Global, Vec, true, inl, inr, refl, subst, sym}
 use Rattle.std.specs.Prelude.{String, IfOk, OnOk}
 use Rattle.std.specs.declared.alloc.AllocError.{AllocError}
 use Rattle.vkray.specs.declared.reply.Reply.{Reply}
@@ -8,9 +8,10 @@ use Rattle.vkray.specs.declared.stop.Stop.{Stop}
 use Rattle.vkray.specs.declared.stop.Stop.TheVariants.{BadWords, ReadFault, TooLong, NotJson, BadShape, Unbuilt, Refused, NoMemory}
 use Rattle.vkray.specs.Answer.{Ending, answer_of}
 use Rattle.vkray.specs.Call.{Reading, Writing, IsEnding, IsRead, IsSent, IsTold}
-use Rattle.vkray.specs.Endings.{Ends, EndsCall, StopsCall, is_told}
+use Rattle.vkray.specs.Endings.{Ends, EndsCall, IsOfScene, StopsCall, is_told}
 use Rattle.vkray.specs.declared.asked.Asked.{Asked}
-use Rattle.vkray.specs.Words.{Asks}
+use Rattle.vkray.specs.declared.request.Scene.{Scene}
+use Rattle.vkray.specs.Words.{Asks, AsksFor}
 use Rattle.vkray.specs.Written.{status_of, text_of}
 
 -- a reply tells an ending of the call
@@ -40,7 +41,7 @@ reply_tells words reading stop (Err e) h status text told = tt
 -- the answer of an input that was read is what the call gives
 pub ends_call : (words : List (String Global)) (reading : Reading) (input : List ℕ) (result : Result (Vec ℕ Global) Stop)
     → (asked : Asked) → Asks words asked → IsRead reading input → Ends (answer_of asked input) result → EndsCall words reading result
-ends_call words reading input (Ok text) asked asks read is = record { asked = asked; asks = asks; input = input; read = read; is = is }
+ends_call words reading input (Ok text) asked asks read is = inl (record { asked = asked; asks = asks; input = input; read = read; is = is })
 ends_call words reading input (Err BadWords) asked asks read is = absurd is
 ends_call words reading input (Err ReadFault) asked asks read is = absurd is
 ends_call words reading input (Err TooLong) asked asks read is = absurd is
@@ -60,3 +61,10 @@ told_of words reading writing status text result tells sent = record {
       subst (λ (s : Status). IsSent s (text_of tells.0) writing result) tells.2
       (subst (λ (t : List ℕ). IsSent status t writing result) tells.3 sent);
 }
+
+-- the recording of a scene that the words ask for is what the call gives, where nothing was read
+pub ends_generated : (words : List (String Global)) (reading : Reading) (scene : Scene) (result : Result (Vec ℕ Global) Stop)
+    → AsksFor words scene → reading.after ≡ reading.before → IsOfScene scene result → EndsCall words reading result
+ends_generated words reading scene (Ok text) asks unread is =
+    inr (record { scene = scene; asks = asks; unread = unread; is = sym is })
+ends_generated words reading scene (Err stop) asks unread is = subst (StopsCall words reading) (sym is) tt

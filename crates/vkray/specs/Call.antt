@@ -6,14 +6,20 @@ use Rattle.ray_cmd.specs.Recordings.{recording_of}
 use Rattle.ray_io.specs.Faults.{HasRisen}
 use Rattle.ray_io.specs.ReadAll.{LeavesAllBut}
 use Rattle.ray_rules.specs.Verdict.{rule_refusal}
+use Rattle.ray_scene.specs.Recording.{scene_text}
 use Rattle.ray_state.specs.Run.{text_before}
 use Rattle.vkray.specs.declared.asked.Asked.{Asked}
+use Rattle.vkray.specs.declared.request.Scene.{Scene}
 use Rattle.vkray.specs.declared.status.Status.{Status}
 use Rattle.vkray.specs.declared.status.Status.TheVariants as statuses
 use Rattle.vkray.specs.declared.stop.Stop.TheVariants.{BadWords, ReadFault, TooLong, NotJson, BadShape, Unbuilt, Refused, NoMemory}
 use Rattle.vkray.specs.Answer.{Ending, answer_of, data_refusal, unbuilt_in}
-use Rattle.vkray.specs.Words.{AreWords, Asks}
+use Rattle.vkray.specs.Words.{AreWords, AskInput, Asks, AsksFor}
 use Rattle.vkray.specs.Written.{status_of, text_of}
+
+-- the text of the recording of a scene
+abbrev pub text_of_scene : Scene → List ℕ
+text_of_scene scene = scene_text scene.side scene.layers scene.rays
 
 -- the greatest number of bytes of an input: 2^26
 abbrev pub most_bytes : ℕ
@@ -84,7 +90,7 @@ IsCut writing text = IfSome writing.before (λ bytes. (count : ℕ) × (count �
 abbrev pub HasFailed : Writing → Type 0
 HasFailed writing = HasRisen writing.faults_before writing.faults_after ⊎ HasRisen writing.zero_writes_before writing.zero_writes_after
 
--- the words ask for something, an input was read to its end, and its answer to that is this
+-- the words ask an input for something, it was read to its end, and its answer to that is this
 pub record IsAnswerOfInput (words : List (String Global)) (reading : Reading) (ending : Ending) : Type 0 where
   pub asked : Asked
   pub asks : Asks words asked
@@ -92,13 +98,20 @@ pub record IsAnswerOfInput (words : List (String Global)) (reading : Reading) (e
   pub read : IsRead reading input
   pub is : answer_of asked input ≡ ending
 
+-- the words ask for the recording of a scene, which is this text, and nothing was read
+pub record IsGenerated (words : List (String Global)) (reading : Reading) (text : List ℕ) : Type 0 where
+  pub scene : Scene
+  pub asks : AsksFor words scene
+  pub unread : reading.after ≡ reading.before
+  pub is : text_of_scene scene ≡ text
+
 -- what the words and the source give: bad words read nothing; a read failed, or there are too many bytes; or else the
--- answer of the input
+-- answer of the input, or the recording of a scene
 abbrev pub IsEnding : List (String Global) → Reading → Ending → Type 0
-IsEnding words reading (Ok text) = IsAnswerOfInput words reading (Ok text)
+IsEnding words reading (Ok text) = IsAnswerOfInput words reading (Ok text) ⊎ IsGenerated words reading text
 IsEnding words reading (Err BadWords) = (¬ AreWords words) × (reading.after ≡ reading.before)
-IsEnding words reading (Err ReadFault) = AreWords words × HasRisen reading.faults_before reading.faults_after × (¬ TakesTooMany reading) × TakesPrefix reading
-IsEnding words reading (Err TooLong) = AreWords words × IsTooLong reading
+IsEnding words reading (Err ReadFault) = AskInput words × HasRisen reading.faults_before reading.faults_after × (¬ TakesTooMany reading) × TakesPrefix reading
+IsEnding words reading (Err TooLong) = AskInput words × IsTooLong reading
 IsEnding words reading (Err NotJson) = IsAnswerOfInput words reading (Err NotJson)
 IsEnding words reading (Err (BadShape command)) = IsAnswerOfInput words reading (Err (BadShape command))
 IsEnding words reading (Err (Unbuilt command)) = IsAnswerOfInput words reading (Err (Unbuilt command))

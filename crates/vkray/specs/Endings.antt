@@ -9,10 +9,11 @@ use Rattle.ray_io.specs.declared.read_error.ReadError.TheVariants as reads
 use Rattle.ray_state.specs.Run.{text_before}
 use Rattle.vkray.specs.declared.run_fault.RunFault.{RunFault}
 use Rattle.vkray.specs.declared.run_fault.RunFault.TheVariants as runs
+use Rattle.vkray.specs.declared.request.Scene.{Scene}
 use Rattle.vkray.specs.declared.stop.Stop.{Stop}
 use Rattle.vkray.specs.declared.stop.Stop.TheVariants.{BadWords, ReadFault, TooLong, NotJson, BadShape, Unbuilt, Refused, NoMemory}
 use Rattle.vkray.specs.Answer.{Ending, data_refusal}
-use Rattle.vkray.specs.Call.{Reading, IsEnding}
+use Rattle.vkray.specs.Call.{Reading, IsEnding, text_of_scene}
 
 -- the stop of each fault
 abbrev pub stop_of_read : ReadError → Stop
@@ -50,6 +51,11 @@ StopsSo ending NoMemory = Unit {0}
 abbrev pub Ends : Ending → Result (Vec ℕ Global) Stop → Type 0
 Ends ending (Ok text) = ending ≡ Ok text.items
 Ends ending (Err stop) = StopsSo ending stop
+
+-- a result is the text of a scene's recording; want of memory is free
+abbrev pub IsOfScene : Scene → Result (Vec ℕ Global) Stop → Type 0
+IsOfScene scene (Ok text) = text.items ≡ text_of_scene scene
+IsOfScene scene (Err stop) = stop ≡ NoMemory
 
 -- whether a stop is told: want of memory isn't
 abbrev pub is_told : Stop → Bool

@@ -1,10 +1,14 @@
 -- The words after the program's name. (Own.)
-use Rattle.std.specs.Prelude.{◌≡◌, ℕ, List, [], ◌∷◌, map, codes, String, string_bytes}
+use Rattle.std.specs.Prelude.{◌≡◌, ℕ, List, [], ◌∷◌, map, codes, decimal, String, string_bytes}
 use Rattle.std.specs.declared.alloc.Global.{Global}
+use Rattle.ray_scene.specs.Grid.{IsScene}
 use Rattle.vkray.specs.declared.asked.Asked.{Asked}
 use Rattle.vkray.specs.declared.asked.Asked.TheVariants.{Run, Check}
+use Rattle.vkray.specs.declared.request.Request.{Request}
+use Rattle.vkray.specs.declared.request.Request.TheVariants.{Input, Generate}
+use Rattle.vkray.specs.declared.request.Scene.{Scene}
 
--- the word that asks for it
+-- the word that asks an input for it
 abbrev pub word_of : Asked → List ℕ
 word_of Run = codes "run"
 word_of Check = codes "check"
@@ -13,10 +17,29 @@ word_of Check = codes "check"
 abbrev pub IsWord : List (String Global) → List ℕ → Type 0
 IsWord words word = map string_bytes words ≡ word ∷ []
 
--- the words ask for it: they are its word alone
+-- the words ask an input for it: they are its word alone
 abbrev pub Asks : List (String Global) → Asked → Type 0
 Asks words asked = IsWord words (word_of asked)
 
+-- the words ask an input for something
+abbrev pub AskInput : List (String Global) → Type 0
+AskInput words = (asked : Asked) × Asks words asked
+
+-- the words are `gen` and three numbers, each in decimal digits without a sign and a leading zero
+abbrev pub IsGenerating : List (String Global) → Scene → Type 0
+IsGenerating words scene =
+    map string_bytes words ≡ codes "gen" ∷ decimal scene.side ∷ decimal scene.layers ∷ decimal scene.rays ∷ []
+
+-- the words ask for the recording of a scene within the limits
+pub record AsksFor (words : List (String Global)) (scene : Scene) : Type 0 where
+  pub limits : IsScene scene.side scene.layers scene.rays
+  pub are : IsGenerating words scene
+
+-- the words ask for it
+abbrev pub Requests : List (String Global) → Request → Type 0
+Requests words (Input asked) = Asks words asked
+Requests words (Generate scene) = AsksFor words scene
+
 -- the words ask for something
 abbrev pub AreWords : List (String Global) → Type 0
-AreWords words = (asked : Asked) × Asks words asked
+AreWords words = (request : Request) × Requests words request

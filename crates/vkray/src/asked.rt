@@ -1,7 +1,7 @@
 ghost use Rattle.std.specs.Prelude.{◌↔◌, IfNone, IfSome, IsTrue};
-ghost use Rattle.vkray.specs.Words.{AreWords, Asks, IsWord};
+ghost use Rattle.vkray.specs.Words.{AskInput, Asks, IsWord};
 
-/// What the words after the program's name ask for. (Own.)
+/// What an input is asked for. (Own.)
 #[derive(Clone, Copy, Debug, PartialEq, Eq)]
 pub enum Asked {
     /// `run`: the text of a recording.
@@ -11,10 +11,10 @@ pub enum Asked {
 }
 
 impl Asked {
-    // What the words ask for. None where they are none of the program's.
+    // What the words ask an input for. None where they ask no input.
     pub(crate) fn of_words(words: &[String]) -> Option<Asked>
         ensures asked { IfSome result (λ asked. Asks words.now asked) }
-        ensures bad { IfNone result (¬ AreWords words.now) }
+        ensures none { IfNone result (¬ AskInput words.now) }
     {
         if is_word(words, "run") {
             Some(Asked::Run)

@@ -10,7 +10,8 @@
 //! `specs/PathForm`; [`run_waves`] runs so many commands, by `specs/Run` of ray_state.
 //!
 //! It stands on ray_io (all bytes read and written), ray_cmd (the recording), ray_check (the rules on
-//! the recording alone) and ray_state (what each command does).
+//! the recording alone), ray_state (what each command does) and ray_scene (recordings that are made
+//! up).
 #![tactic(auto)]
 
 mod asked;
@@ -22,6 +23,7 @@ mod path_builds;
 mod path_commands;
 mod path_form;
 mod reply;
+mod request;
 mod run_fault;
 mod running;
 mod status;
@@ -31,6 +33,7 @@ mod top_call;
 pub use gate::{Gate, NoGate};
 pub use line::refusal_line;
 pub use path_form::first_unbuilt;
+pub use ray_scene::gen_text;
 pub use run_fault::RunFault;
 pub use running::run_waves;
 pub use status::Status;

@@ -1,19 +1,23 @@
 ghost use Rattle.std.specs.Prelude.{◌≡◌, ℕ, List, IfOk, codes};
 ghost use Rattle.ray_cmd.specs.declared.command.Command.{Command};
+ghost use Rattle.ray_scene.specs.Grid.{IsScene};
 ghost use Rattle.vkray.specs.declared.asked.Asked.TheVariants.{Check, Run};
-ghost use Rattle.vkray.specs.Words.{AreWords};
+ghost use Rattle.vkray.specs.declared.request.Scene.{Scene as AScene};
+ghost use Rattle.vkray.specs.Words.{AskInput, AsksFor};
 ghost use Rattle.vkray.specs.Answer.{Ending};
-ghost use Rattle.vkray.specs.Call.{reading, writing, Answers, IsEnding, IsSent, IsGoodCall, IsCompleted, Runs, TakesPrefix, run_text};
-ghost use Rattle.vkray.specs.Endings.{EndsCall};
+ghost use Rattle.vkray.specs.Call.{reading, writing, Answers, HasFailed, IsEnding, IsSent, IsGoodCall, IsCompleted};
+ghost use Rattle.vkray.specs.Call.{Runs, TakesPrefix, run_text, text_of_scene};
+ghost use Rattle.vkray.specs.Endings.{EndsCall, IsOfScene};
 ghost use Rattle.vkray.specs.Written.{status_of, text_of};
 
-use crate::asked::Asked;
 use crate::executing::execute;
 use crate::gate::Gate;
 use crate::reply::Reply;
+use crate::request::{Request, Scene};
 use crate::status::Status;
 use crate::stop::Stop;
 use ray_io::{Sink, Source, read_all, write_all};
+use ray_scene::gen_text;
 use std::alloc::{AllocError as NoMemory, Global};
 use std::thread::Threads;
 
@@ -22,8 +26,10 @@ pub const MOST_BYTES: u32 = 1 << 26;
 
 /// The program. `words` are those after the program's name: `run` reads a recording from the
 /// source, runs it and writes its text to the sink, and `check` writes `ok` where it breaks no rule
-/// V1 to V32; all others are bad. Whatever ends the call before its text, one line says why. The whole text is made before the first write. After a read
-/// fault, or for want of memory, the source may have given a prefix of what it had left.
+/// V1 to V32; `gen SIDE LAYERS RAYS` reads nothing and writes the recording of a made-up scene; all
+/// others are bad. Whatever ends the call before its text, one line says why. The whole text is made
+/// before the first write. After a read fault, or for want of memory, the source may have given a
+/// prefix of what it had left.
 pub fn vkray<R: Threads + Sync, S: Source, K: Sink, G: Gate + Sync>(
     rt: &R,
     alloc: Global,
@@ -48,9 +54,12 @@ pub fn vkray<R: Threads + Sync, S: Source, K: Sink, G: Gate + Sync>(
         (writing K.taken K.faults K.zero_writes sink.old sink.new)
         input commands
         → IsCompleted (writing K.taken K.faults K.zero_writes sink.old sink.new) (codes "ok\n") result }
+    ensures generated { (scene : AScene) → AsksFor words.now scene
+        → ¬ HasFailed (writing K.taken K.faults K.zero_writes sink.old sink.new)
+        → IsCompleted (writing K.taken K.faults K.zero_writes sink.old sink.new) (text_of_scene scene) result }
 
-    // Bad words read nothing, and for want of memory nothing is written.
-    ensures unread { ¬ AreWords words.now → source.new ≡ source.old }
+    // Words that ask no input read nothing, and for want of memory nothing is written.
+    ensures unread { ¬ AskInput words.now → source.new ≡ source.old }
     ensures unwritten { result ≡ Status.NoMemory → sink.new ≡ sink.old }
 {
     match reply(rt, alloc, words, source, gate) {
@@ -83,7 +92,7 @@ fn reply<R: Threads + Sync, S: Source, G: Gate + Sync>(
         × IsEnding words.now (reading S.left S.faults source.old source.new) ending
         × (reply.status ≡ status_of ending) × (reply.text.items ≡ text_of ending)) }
     ensures prefix { TakesPrefix (reading S.left S.faults source.old source.new) }
-    ensures unread { ¬ AreWords words.now → source.new ≡ source.old }
+    ensures unread { ¬ AskInput words.now → source.new ≡ source.old }
 {
     match read_and_run(rt, alloc, words, source, gate) {
         Ok(text) => Ok(Reply {
@@ -94,7 +103,7 @@ fn reply<R: Threads + Sync, S: Source, G: Gate + Sync>(
     }
 }
 
-// Reads the recording and does what is asked: its text, or why there is none.
+// Does what the words ask for: a text, or why there is none.
 fn read_and_run<R: Threads + Sync, S: Source, G: Gate + Sync>(
     rt: &R,
     alloc: Global,
@@ -105,13 +114,25 @@ fn read_and_run<R: Threads + Sync, S: Source, G: Gate + Sync>(
     ensures called { EndsCall words.now
         (reading S.left S.faults source.old source.new) result }
     ensures prefix { TakesPrefix (reading S.left S.faults source.old source.new) }
-    ensures unread { ¬ AreWords words.now → source.new ≡ source.old }
+    ensures unread { ¬ AskInput words.now → source.new ≡ source.old }
 {
-    let Some(asked) = Asked::of_words(words) else {
-        return Err(Stop::BadWords);
-    };
-    match read_all(alloc, source, MOST_BYTES) {
-        Ok(bytes) => execute(rt, alloc, asked, bytes.as_slice(), gate),
-        Err(fault) => Err(Stop::from(fault)),
+    match Request::of_words(words) {
+        Some(Request::Input(asked)) => match read_all(alloc, source, MOST_BYTES) {
+            Ok(bytes) => execute(rt, alloc, asked, bytes.as_slice(), gate),
+            Err(fault) => Err(Stop::from(fault)),
+        },
+        Some(Request::Generate(scene)) => generate(alloc, scene),
+        None => Err(Stop::BadWords),
+    }
+}
+
+// The recording of a scene.
+fn generate(alloc: Global, scene: Scene) -> Result<Vec<u8>, Stop>
+    requires { IsScene scene.side scene.layers scene.rays }
+    ensures { IsOfScene scene result }
+{
+    match gen_text(alloc, scene.side, scene.layers, scene.rays) {
+        Ok(text) => Ok(text),
+        Err(_) => Err(Stop::NoMemory),
     }
 }

@@ -2,7 +2,7 @@ use Rattle.std.proofs.Common.{inr}
 use Rattle.std.specs.Prelude.{codes}
 use Rattle.vkray.specs.declared.asked.Asked.TheVariants.{Check, Run}
 use Rattle.vkray.specs.Call.{run_text}
-use Rattle.vkray.proofs.Completeness.{check_is_ok, completed, run_is_text}
+use Rattle.vkray.proofs.Completeness.{check_is_ok, completed, generated, run_is_text}
 use Rattle.vkray.proofs.Telling.{told_of}
 use Rattle.vkray.proofs.top_call.vkray.Goals as goal
 
@@ -21,5 +21,11 @@ returns-in-Ok-clause-complete g c input commands good runs =
 pub returns-in-Ok-clause-checked : goal.returns-in-Ok-clause-checked
 returns-in-Ok-clause-checked g c input commands good =
     completed Check _ _ _ input commands good (codes "ok\n") (check_is_ok commands good.rules) c.write_reply.result
+    (inr (told_of c.args.words.now _ _ c.in-Ok.reply.status c.in-Ok.reply.text.items c.write_reply.result
+    c.in-Ok.ensures.replies c.write_reply.ensures))
+
+pub returns-in-Ok-clause-generated : goal.returns-in-Ok-clause-generated
+returns-in-Ok-clause-generated g c scene asks sink_holds =
+    generated _ _ _ scene asks sink_holds c.write_reply.result
     (inr (told_of c.args.words.now _ _ c.in-Ok.reply.status c.in-Ok.reply.text.items c.write_reply.result
     c.in-Ok.ensures.replies c.write_reply.ensures))
