@@ -1,3 +1,4 @@
 mod Tables
 mod Going
 mod Whole
+mod Reaching

@@ -6,13 +6,18 @@
 //! refusal by the static rules, which ray_valid decides, and that by the rules on hazards, which
 //! ray_sync decides for the commands up to the statically refused one.
 //!
+//! [`kept_is_within_buffers`] is a law on what the rules are for: a command that keeps them reads and
+//! writes bytes that are there.
+//!
 //! It stands on ray_valid, ray_sync and ray_rules (the definitions).
 #![tactic(auto)]
 
 mod joining;
+mod laws;
 #[cfg(test)]
 mod tests;
 mod verdict;
 
+pub use crate::laws::kept_is_within_buffers;
 pub use crate::verdict::check_rules;
 pub use std::alloc::AllocError as NoMemory;
