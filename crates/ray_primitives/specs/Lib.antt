@@ -1,0 +1,5 @@
+pub mod Primitives
+pub mod Outcomes
+pub mod Updates
+pub mod TriangleReading
+pub mod BoxReading
