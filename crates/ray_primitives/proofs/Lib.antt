@@ -1,1 +1,4 @@
 pub mod Keeping
+pub mod Results
+pub mod TriangleLimits
+pub mod BoxLimits

@@ -1,6 +1,6 @@
 -- The primitives of bottom structures. (Vulkan, "Acceleration Structures": active and inactive primitives; own: what
 -- marks a primitive as inactive.)
-use Rattle.std.specs.Prelude.{ℕ, ◌==◌, nat_le, Bool, true, if◌then◌else◌, Option, Some, None, option_map, IfSome}
+use Rattle.std.specs.Prelude.{ℕ, ◌≡◌, ◌==◌, nat_le, Bool, true, if◌then◌else◌, Option, Some, None, option_map, IfSome}
 use Rattle.ray_geom.specs.declared.vec3.Vec3.{Vec3}
 use Rattle.ray_geom.specs.Scene.{TriValue, IsTri, tri_value}
 use Rattle.ray_geom.specs.Boxes.{BoxValue, IsBox, box_value}
@@ -24,6 +24,18 @@ inactive_triangle indices = record { tri = None; indices = indices }
 pub record IsTriangle (t : TriangleValue) : Type 0 where
   pub limits : IfSome t.tri IsTri
 
+-- whether an index value fits an index size in bytes: without indices, which is size 0, it is 0, and with indices of 16 bits
+-- it is at most 65,535 (VkIndexType)
+unfoldable pub index_fits : ℕ → ℕ → Bool
+index_fits size index = if size == 0 then index == 0 else if size == 2 then nat_le index 65535 else true
+
+-- a triangle of a geometry with this index size: it is within the limits, and its index values fit
+pub record IsTriangleOf (size : ℕ) (t : TriangleValue) : Type 0 where
+  pub limits : IsTriangle t
+  pub first : index_fits size t.indices.first ≡ true
+  pub second : index_fits size t.indices.second ≡ true
+  pub third : index_fits size t.indices.third ≡ true
+
 -- a box: its corners, which an inactive one hasn't; its limits, where it is active
 pub record IsAabb (box : Option BoxValue) : Type 0 where
   pub limits : IfSome box IsBox
@@ -39,8 +51,3 @@ kept_triangle a b c indices = if is_inactive_mark a.x then inactive_triangle ind
 -- the box of two points: the mark as x of the least makes it inactive
 unfoldable pub kept_box : Vec3 → Vec3 → Option BoxValue
 kept_box lo hi = if is_inactive_mark lo.x then None else Some (box_value lo hi)
-
--- whether an index value fits an index size in bytes: without indices, which is size 0, it is 0, and with indices of 16 bits
--- it is at most 65,535 (VkIndexType)
-unfoldable pub index_fits : ℕ → ℕ → Bool
-index_fits size index = if size == 0 then index == 0 else if size == 2 then nat_le index 65535 else true

@@ -1,8 +1,9 @@
-ghost use Rattle.std.specs.Prelude.{◌≡◌, ◌^◌, IfSome, IsTrue, option_copied};
+ghost use Rattle.std.specs.Prelude.{◌≡◌, ◌^◌, IfSome, IfOk, All, length, IsTrue, option_copied};
 ghost use Rattle.ray_geom.specs.Vector.{IsShort};
 ghost use Rattle.ray_geom.specs.Boxes.{IsBelow};
 ghost use Rattle.ray_contents.specs.Gathering.{gathered};
-ghost use Rattle.ray_primitives.specs.Outcomes.{Gives, at_element};
+ghost use Rattle.ray_primitives.specs.Primitives.{IsAabb};
+ghost use Rattle.ray_primitives.specs.Outcomes.{Gives};
 ghost use Rattle.ray_primitives.specs.Updates.{old_at, box_after};
 ghost use Rattle.ray_primitives.specs.BoxReading.{box_words, is_ordered, boxed, box_from, box_read};
 ghost use Rattle.ray_primitives.specs.BoxReading.{ordered_box, updated_box, box_element, boxes_read};
@@ -18,8 +19,24 @@ use std::alloc::Global;
 /// The boxes of a geometry, as an update of those of an old one where there is one. Data comes
 /// exactly where one of X2, X4 and X9 is broken, and is the first: by element, and for one element
 /// the least. (VkAabbPositionsKHR; own: the rules.)
-#[tactic(auto, unfolding(crate::specs::BoxReading::boxes_read), using(ray_contents::proofs::Gathered::gathered_none, ray_contents::proofs::Gathered::gathered_more, ray_contents::proofs::Gathered::gathered_fault))]
 pub fn read_boxes(
+    alloc: Global,
+    info: &BoxInfo,
+    boxes: BoxView<'_>,
+    olds: Option<&[KeptBox]>,
+    geometry: u32,
+) -> Result<Elements<KeptBox>, BuildFault>
+    ensures value { Gives (boxes_read info.now boxes.entry (option_copied olds.entry) geometry)
+        result }
+    ensures count { IfOk result (λ kept. length kept ≡ info.now.count) }
+    ensures limits { IfOk result (All IsAabb) }
+{
+    read(alloc, info, boxes, olds, geometry)
+}
+
+// The boxes of a geometry.
+#[tactic(auto, unfolding(crate::specs::BoxReading::boxes_read), using(ray_contents::proofs::Gathered::gathered_none, ray_contents::proofs::Gathered::gathered_more, ray_contents::proofs::Gathered::gathered_fault))]
+fn read(
     alloc: Global,
     info: &BoxInfo,
     boxes: BoxView<'_>,

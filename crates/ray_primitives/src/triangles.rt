@@ -1,7 +1,8 @@
-ghost use Rattle.std.specs.Prelude.{◌≡◌, ◌<◌, ◌^◌, IfSome, option_copied};
+ghost use Rattle.std.specs.Prelude.{◌≡◌, ◌<◌, ◌^◌, IfSome, IfOk, All, length, option_copied};
 ghost use Rattle.ray_geom.specs.Vector.{IsShort};
 ghost use Rattle.ray_contents.specs.Gathering.{gathered};
-ghost use Rattle.ray_primitives.specs.Outcomes.{Gives, at_element};
+ghost use Rattle.ray_primitives.specs.Primitives.{IsTriangleOf};
+ghost use Rattle.ray_primitives.specs.Outcomes.{Gives};
 ghost use Rattle.ray_primitives.specs.Updates.{old_at, triangle_after};
 ghost use Rattle.ray_primitives.specs.TriangleReading.{placed_of, limited, made_of, triangle_from};
 ghost use Rattle.ray_primitives.specs.TriangleReading.{corner_of, triangle_of, updated_triangle};
@@ -24,8 +25,26 @@ use std::alloc::Global;
 /// exactly where one of X1, X2, X3, X9 and X10 is broken, and is the first: that of the transform,
 /// then by element, and for one element the least. (VkAccelerationStructureGeometryTrianglesDataKHR;
 /// own: the rules.)
-#[tactic(auto, unfolding(crate::specs::TriangleReading::triangles_read))]
 pub fn read_triangles(
+    alloc: Global,
+    info: &TriangleInfo,
+    vertices: VertexView<'_>,
+    indices: Option<IndexView<'_>>,
+    transform: Option<TransformView<'_>>,
+    olds: Option<&[KeptTriangle]>,
+    geometry: u32,
+) -> Result<Elements<KeptTriangle>, BuildFault>
+    ensures value { Gives (triangles_read info.now vertices.entry indices.entry transform.entry
+        (option_copied olds.entry) geometry) result }
+    ensures count { IfOk result (λ triangles. length triangles ≡ info.now.count) }
+    ensures limits { IfOk result (All (IsTriangleOf info.now.index_size)) }
+{
+    read(alloc, info, vertices, indices, transform, olds, geometry)
+}
+
+// The triangles of a geometry.
+#[tactic(auto, unfolding(crate::specs::TriangleReading::triangles_read))]
+fn read(
     alloc: Global,
     info: &TriangleInfo,
     vertices: VertexView<'_>,

@@ -2,7 +2,7 @@ use Rattle.std.proofs.Common.{◌≡◌, Ok}
 use Rattle.std.specs.Prelude.{option_copied}
 use Rattle.ray_contents.specs.Gathering.{gathered}
 use Rattle.ray_primitives.specs.BoxReading.{box_element}
-use Rattle.ray_primitives.proofs.boxes.read_boxes.Given as goal
+use Rattle.ray_primitives.proofs.boxes.read.Given as goal
 
 -- the boxes so far
 abbrev pub invariant-loop-i : goal.invariant-loop-i
