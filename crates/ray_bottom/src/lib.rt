@@ -1,13 +1,22 @@
-// A library with one function.
+//! Bottom structures: how they are built of geometry, updated, copied and compacted, what they
+//! hold, and what a ray meets of them.
+//!
+//! The layers above use these:
+//! - [`Builder`], whose calls say by `with_triangles` and `with_boxes` of `specs/Builders` which
+//!   contents it holds, or which data rule a geometry breaks first;
+//! - [`Bottom`], which contracts see as its contents by `specs/Contents`, with its accessors;
+//! - [`Bottoms`], the structures by their ids, with room that is made first.
+//!
+//! It stands on `ray_primitives` (how geometry is read and kept), `ray_contents`, `ray_geom`,
+//! `ray_prune` (spans), `ray_bytes` and `ray_flags`.
 #![tactic(auto)]
 
-ghost use Rattle.std.specs.Prelude.{◌≡◌};
-ghost use Rattle.ray_bottom.specs.Echo.{echo_of};
+mod bottom;
+mod builder;
+mod contents;
+mod geometry;
+mod shapes;
 
-// The `ensures` clause is the contract: what `echo` returns is `echo_of` of its argument, a definition
-// in `specs/Echo.antt`, which a caller's clause can cite too.
-pub fn echo(x: usize) -> usize
-    ensures { result ≡ echo_of x }
-{
-    x
-}
+pub use crate::bottom::Bottom;
+pub use crate::builder::Builder;
+pub use ray_primitives::{BoxInfo, BuildFault, TriangleInfo};

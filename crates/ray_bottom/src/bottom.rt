@@ -1,0 +1,129 @@
+ghost use Rattle.std.specs.Prelude.{◌≡◌, ◌↔◌, ◌<◌, IfOk, IfSome, [], None, Some, length, slice_get, option_map};
+ghost use Rattle.ray_geom.specs.LeastBoxes.{HoldsBoxes, IsLeast};
+ghost use Rattle.ray_bytes.specs.StructureSizes.{compacted_size};
+ghost use Rattle.ray_bottom.specs.Contents.{bounds_of, total_of, active_of, active_boxes};
+ghost use Rattle.ray_bottom.specs.Contents.{kind_of, count_of, IsContents};
+
+use crate::contents::Contents;
+use crate::geometry::Geometry;
+use ray_bytes::compacted_of;
+use ray_flags::{BuildFlags, Kind};
+use ray_geom::Box3;
+use std::alloc::{AllocError, Global};
+use std::marker::Model;
+
+/// A bottom structure that is built. Contracts see it as its contents. (VkAccelerationStructureKHR of
+/// the type VK_ACCELERATION_STRUCTURE_TYPE_BOTTOM_LEVEL_KHR)
+#[derive(Drop)]
+pub struct Bottom {
+    pub(crate) contents: Contents,
+}
+
+impl Model for Bottom {
+    ghost use Rattle.ray_bottom.specs.Contents.{ContentsValue};
+
+    ghost Value = { ContentsValue };
+
+    ghost view = { λ b. b.contents };
+}
+
+impl Bottom {
+    /// A structure with the same contents. (VK_COPY_ACCELERATION_STRUCTURE_MODE_CLONE_KHR)
+    pub fn copy(&self, alloc: Global) -> Result<Bottom, AllocError>
+        ensures { IfOk result (λ copy. copy ≡ self.now) }
+    {
+        let contents = self.contents.copy(alloc)?;
+        Ok(Bottom { contents })
+    }
+
+    /// A structure with the same contents, inactive primitives among them.
+    /// (VK_COPY_ACCELERATION_STRUCTURE_MODE_COMPACT_KHR)
+    pub fn compact(&self, alloc: Global) -> Result<Bottom, AllocError>
+        ensures { IfOk result (λ copy. copy ≡ self.now) }
+    {
+        self.copy(alloc)
+    }
+
+    /// The least box of the active primitives. None exactly where there is none.
+    pub fn bounds(&self) -> Option<Box3>
+        ensures value { result ≡ bounds_of self.now.geometries }
+        ensures least { IfSome result (IsLeast (HoldsBoxes (active_boxes self.now.geometries))) }
+        ensures none { (result ≡ None) ↔ (active_boxes self.now.geometries ≡ []) }
+    {
+        self.contents.bounds()
+    }
+
+    /// The flags of its build.
+    pub fn flags(&self) -> BuildFlags
+        ensures { result ≡ self.now.flags }
+    {
+        self.contents.flags()
+    }
+
+    /// How many geometries it has: at most 256.
+    pub fn geometries(&self) -> u32
+        ensures value { result ≡ length self.now.geometries }
+        ensures limits { IsContents self.now }
+    {
+        self.contents.geometries()
+    }
+
+    /// How many primitives its geometries have together, inactive ones among them: at most 2^20.
+    pub fn total(&self) -> u32
+        ensures value { result ≡ total_of self.now.geometries }
+        ensures limits { IsContents self.now }
+    {
+        let _geometries = self.contents.geometries();
+        self.contents.total()
+    }
+
+    /// How many of its primitives are active.
+    pub fn active(&self) -> u32
+        ensures { result ≡ active_of self.now.geometries }
+    {
+        self.contents.active()
+    }
+
+    /// How many bytes it takes once it is compacted.
+    /// (VK_QUERY_TYPE_ACCELERATION_STRUCTURE_COMPACTED_SIZE_KHR; the number is our own.)
+    pub fn compacted_size(&self) -> u64
+        ensures { let gs = self.now.geometries in
+            result ≡ compacted_size (length gs) (total_of gs) (active_of gs) }
+    {
+        compacted_of(self.geometries(), self.total(), self.active())
+    }
+
+    /// Whether a geometry is opaque.
+    pub fn opaque(&self, geometry: u32) -> bool
+        requires { geometry < length self.now.geometries }
+        ensures { option_map (λ g. g.opaque) (slice_get self.now.geometries geometry)
+            ≡ Some result }
+    {
+        self.geometry(geometry).opaque
+    }
+
+    /// The kind of a geometry's primitives.
+    pub fn kind(&self, geometry: u32) -> Kind
+        requires { geometry < length self.now.geometries }
+        ensures { option_map kind_of (slice_get self.now.geometries geometry) ≡ Some result }
+    {
+        self.geometry(geometry).kind()
+    }
+
+    /// How many primitives a geometry has, inactive ones among them.
+    pub fn count(&self, geometry: u32) -> u32
+        requires { geometry < length self.now.geometries }
+        ensures { option_map count_of (slice_get self.now.geometries geometry) ≡ Some result }
+    {
+        let _limits = self.total();
+        self.geometry(geometry).count() as u32
+    }
+
+    // The geometry of a number.
+    fn geometry(&self, geometry: u32) -> &Geometry
+        requires { geometry < length self.now.geometries }
+        ensures { slice_get self.now.geometries geometry ≡ Some result.now }
+    {
+        self.contents.geometry(geometry).unwrap()
+    }
+}

@@ -1,0 +1,161 @@
+ghost use Rattle.std.specs.Prelude.{◌≡◌, None, Some, [], IfOk, option_copied, option_and_then, length, slice_get, false};
+ghost use Rattle.ray_flags.specs.declared.kind.Kind.TheVariants.{Triangle, Aabb};
+ghost use Rattle.ray_bottom.specs.Contents.{has_both_fast, HasRoom, IsContents};
+ghost use Rattle.ray_bottom.specs.Builders.{with_triangles, with_boxes, IsAdded, size_of_indices};
+ghost use Rattle.ray_bottom.specs.Builders.{triangles_in, boxes_in};
+
+use crate::bottom::Bottom;
+use crate::contents::Contents;
+use crate::geometry::Geometry;
+use crate::shapes::Shapes;
+use ray_bytes::{BoxView, IndexView, TransformView, VertexView};
+use ray_flags::BuildFlags;
+use ray_primitives::{
+    BoxInfo, BuildFault, KeptBox, KeptTriangle, TriangleInfo, read_boxes, read_triangles,
+};
+use std::alloc::{AllocError, Global};
+use std::marker::Model;
+
+/// Builds a bottom structure, geometry by geometry. Contracts see it as the contents so far, with
+/// those of the structure that is updated. (vkCmdBuildAccelerationStructuresKHR)
+#[derive(Drop)]
+pub struct Builder<'a> {
+    alloc: Global,
+    contents: Contents,
+    replaced: Option<&'a Bottom>,
+}
+
+impl<'a> Model for Builder<'a> {
+    ghost use Rattle.std.specs.Prelude.{option_copied};
+    ghost use Rattle.ray_bottom.specs.Builders.{BuilderValue};
+
+    ghost Value = { BuilderValue };
+
+    ghost view = { λ b. record {
+      contents = b.contents;
+      replaced = option_copied b.replaced;
+    } };
+}
+
+impl<'a> Builder<'a> {
+    /// A builder of a new structure. `flags` doesn't ask both for fast traces and for fast builds.
+    /// (VK_BUILD_ACCELERATION_STRUCTURE_MODE_BUILD_KHR)
+    pub fn new(alloc: Global, flags: BuildFlags) -> Builder<'a>
+        requires { has_both_fast flags ≡ false }
+        ensures { result ≡ record {
+          contents = record { flags = flags; geometries = [] };
+          replaced = None;
+        } }
+    {
+        Builder {
+            alloc,
+            contents: Contents::new(alloc, flags),
+            replaced: None,
+        }
+    }
+
+    /// A builder of an update of a structure, with its flags. What is updated isn't kept: the
+    /// contents are those that are read, which are compared with the old ones by X9 and X10.
+    /// (VK_BUILD_ACCELERATION_STRUCTURE_MODE_UPDATE_KHR)
+    pub fn for_update(alloc: Global, replaced: &'a Bottom) -> Builder<'a>
+        ensures { result ≡ record {
+          contents = record { flags = replaced.now.flags; geometries = [] };
+          replaced = Some replaced.now;
+        } }
+    {
+        let _limits = replaced.geometries();
+        Builder {
+            alloc,
+            contents: Contents::new(alloc, replaced.flags()),
+            replaced: Some(replaced),
+        }
+    }
+
+    /// Adds a geometry of triangles. With it there are at most 256 geometries, all of triangles,
+    /// with at most 2^20 primitives together; the index size is that of the index view, and 0
+    /// without one. Data comes exactly where one of X1, X2, X3, X9 and X10 is broken, and is the
+    /// first. After a fault the builder is as before.
+    /// (VkAccelerationStructureGeometryTrianglesDataKHR)
+    #[tactic(auto, unfolding(crate::specs::Builders::with_triangles))]
+    pub fn triangles(
+        &mut self,
+        info: &TriangleInfo,
+        vertices: VertexView<'_>,
+        indices: Option<IndexView<'_>>,
+        transform: Option<TransformView<'_>>,
+    ) -> Result<(), BuildFault>
+        requires room { HasRoom Triangle info.now.count self.old.contents.geometries }
+        requires size { info.now.index_size ≡ size_of_indices indices }
+        ensures { IsAdded self.old (with_triangles self.old info.now vertices.entry indices.entry
+            transform.entry) self.new result }
+    {
+        let geometry = self.contents.geometries();
+        let olds = old_triangles(self.replaced, geometry);
+        let triangles = read_triangles(
+            self.alloc, info, vertices, indices, transform, olds, geometry,
+        )?;
+        self.contents.push(Geometry {
+            opaque: info.opaque,
+            shapes: Shapes::Triangles {
+                format: info.format,
+                index_size: info.index_size,
+                triangles,
+            },
+        })?;
+        Ok(())
+    }
+
+    /// Adds a geometry of boxes. With it there are at most 256 geometries, all of boxes, with at
+    /// most 2^20 primitives together. Data comes exactly where one of X2, X4 and X9 is broken, and
+    /// is the first. After a fault the builder is as before.
+    /// (VkAccelerationStructureGeometryAabbsDataKHR)
+    #[tactic(auto, unfolding(crate::specs::Builders::with_boxes))]
+    pub fn boxes(&mut self, info: &BoxInfo, boxes: BoxView<'_>) -> Result<(), BuildFault>
+        requires { HasRoom Aabb info.now.count self.old.contents.geometries }
+        ensures { IsAdded self.old (with_boxes self.old info.now boxes.entry) self.new result }
+    {
+        let geometry = self.contents.geometries();
+        let olds = old_boxes(self.replaced, geometry);
+        let boxes = read_boxes(self.alloc, info, boxes, olds, geometry)?;
+        self.contents.push(Geometry {
+            opaque: info.opaque,
+            shapes: Shapes::Boxes { boxes },
+        })?;
+        Ok(())
+    }
+
+    /// The structure with the contents.
+    pub fn finish(self) -> Result<Bottom, AllocError>
+        ensures { IfOk result (λ bottom. bottom ≡ self.entry.contents) }
+    {
+        Ok(Bottom {
+            contents: self.contents,
+        })
+    }
+}
+
+// The triangles of an old geometry.
+fn old_triangles<'a>(replaced: Option<&'a Bottom>, geometry: u32) -> Option<&'a [KeptTriangle]>
+    ensures { option_copied result ≡ option_and_then (λ g. triangles_in g.shapes)
+        (option_and_then (λ old. slice_get old.geometries geometry)
+        (option_copied replaced.entry)) }
+{
+    let old = replaced?.contents.geometry(geometry)?;
+    match &old.shapes {
+        Shapes::Triangles { triangles, .. } => Some(triangles.as_slice()),
+        Shapes::Boxes { .. } => None,
+    }
+}
+
+// The boxes of an old geometry.
+fn old_boxes<'a>(replaced: Option<&'a Bottom>, geometry: u32) -> Option<&'a [KeptBox]>
+    ensures { option_copied result ≡ option_and_then (λ g. boxes_in g.shapes)
+        (option_and_then (λ old. slice_get old.geometries geometry)
+        (option_copied replaced.entry)) }
+{
+    let old = replaced?.contents.geometry(geometry)?;
+    match &old.shapes {
+        Shapes::Triangles { .. } => None,
+        Shapes::Boxes { boxes } => Some(boxes.as_slice()),
+    }
+}

@@ -1,0 +1,173 @@
+ghost use Rattle.std.specs.Prelude.{◌≡◌, IfOk, fold, length, count_by, is_some};
+ghost use Rattle.std.specs.List.{filter_map};
+ghost use Rattle.ray_geom.specs.LeastBoxes.{joined_of};
+ghost use Rattle.ray_primitives.specs.Primitives.{box_of_triangle};
+ghost use Rattle.ray_bottom.specs.Contents.{kind_of, count_of, boxes_of};
+
+use crate::shapes::Shapes;
+use ray_contents::{Elements, extended};
+use ray_flags::Kind;
+use ray_geom::Box3;
+use ray_primitives::{KeptBox, KeptTriangle};
+use std::alloc::{AllocError, Global};
+
+// A geometry of a structure: its opacity and its primitives.
+#[derive(Drop)]
+pub(crate) struct Geometry {
+    pub(crate) opaque: bool,
+    pub(crate) shapes: Shapes,
+}
+
+impl Geometry {
+    // Its kind.
+    pub(crate) fn kind(&self) -> Kind
+        ensures { result ≡ kind_of self.now }
+    {
+        match &self.shapes {
+            Shapes::Triangles { .. } => Kind::Triangle,
+            Shapes::Boxes { .. } => Kind::Aabb,
+        }
+    }
+
+    // How many primitives it has.
+    pub(crate) fn count(&self) -> usize
+        ensures { result ≡ count_of self.now }
+    {
+        match &self.shapes {
+            Shapes::Triangles { triangles, .. } => triangles.as_slice().len(),
+            Shapes::Boxes { boxes } => boxes.as_slice().len(),
+        }
+    }
+
+    // How many of them are active.
+    pub(crate) fn active(&self) -> usize
+        ensures { result ≡ length (boxes_of self.now) }
+    {
+        match &self.shapes {
+            Shapes::Triangles { triangles, .. } => active_triangles(triangles.as_slice()),
+            Shapes::Boxes { boxes } => active_boxes(boxes.as_slice()),
+        }
+    }
+
+    // Bounds that hold its active primitives, too.
+    pub(crate) fn extend(&self, bounds: Option<Box3>) -> Option<Box3>
+        ensures { result ≡ fold joined_of bounds (boxes_of self.now) }
+    {
+        match &self.shapes {
+            Shapes::Triangles { triangles, .. } => extend_triangles(triangles.as_slice(), bounds),
+            Shapes::Boxes { boxes } => extend_boxes(boxes.as_slice(), bounds),
+        }
+    }
+
+    // The same geometry.
+    pub(crate) fn copy(&self, alloc: Global) -> Result<Geometry, AllocError>
+        ensures { IfOk result (λ g. g ≡ self.now) }
+    {
+        let shapes = copy_shapes(alloc, &self.shapes)?;
+        Ok(Geometry {
+            opaque: self.opaque,
+            shapes,
+        })
+    }
+}
+
+// How many triangles are active.
+fn active_triangles(triangles: &[KeptTriangle]) -> usize
+    ensures { result ≡ length (filter_map box_of_triangle triangles.now) }
+{
+    count_triangles(triangles)
+}
+
+// How many triangles are active, by their tests.
+fn count_triangles(triangles: &[KeptTriangle]) -> usize
+    ensures { result ≡ count_by (λ t. is_some t.tri) triangles.now }
+{
+    triangles.iter().filter(|t| t.is_active()).count()
+}
+
+// How many boxes are active.
+fn active_boxes(boxes: &[KeptBox]) -> usize
+    ensures { result ≡ length (filter_map (λ box. box) boxes.now) }
+{
+    count_boxes(boxes)
+}
+
+// How many boxes are active, by their tests.
+fn count_boxes(boxes: &[KeptBox]) -> usize
+    ensures { result ≡ count_by is_some boxes.now }
+{
+    boxes.iter().filter(|b| b.is_active()).count()
+}
+
+// Bounds that hold triangles, too.
+#[tactic(auto, using(ray_contents::proofs::Extending::bounds_more))]
+fn extend_triangles(triangles: &[KeptTriangle], bounds: Option<Box3>) -> Option<Box3>
+    ensures { result ≡ fold joined_of bounds (filter_map box_of_triangle triangles.now) }
+{
+    let mut least = bounds;
+    for t in triangles {
+        least = extended(least, t.bounds());
+    }
+    least
+}
+
+// Bounds that hold boxes, too.
+#[tactic(auto, using(ray_contents::proofs::Extending::bounds_more))]
+fn extend_boxes(boxes: &[KeptBox], bounds: Option<Box3>) -> Option<Box3>
+    ensures { result ≡ fold joined_of bounds (filter_map (λ box. box) boxes.now) }
+{
+    let mut least = bounds;
+    for b in boxes {
+        least = extended(least, b.bounds());
+    }
+    least
+}
+
+// The same primitives.
+fn copy_shapes(alloc: Global, shapes: &Shapes) -> Result<Shapes, AllocError>
+    ensures { IfOk result (λ s. s ≡ shapes.now) }
+{
+    match shapes {
+        Shapes::Triangles {
+            format,
+            index_size,
+            triangles,
+        } => {
+            let triangles = copy_triangles(alloc, triangles.as_slice())?;
+            Ok(Shapes::Triangles {
+                format: *format,
+                index_size: *index_size,
+                triangles,
+            })
+        }
+        Shapes::Boxes { boxes } => {
+            let boxes = copy_boxes(alloc, boxes.as_slice())?;
+            Ok(Shapes::Boxes { boxes })
+        }
+    }
+}
+
+// The same triangles.
+fn copy_triangles(
+    alloc: Global,
+    triangles: &[KeptTriangle],
+) -> Result<Elements<KeptTriangle>, AllocError>
+    ensures { IfOk result (λ copy. copy ≡ triangles.now) }
+{
+    let mut copy = Vec::with_capacity(alloc, triangles.len())?;
+    for t in triangles {
+        copy.push(t.copy())?;
+    }
+    Ok(Elements::new(copy))
+}
+
+// The same boxes.
+fn copy_boxes(alloc: Global, boxes: &[KeptBox]) -> Result<Elements<KeptBox>, AllocError>
+    ensures { IfOk result (λ copy. copy ≡ boxes.now) }
+{
+    let mut copy = Vec::with_capacity(alloc, boxes.len())?;
+    for b in boxes {
+        copy.push(b.copy())?;
+    }
+    Ok(Elements::new(copy))
+}
