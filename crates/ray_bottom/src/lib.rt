@@ -15,8 +15,13 @@ mod bottom;
 mod builder;
 mod contents;
 mod geometry;
+mod meet;
+mod prim_place;
 mod shapes;
+mod testing;
 
 pub use crate::bottom::Bottom;
 pub use crate::builder::Builder;
+pub use crate::meet::Meet;
+pub use crate::prim_place::PrimPlace;
 pub use ray_primitives::{BoxInfo, BuildFault, TriangleInfo};

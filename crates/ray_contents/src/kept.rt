@@ -20,12 +20,12 @@ pub fn keeps_bounds(m: &Matrix, bounds: Option<Box3>) -> bool
     }
 }
 
-/// The image of a point in a box whose corners' images are within the limits. (Own.)
-pub fn kept_image(m: &Matrix, v: Vec3, _bounds: &Box3) -> Vec3
+/// The image of a point, where it is known to be within the limits. (Own.)
+pub fn kept_image(m: &Matrix, v: Vec3) -> Vec3
     requires short { IsShort (2 ^ 19) v }
-    requires held { IsIn v _bounds.now }
-    requires kept { KeepsCorners m.now _bounds.now }
-    ensures { result ≡ image_of m.now v }
+    requires kept { IsShort (2 ^ 19) (image_of m.now v) }
+    ensures value { result ≡ image_of m.now v }
+    ensures limits { IsShort (2 ^ 19) result }
 {
     m.apply(v).unwrap()
 }

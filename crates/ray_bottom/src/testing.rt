@@ -1,0 +1,148 @@
+ghost use Rattle.std.specs.Prelude.{◌≡◌, ◌+◌, IfSome, option_copied, option_map, option_and_then, slice_get};
+ghost use Rattle.std.specs.List.{filter_map};
+ghost use Rattle.ray_geom.specs.Scene.{IsTri};
+ghost use Rattle.ray_geom.specs.HitValue.{hit_of};
+ghost use Rattle.ray_geom.specs.Transform.{world_tri};
+ghost use Rattle.ray_geom.specs.ObjectRay.{object_of};
+ghost use Rattle.ray_prune.specs.BoxReach.{span_of};
+ghost use Rattle.ray_contents.specs.Bounds.{KeepsBounds};
+ghost use Rattle.ray_primitives.specs.Primitives.{box_of_triangle};
+ghost use Rattle.ray_bottom.specs.Contents.{bounds_of, boxes_of};
+ghost use Rattle.ray_bottom.specs.Meeting.{Hit, Through, meet_value, meet_of, shape_meet};
+ghost use Rattle.ray_bottom.specs.Meeting.{triangle_meet, box_meet, hit_in_world, span_in_object};
+ghost use Rattle.ray_bottom.specs.Meeting.{KeepsPoints, KeepsBoxes, KeepsTri};
+
+use crate::bottom::Bottom;
+use crate::geometry::Geometry;
+use crate::meet::Meet;
+use crate::prim_place::PrimPlace;
+use crate::shapes::Shapes;
+use ray_contents::kept_image;
+use ray_geom::{Box3, Matrix, ObjectRay, Ray, Steps, Tri, hit_tri, object_ray};
+use ray_primitives::{KeptBox, KeptTriangle};
+use ray_prune::span_box;
+use std::sync::ledger::Ledger;
+
+impl Bottom {
+    /// What the ray meets of one primitive, where an instance with this transform places the
+    /// structure in the world: the hit of the world triangle, or the span of the box. None exactly
+    /// where there is none, the primitive is inactive, or no primitive stands at the place. It takes
+    /// one step. The images of the corners of the bounds are within the limits. (Vulkan, "Ray
+    /// Traversal")
+    pub fn test_prim<L: Ledger>(
+        &self,
+        place: PrimPlace,
+        ray: &Ray,
+        m: &Matrix,
+        steps: &mut Steps<L>,
+    ) -> Option<Meet>
+        requires { KeepsBounds m.now (bounds_of self.now.geometries) }
+        ensures meet { option_map meet_value result
+            ≡ meet_of self.now.geometries place ray.now m.now }
+        ensures step { steps.new ≡ steps.old + 1 }
+    {
+        steps.tick();
+        let geometry = self.contents.geometry(place.geometry)?;
+        test_in(geometry, place.primitive, ray, m)
+    }
+}
+
+// What the ray meets of one primitive of a geometry.
+fn test_in(g: &Geometry, primitive: u32, ray: &Ray, m: &Matrix) -> Option<Meet>
+    requires { KeepsBoxes m.now (boxes_of g.now) }
+    ensures { option_map meet_value result ≡ shape_meet ray.now m.now primitive g.now.shapes }
+{
+    match &g.shapes {
+        Shapes::Triangles { triangles, .. } => {
+            triangle_at(triangles.as_slice(), primitive, ray, m)
+        }
+        Shapes::Boxes { boxes } => box_at(boxes.as_slice(), primitive, ray, m),
+    }
+}
+
+// What the ray meets of a triangle of this number.
+fn triangle_at(triangles: &[KeptTriangle], i: u32, ray: &Ray, m: &Matrix) -> Option<Meet>
+    requires { KeepsBoxes m.now (filter_map box_of_triangle triangles.now) }
+    ensures { option_map meet_value result
+        ≡ option_and_then (triangle_meet ray.now m.now) (slice_get triangles.now i) }
+{
+    let t = nth(triangles, i)?;
+    test_triangle(t, ray, m)
+}
+
+// The triangle of this number.
+fn nth<'a>(triangles: &'a [KeptTriangle], i: u32) -> Option<&'a KeptTriangle>
+    ensures { option_copied result ≡ slice_get triangles.now i }
+{
+    triangles.get(i as usize)
+}
+
+// What the ray meets of a box of this number.
+fn box_at(boxes: &[KeptBox], i: u32, ray: &Ray, m: &Matrix) -> Option<Meet>
+    ensures { option_map meet_value result
+        ≡ option_and_then (box_meet ray.now m.now) (slice_get boxes.now i) }
+{
+    let b = boxes.get(i as usize)?;
+    test_box(b, ray, m)
+}
+
+// What the ray meets of a triangle.
+fn test_triangle(t: &KeptTriangle, ray: &Ray, m: &Matrix) -> Option<Meet>
+    requires { IfSome (box_of_triangle t.now) (KeepsPoints m.now) }
+    ensures { option_map meet_value result ≡ triangle_meet ray.now m.now t.now }
+{
+    let tri = t.tri()?;
+    hit(&tri, ray, m)
+}
+
+// What the ray meets of a box.
+fn test_box(b: &KeptBox, ray: &Ray, m: &Matrix) -> Option<Meet>
+    ensures { option_map meet_value result ≡ box_meet ray.now m.now b.now }
+{
+    let b = b.bounds()?;
+    span(&b, ray, m)
+}
+
+// The hit of the world triangle of a triangle.
+fn hit(tri: &Tri, ray: &Ray, m: &Matrix) -> Option<Meet>
+    requires { KeepsTri m.now tri.now }
+    ensures { option_map meet_value result ≡ hit_in_world ray.now m.now tri.now }
+{
+    world_hit(ray, &world(m, tri))
+}
+
+// The hit of a triangle of the world.
+fn world_hit(ray: &Ray, tri: &Tri) -> Option<Meet>
+    ensures { option_map meet_value result ≡ option_map Hit (hit_of ray.now tri.now) }
+{
+    match hit_tri(ray, tri) {
+        Some(hit) => Some(Meet::Tri(hit)),
+        None => None,
+    }
+}
+
+// The world triangle of a triangle.
+fn world(m: &Matrix, tri: &Tri) -> Tri
+    requires { KeepsTri m.now tri.now }
+    ensures { result ≡ world_tri m.now tri.now }
+{
+    let [a, b, c] = tri.vertices();
+    Tri::new(kept_image(m, a), kept_image(m, b), kept_image(m, c)).unwrap()
+}
+
+// The span of a box of the object's space.
+fn span(b: &Box3, ray: &Ray, m: &Matrix) -> Option<Meet>
+    ensures { option_map meet_value result ≡ span_in_object ray.now m.now b.now }
+{
+    object_span(&object_ray(ray, m), b)
+}
+
+// The span of a box, by the ray in the object's space.
+fn object_span(ray: &ObjectRay, b: &Box3) -> Option<Meet>
+    ensures { option_map meet_value result ≡ option_map Through (span_of ray.now b.now) }
+{
+    match span_box(ray, b) {
+        Some(span) => Some(Meet::Aabb(span)),
+        None => None,
+    }
+}
