@@ -1,10 +1,10 @@
 -- What is gathered of one element more, and that the gathered are the first fault, else all.
 use Rattle.std.proofs.Common.{ℕ, zero, suc, ◌≡◌, ◌<◌, ◌≤◌, ◌+◌, ◌-◌, ◌++◌, List, [], ◌∷◌, length, take, Result, Ok, Err, Option, Some, None, refl, sym, ap, subst, ◌∙◌, arith, add-one, length-append}
 use Rattle.std.proofs.Common.{get_or}
-use Rattle.std.specs.Prelude.{IsOk, slice_get, All}
+use Rattle.std.specs.Prelude.{Bool, true, false, IsOk, is_some, slice_get, All}
 use Rattle.std.proofs.Math.Seq.{take-length}
 use Rattle.std.proofs.lemmas.Option.{slice_get-get_or}
-use Rattle.ray_contents.specs.Gathering.{with_next, gathered, AreAll, IsFirst, IsFirstOrAll}
+use Rattle.ray_contents.specs.Gathering.{with_next, gathered, AreAll, IsFirst, IsFirstOrAll, required, given, all_some}
 
 -- what a loop that reads one element after the other cites: nothing, one more, a fault
 pub gathered_none : {X F : Type 0} (element : ℕ → Result X F) → gathered element 0 ≡ Ok []
@@ -107,3 +107,55 @@ gathered_take element xs each (suc n) within =
 pub gathered_items : {X F : Type 0} (element : ℕ → Result X F) (xs : List X) → ((k : ℕ) (x : X) → slice_get xs k ≡ Some x → element k ≡ Ok x) →
     gathered element (length xs) ≡ Ok xs
 gathered_items element xs each = gathered_take element xs each (length xs) (omega arith) ∙ ap Ok (take-length xs)
+
+-- ---- where a value may be missing
+
+pub all_some_none : {X : Type 0} (value : ℕ → Option X) → all_some value 0 ≡ Some []
+unfolding all_some
+all_some_none value = ap given (gathered_none (λ i. required (value i)))
+
+given_ok : {X : Type 0} (r : Result X (Unit {0})) (x : X) → given r ≡ Some x → r ≡ Ok x
+given_ok (Ok y) x e = let same : y ≡ x = cc in cc
+given_ok (Err missing) x e = absurd cc
+
+pub all_some_more : {X : Type 0} (value : ℕ → Option X) (n : ℕ) (xs : List X) (x : X) → all_some value n ≡ Some xs → value n ≡ Some x →
+    all_some value (n + 1) ≡ Some (xs ++ x ∷ [])
+unfolding all_some
+all_some_more value n xs x p q =
+    ap given (gathered_more (λ i. required (value i)) n xs x (given_ok (gathered (λ i. required (value i)) n) xs p) (ap required q))
+
+pub all_some_missing : {X : Type 0} (value : ℕ → Option X) (n count : ℕ) (xs : List X) → all_some value n ≡ Some xs → value n ≡ None → n < count →
+    all_some value count ≡ None
+unfolding all_some
+all_some_missing value n count xs p q below =
+    ap given (gathered_fault (λ i. required (value i)) n count xs tt (given_ok (gathered (λ i. required (value i)) n) xs p) (ap required q) below)
+
+-- whether there are all
+some_of : {X : Type 0} (o : Option X) → is_some o ≡ true → (x : X) × (o ≡ Some x)
+some_of (Some x) e = (x, refl)
+some_of None e = absurd cc
+
+none_of : {X : Type 0} (o : Option X) → is_some o ≡ false → o ≡ None
+none_of (Some x) e = absurd cc
+none_of None e = refl
+
+pub has_all_none : {X : Type 0} (value : ℕ → Option X) → is_some (all_some value 0) ≡ true
+has_all_none value = ap is_some (all_some_none value)
+
+pub has_all_more : {X : Type 0} (value : ℕ → Option X) (n : ℕ) → is_some (all_some value n) ≡ true → is_some (value n) ≡ true →
+    is_some (all_some value (n + 1)) ≡ true
+has_all_more value n p q =
+    let xs = some_of (all_some value n) p in
+    let x = some_of (value n) q in
+    ap is_some (all_some_more value n xs.0 x.0 xs.1 x.1)
+
+pub has_all_missing : {X : Type 0} (value : ℕ → Option X) (n count : ℕ) → is_some (all_some value n) ≡ true → is_some (value n) ≡ false → n < count →
+    is_some (all_some value count) ≡ false
+has_all_missing value n count p q below =
+    let xs = some_of (all_some value n) p in ap is_some (all_some_missing value n count xs.0 xs.1 (none_of (value n) q) below)
+
+-- values that are the items of a list are all of them
+pub all_some_items : {X : Type 0} (value : ℕ → Option X) (xs : List X) → ((k : ℕ) (x : X) → slice_get xs k ≡ Some x → value k ≡ Some x) →
+    all_some value (length xs) ≡ Some xs
+unfolding all_some
+all_some_items value xs each = ap given (gathered_items (λ i. required (value i)) xs (λ k x e. ap required (each k x e)))

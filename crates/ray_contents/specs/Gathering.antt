@@ -1,5 +1,5 @@
 -- The first fault, else all: what reading a list of elements comes to, where each can be at fault. (Own.)
-use Rattle.std.specs.Prelude.{ℕ, zero, suc, ◌≡◌, ◌<◌, ◌++◌, List, [], ◌∷◌, length, Result, Ok, Err, IsOk, Some, slice_get}
+use Rattle.std.specs.Prelude.{ℕ, zero, suc, ◌≡◌, ◌<◌, ◌++◌, List, [], ◌∷◌, length, Result, Ok, Err, IsOk, Option, Some, None, slice_get}
 
 -- what is gathered so far, and one more
 abbrev pub with_next : {X F : Type 0} → Result (List X) F → Result X F → Result (List X) F
@@ -27,3 +27,16 @@ pub record IsFirst {X F : Type 0} (element : ℕ → Result X F) (count : ℕ) (
 abbrev pub IsFirstOrAll : {X F : Type 0} → (ℕ → Result X F) → ℕ → Result (List X) F → Type 0
 IsFirstOrAll element count (Ok xs) = AreAll element count xs
 IsFirstOrAll element count (Err fault) = (k : ℕ) × IsFirst element count fault k
+
+-- a value, or that there is none; and back
+abbrev pub required : {X : Type 0} → Option X → Result X (Unit {0})
+required (Some x) = Ok x
+required None = Err tt
+
+abbrev pub given : {X : Type 0} → Result X (Unit {0}) → Option X
+given (Ok x) = Some x
+given (Err missing) = None
+
+-- all values under the numbers below a count, in order; none where one is missing
+unfoldable pub all_some : {X : Type 0} → (ℕ → Option X) → ℕ → Option (List X)
+all_some value count = given (gathered (λ i. required (value i)) count)

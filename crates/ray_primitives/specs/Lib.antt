@@ -3,3 +3,4 @@ pub mod Outcomes
 pub mod Updates
 pub mod TriangleReading
 pub mod BoxReading
+pub mod StoredPrimitives

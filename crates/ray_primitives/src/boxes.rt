@@ -167,7 +167,7 @@ fn ordered(lo: Vec3, hi: Vec3) -> Result<KeptBox, DataRule>
 
 // Whether no coordinate of the second point is below that of the first.
 #[tactic(auto, unfolding(crate::specs::BoxReading::is_ordered))]
-fn is_ordered(lo: Vec3, hi: Vec3) -> bool
+pub(crate) fn is_ordered(lo: Vec3, hi: Vec3) -> bool
     ensures value { result ≡ is_ordered lo hi }
     ensures below { IsTrue result → IsBelow lo hi }
 {

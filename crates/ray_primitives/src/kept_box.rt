@@ -1,6 +1,7 @@
-ghost use Rattle.std.specs.Prelude.{◌≡◌, IfSome, None, Some, is_some};
+ghost use Rattle.std.specs.Prelude.{◌≡◌, [], ◌∷◌, IfSome, None, Some, is_some};
 ghost use Rattle.ray_geom.specs.Boxes.{IsBox, box_value};
 ghost use Rattle.ray_primitives.specs.Primitives.{IsAabb};
+ghost use Rattle.ray_primitives.specs.StoredPrimitives.{written_box};
 
 use ray_bytes::{INACTIVE_MARK, is_inactive_mark};
 use ray_contents::Point32;
@@ -70,6 +71,21 @@ impl KeptBox {
             None
         } else {
             Box3::new(self.lo.wide(), self.hi.wide())
+        }
+    }
+
+    // Its corners as they are written.
+    #[tactic(auto, unfolding(crate::specs::Primitives::kept_box))]
+    pub(crate) fn written(&self) -> [Point32; 2]
+        ensures { let box = written_box self.now in result ≡ box.lo ∷ box.hi ∷ [] }
+    {
+        if is_inactive_mark(self.lo.x()) {
+            [
+                Point32::from_words([INACTIVE_MARK, 0, 0]),
+                Point32::from_words([0, 0, 0]),
+            ]
+        } else {
+            [self.lo, self.hi]
         }
     }
 

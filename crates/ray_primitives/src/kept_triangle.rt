@@ -1,8 +1,9 @@
 ghost use Rattle.std.specs.Prelude.{◌≡◌, IfSome, Some, is_some};
-ghost use Rattle.ray_geom.specs.Scene.{IsTri, tri_value};
+ghost use Rattle.ray_geom.specs.Scene.{IsTri, tri_value, vertices_of};
 ghost use Rattle.ray_bytes.specs.InactiveMark.{is_inactive_mark};
 ghost use Rattle.ray_primitives.specs.Primitives.{active_triangle, inactive_triangle};
 ghost use Rattle.ray_primitives.specs.Primitives.{box_of_triangle, IsTriangle};
+ghost use Rattle.ray_primitives.specs.StoredPrimitives.{written_tri};
 
 use crate::index_values::IndexValues;
 use ray_bytes::{INACTIVE_MARK, is_inactive_mark};
@@ -95,6 +96,19 @@ impl KeptTriangle {
     {
         let tri = self.tri()?;
         Some(tri.bounds())
+    }
+
+    // Its points as they are written.
+    #[tactic(auto, unfolding(crate::specs::Primitives::kept_triangle))]
+    pub(crate) fn written(&self) -> [Point32; 3]
+        ensures { result ≡ vertices_of (written_tri self.now.tri) }
+    {
+        if is_inactive_mark(self.a.x()) {
+            let zero = Point32::from_words([0, 0, 0]);
+            [Point32::from_words([INACTIVE_MARK, 0, 0]), zero, zero]
+        } else {
+            [self.a, self.b, self.c]
+        }
     }
 
     /// The same triangle.
