@@ -2,3 +2,4 @@ pub mod Keeping
 pub mod Results
 pub mod TriangleLimits
 pub mod BoxLimits
+pub mod StoredBack

@@ -24,10 +24,10 @@ inactive_triangle indices = record { tri = None; indices = indices }
 pub record IsTriangle (t : TriangleValue) : Type 0 where
   pub limits : IfSome t.tri IsTri
 
--- whether an index value fits an index size in bytes: without indices, which is size 0, it is 0, and with indices of 16 bits
--- it is at most 65,535 (VkIndexType)
+-- whether an index value fits an index size in bytes: without indices, which is size 0, it is 0, with indices of 16 bits it is
+-- at most 65,535, and else it has 32 bits (VkIndexType)
 unfoldable pub index_fits : ℕ → ℕ → Bool
-index_fits size index = if size == 0 then index == 0 else if size == 2 then nat_le index 65535 else true
+index_fits size index = if size == 0 then index == 0 else if size == 2 then nat_le index 65535 else nat_le index 4294967295
 
 -- a triangle of a geometry with this index size: it is within the limits, and its index values fit
 pub record IsTriangleOf (size : ℕ) (t : TriangleValue) : Type 0 where
