@@ -159,3 +159,20 @@ pub all_some_items : {X : Type 0} (value : ℕ → Option X) (xs : List X) → (
     all_some value (length xs) ≡ Some xs
 unfolding all_some
 all_some_items value xs each = ap given (gathered_items (λ i. required (value i)) xs (λ k x e. ap required (each k x e)))
+
+-- what is known of all values
+all_given : {X : Type 0} (value : ℕ → Option X) (count : ℕ) (xs : List X) → all_some value count ≡ Some xs → gathered (λ i. required (value i)) count ≡ Ok xs
+unfolding all_some
+all_given value count xs e = given_ok (gathered (λ i. required (value i)) count) xs e
+
+required_ok : {X : Type 0} (o : Option X) (x : X) → required o ≡ Ok x → o ≡ Some x
+required_ok (Some y) x e = let same : y ≡ x = cc in cc
+required_ok None x e = absurd cc
+
+pub length-all_some : {X : Type 0} (value : ℕ → Option X) (count : ℕ) (xs : List X) → all_some value count ≡ Some xs → length xs ≡ count
+length-all_some value count xs e = (gathered_all (λ i. required (value i)) count xs (all_given value count xs e)).as_many
+
+pub All-all_some : {X : Type 0} (P : X → Type 0) (value : ℕ → Option X) → ((k : ℕ) (x : X) → value k ≡ Some x → P x) →
+    (count : ℕ) (xs : List X) → all_some value count ≡ Some xs → All P xs
+All-all_some P value each count xs e =
+    All-gathered P (λ i. required (value i)) (λ k x h. each k x (required_ok (value k) x h)) count xs (all_given value count xs e)

@@ -3,3 +3,4 @@ pub mod Results
 pub mod TriangleLimits
 pub mod BoxLimits
 pub mod StoredBack
+pub mod StoredLimits

@@ -1,0 +1,12 @@
+use Rattle.ray_primitives.proofs.StoredBack.{triangles_back}
+use Rattle.ray_primitives.proofs.StoredLimits.{IfSome-triangles}
+use Rattle.ray_primitives.proofs.stored_laws.stored_triangles_law.Goals as goal
+
+pub returns-clause-back : goal.returns-clause-back
+returns-clause-back c = λ all. triangles_back c.args._size c.args._triangles.now all
+
+pub returns-clause-limits : goal.returns-clause-limits
+returns-clause-limits c = (IfSome-triangles c.args._size c.args._count c.args._bytes.now).1
+
+pub returns-clause-count : goal.returns-clause-count
+returns-clause-count c = (IfSome-triangles c.args._size c.args._count c.args._bytes.now).0
