@@ -85,6 +85,13 @@ impl Contents {
         self.geometries.get(geometry as usize)
     }
 
+    // The geometries in order.
+    pub(crate) fn as_slice(&self) -> &[Geometry]
+        ensures { result.now ≡ self.now.geometries }
+    {
+        self.geometries.as_slice()
+    }
+
     // How many geometries there are.
     pub(crate) fn geometries(&self) -> u32
         ensures value { result ≡ length self.now.geometries }

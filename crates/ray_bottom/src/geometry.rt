@@ -3,8 +3,10 @@ ghost use Rattle.std.specs.List.{filter_map};
 ghost use Rattle.ray_geom.specs.LeastBoxes.{joined_of};
 ghost use Rattle.ray_primitives.specs.Primitives.{box_of_triangle};
 ghost use Rattle.ray_bottom.specs.Contents.{kind_of, count_of, boxes_of};
+ghost use Rattle.ray_bottom.specs.Storing.{format_of, index_size_of};
 
 use crate::shapes::Shapes;
+use ray_bytes::Format;
 use ray_contents::{Elements, extended};
 use ray_flags::Kind;
 use ray_geom::Box3;
@@ -26,6 +28,26 @@ impl Geometry {
         match &self.shapes {
             Shapes::Triangles { .. } => Kind::Triangle,
             Shapes::Boxes { .. } => Kind::Aabb,
+        }
+    }
+
+    // The format of its vertices; of boxes the first.
+    pub(crate) fn format(&self) -> Format
+        ensures { result ≡ format_of self.now.shapes }
+    {
+        match &self.shapes {
+            Shapes::Triangles { format, .. } => *format,
+            Shapes::Boxes { .. } => Format::S32x3,
+        }
+    }
+
+    // The size of its indices; of boxes 0.
+    pub(crate) fn index_size(&self) -> u8
+        ensures { result ≡ index_size_of self.now.shapes }
+    {
+        match &self.shapes {
+            Shapes::Triangles { index_size, .. } => *index_size,
+            Shapes::Boxes { .. } => 0,
         }
     }
 

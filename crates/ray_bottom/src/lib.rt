@@ -16,6 +16,7 @@ mod builder;
 mod contents;
 mod geometry;
 mod meet;
+mod payload;
 mod prim_place;
 mod shapes;
 mod testing;
