@@ -83,6 +83,11 @@ IsAdded before added after (Ok done) = added ≡ Ok after
 IsAdded before added after (Err (Data fault)) = (added ≡ Err fault) × (after ≡ before)
 IsAdded before added after (Err NoMemory) = after ≡ before
 
+-- the same of a geometry that was stored, with these primitives
+abbrev pub IsRestored : {E : Type 0} → BuilderValue → Bool → Option Shapes → BuilderValue → Result (Unit {0}) E → Type 0
+IsRestored before opaque stored after (Ok done) = option_map (λ s. builder_with before (record { opaque = opaque; shapes = s })) stored ≡ Some after
+IsRestored before opaque stored after (Err fault) = after ≡ before
+
 -- how many bytes the indices of a view have: 0 where there is none
 abbrev pub size_of_indices : Option Indices → ℕ
 size_of_indices None = 0

@@ -13,7 +13,7 @@ use Rattle.ray_primitives.specs.StoredPrimitives.{triangle_bytes, aabb_bytes, st
 use Rattle.ray_bottom.specs.declared.geometry.Geometry.{Geometry}
 use Rattle.ray_bottom.specs.declared.shapes.Shapes.{Shapes}
 use Rattle.ray_bottom.specs.declared.shapes.Shapes.TheVariants.{Triangles, Boxes}
-use Rattle.ray_bottom.specs.Contents.{ContentsValue, kind_of, kind_of_shapes, count_of, count_of_shapes, is_index_size}
+use Rattle.ray_bottom.specs.Contents.{ContentsValue, kind_of, kind_of_shapes, count_of, count_of_shapes, is_index_size, ShapesAreWithin}
 
 -- ---- the numbers of a geometry's head
 
@@ -93,3 +93,11 @@ stored_shapes Aabb format size count bytes = boxes_of_elements size count bytes
 -- what is stored of a geometry and read back is its primitives
 pub record IsStoredBack (g : Geometry) : Type 0 where
   pub same : stored_shapes (kind_of g) (format_of g.shapes) (index_size_of g.shapes) (count_of g) (element_bytes g.shapes) ≡ Some g.shapes
+
+-- ---- words of private calls alone
+
+-- the primitives of a geometry of this kind with this count are within the limits
+pub record AreStored (kind : Kind) (count : ℕ) (s : Shapes) : Type 0 where
+  pub kind_is : kind_of_shapes s ≡ kind
+  pub count_is : count_of_shapes s ≡ count
+  pub within : ShapesAreWithin s

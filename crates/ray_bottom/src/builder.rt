@@ -1,13 +1,15 @@
-ghost use Rattle.std.specs.Prelude.{◌≡◌, None, Some, [], IfOk, option_copied, option_and_then, length, slice_get, false};
+ghost use Rattle.std.specs.Prelude.{◌≡◌, None, Some, [], IfOk, IsSome, option_copied, option_and_then, length, slice_get, false};
 ghost use Rattle.ray_flags.specs.declared.kind.Kind.TheVariants.{Triangle, Aabb};
 ghost use Rattle.ray_bottom.specs.Contents.{has_both_fast, HasRoom, IsContents};
 ghost use Rattle.ray_bottom.specs.Builders.{with_triangles, with_boxes, IsAdded, size_of_indices};
-ghost use Rattle.ray_bottom.specs.Builders.{triangles_in, boxes_in};
+ghost use Rattle.ray_bottom.specs.Builders.{triangles_in, boxes_in, IsRestored};
+ghost use Rattle.ray_bottom.specs.Storing.{stored_shapes};
 
 use crate::bottom::Bottom;
 use crate::contents::Contents;
 use crate::geometry::Geometry;
 use crate::shapes::Shapes;
+use crate::stored::Stored;
 use ray_bytes::{BoxView, IndexView, TransformView, VertexView};
 use ray_flags::BuildFlags;
 use ray_primitives::{
@@ -120,6 +122,26 @@ impl<'a> Builder<'a> {
         self.contents.push(Geometry {
             opaque: info.opaque,
             shapes: Shapes::Boxes { boxes },
+        })?;
+        Ok(())
+    }
+
+    /// Adds a geometry as it is stored. The builder is of a new structure; with the geometry there
+    /// are at most 256, all of one kind, with at most 2^20 primitives together; and it stands for a
+    /// geometry, as [`Stored::is_sound`] says. Without memory the builder is as before.
+    pub fn stored(&mut self, from: Stored<'_>) -> Result<(), AllocError>
+        requires anew { self.old.replaced ≡ None }
+        requires room { HasRoom from.kind from.count self.old.contents.geometries }
+        requires sound { IsSome (stored_shapes from.kind from.format from.index_size from.count
+            from.elements.now) }
+        ensures { IsRestored self.old from.entry.opaque (stored_shapes from.entry.kind
+            from.entry.format from.entry.index_size from.entry.count from.entry.elements.now)
+            self.new result }
+    {
+        let shapes = from.shapes(self.alloc)?;
+        self.contents.push(Geometry {
+            opaque: from.opaque,
+            shapes,
         })?;
         Ok(())
     }

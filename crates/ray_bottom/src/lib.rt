@@ -19,10 +19,14 @@ mod meet;
 mod payload;
 mod prim_place;
 mod shapes;
+mod stored;
+mod stored_law;
 mod testing;
 
 pub use crate::bottom::Bottom;
 pub use crate::builder::Builder;
 pub use crate::meet::Meet;
 pub use crate::prim_place::PrimPlace;
+pub use crate::stored::Stored;
+pub use crate::stored_law::stored_back;
 pub use ray_primitives::{BoxInfo, BuildFault, TriangleInfo};
