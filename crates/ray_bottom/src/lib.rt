@@ -12,6 +12,7 @@
 #![tactic(auto)]
 
 mod bottom;
+mod bottoms;
 mod builder;
 mod contents;
 mod geometry;
@@ -24,6 +25,7 @@ mod stored_law;
 mod testing;
 
 pub use crate::bottom::Bottom;
+pub use crate::bottoms::Bottoms;
 pub use crate::builder::Builder;
 pub use crate::meet::Meet;
 pub use crate::prim_place::PrimPlace;

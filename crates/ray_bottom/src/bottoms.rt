@@ -1,0 +1,70 @@
+ghost use Rattle.std.specs.Prelude.{◌≡◌, [], OnOk, OnErr, Some, None, true, option_copied};
+ghost use Rattle.ray_bottom.specs.Slots.{contents_at, has_room, Changes};
+
+use crate::bottom::Bottom;
+use std::alloc::{AllocError, Global};
+use std::collections::BTreeMap;
+use std::marker::Model;
+
+/// Bottom structures by their ids. Room is made for an id first, and stays until the id is dropped:
+/// so a structure is put where room was made without taking memory. Contracts see it as the list of
+/// ids with room, each with what stands there. (Own.)
+#[derive(Drop)]
+pub struct Bottoms {
+    slots: BTreeMap<u32, Option<Bottom>>,
+}
+
+impl Model for Bottoms {
+    ghost use Rattle.ray_bottom.specs.Slots.{Slots};
+
+    ghost Value = { Slots };
+
+    ghost view = { λ b. b.slots.entries };
+}
+
+impl Bottoms {
+    /// No ids.
+    pub fn new(alloc: Global) -> Bottoms
+        ensures { result ≡ [] }
+    {
+        Bottoms {
+            slots: BTreeMap::new(alloc),
+        }
+    }
+
+    /// The structure of an id. None exactly where nothing stands under the id.
+    pub fn get(&self, id: u32) -> Option<&Bottom>
+        ensures { option_copied result ≡ contents_at id self.now }
+    {
+        self.slots.get(&id)?.as_ref()
+    }
+
+    /// Makes room for an id, where there is none yet. What stands there stays. Without memory all is
+    /// as before.
+    pub fn make_room(&mut self, id: u32) -> Result<(), AllocError>
+        ensures ok { OnOk result (Changes id (Some (contents_at id self.old)) self.old self.new) }
+        ensures err { OnErr result (self.new ≡ self.old) }
+    {
+        if !self.slots.contains_key(&id) {
+            self.slots.insert(id, None)?;
+        }
+        Ok(())
+    }
+
+    /// Puts a structure under an id for which room was made, in place of what stands there.
+    pub fn put(&mut self, id: u32, bottom: Bottom)
+        requires { has_room id self.old ≡ true }
+        ensures { Changes id (Some (Some bottom)) self.old self.new }
+    {
+        if let Some(slot) = self.slots.get_mut(&id) {
+            *slot = Some(bottom);
+        }
+    }
+
+    /// Drops an id with its room and what stands there.
+    pub fn drop_id(&mut self, id: u32)
+        ensures { Changes id None self.old self.new }
+    {
+        self.slots.remove(&id);
+    }
+}
