@@ -12,5 +12,7 @@ pub(crate) enum Shapes {
         triangles: Elements<KeptTriangle>,
     },
     // Boxes.
-    Boxes { boxes: Elements<KeptBox> },
+    Boxes {
+        boxes: Elements<KeptBox>,
+    },
 }

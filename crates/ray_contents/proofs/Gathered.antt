@@ -176,3 +176,8 @@ pub All-all_some : {X : Type 0} (P : X → Type 0) (value : ℕ → Option X) �
     (count : ℕ) (xs : List X) → all_some value count ≡ Some xs → All P xs
 All-all_some P value each count xs e =
     All-gathered P (λ i. required (value i)) (λ k x h. each k x (required_ok (value k) x h)) count xs (all_given value count xs e)
+
+pub each-all_some : {X : Type 0} (value : ℕ → Option X) (count : ℕ) (xs : List X) → all_some value count ≡ Some xs →
+    (k : ℕ) (x : X) → slice_get xs k ≡ Some x → value k ≡ Some x
+each-all_some value count xs e k x h =
+    required_ok (value k) x ((gathered_all (λ i. required (value i)) count xs (all_given value count xs e)).each k x h)

@@ -4,3 +4,4 @@ pub mod TriangleLimits
 pub mod BoxLimits
 pub mod StoredBack
 pub mod StoredLimits
+pub mod StoredAgain

@@ -160,12 +160,14 @@ if_read P None each = tt
 
 pub IfSome-triangles : (size count : ℕ) (bytes : List ℕ) →
     IfSome (stored_triangles size count bytes) (λ ts. length ts ≡ count) × IfSome (stored_triangles size count bytes) (All (IsTriangleOf size))
-IfSome-triangles size count bytes =
-    (if_read (λ ts. length ts ≡ count) (stored_triangles size count bytes) (λ ts e. (AreTrianglesOf-stored size count bytes ts e).as_many),
-    if_read (All (IsTriangleOf size)) (stored_triangles size count bytes) (λ ts e. (AreTrianglesOf-stored size count bytes ts e).each))
+IfSome-triangles size count bytes = (
+  if_read (λ ts. length ts ≡ count) (stored_triangles size count bytes) (λ ts e. (AreTrianglesOf-stored size count bytes ts e).as_many),
+  if_read (All (IsTriangleOf size)) (stored_triangles size count bytes) (λ ts e. (AreTrianglesOf-stored size count bytes ts e).each),
+)
 
 pub IfSome-boxes : (count : ℕ) (bytes : List ℕ) →
     IfSome (stored_boxes count bytes) (λ boxes. length boxes ≡ count) × IfSome (stored_boxes count bytes) (All IsAabb)
-IfSome-boxes count bytes =
-    (if_read (λ boxes. length boxes ≡ count) (stored_boxes count bytes) (λ boxes e. (AreBoxesOf-stored count bytes boxes e).as_many),
-    if_read (All IsAabb) (stored_boxes count bytes) (λ boxes e. (AreBoxesOf-stored count bytes boxes e).each))
+IfSome-boxes count bytes = (
+  if_read (λ boxes. length boxes ≡ count) (stored_boxes count bytes) (λ boxes e. (AreBoxesOf-stored count bytes boxes e).as_many),
+  if_read (All IsAabb) (stored_boxes count bytes) (λ boxes e. (AreBoxesOf-stored count bytes boxes e).each),
+)

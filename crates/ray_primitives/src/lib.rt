@@ -24,6 +24,8 @@ mod stored_boxes;
 mod stored_laws;
 mod stored_points;
 mod stored_triangles;
+#[cfg(test)]
+mod tests;
 mod triangle_info;
 mod triangle_source;
 mod triangles;

@@ -222,12 +222,7 @@ fn made_from(
 
 // The triangle of three corners.
 #[tactic(auto, unfolding(crate::specs::TriangleReading::made_of))]
-fn made(
-    matrix: &Option<Matrix>,
-    a: Corner,
-    b: Corner,
-    c: Corner,
-) -> Result<KeptTriangle, DataRule>
+fn made(matrix: &Option<Matrix>, a: Corner, b: Corner, c: Corner) -> Result<KeptTriangle, DataRule>
     ensures { result ≡ made_of matrix.now a b c }
 {
     let indices = IndexValues {

@@ -1,4 +1,6 @@
+use Rattle.std.proofs.Common.{arith}
 use Rattle.ray_primitives.proofs.StoredBack.{boxes_back}
+use Rattle.ray_primitives.proofs.StoredAgain.{IfSome-boxes_again}
 use Rattle.ray_primitives.proofs.StoredLimits.{IfSome-boxes}
 use Rattle.ray_primitives.proofs.stored_laws.stored_boxes_law.Goals as goal
 
@@ -10,3 +12,6 @@ returns-clause-limits c = (IfSome-boxes c.args._count c.args._bytes.now).1
 
 pub returns-clause-count : goal.returns-clause-count
 returns-clause-count c = (IfSome-boxes c.args._count c.args._bytes.now).0
+
+pub returns-clause-again : goal.returns-clause-again
+returns-clause-again c = λ long. IfSome-boxes_again c.args._count c.args._bytes.now (λ i. let f = c.type_inv._bytes i in omega arith) long

@@ -1,4 +1,6 @@
+use Rattle.std.proofs.Common.{arith}
 use Rattle.ray_primitives.proofs.StoredBack.{triangles_back}
+use Rattle.ray_primitives.proofs.StoredAgain.{IfSome-triangles_again}
 use Rattle.ray_primitives.proofs.StoredLimits.{IfSome-triangles}
 use Rattle.ray_primitives.proofs.stored_laws.stored_triangles_law.Goals as goal
 
@@ -10,3 +12,6 @@ returns-clause-limits c = (IfSome-triangles c.args._size c.args._count c.args._b
 
 pub returns-clause-count : goal.returns-clause-count
 returns-clause-count c = (IfSome-triangles c.args._size c.args._count c.args._bytes.now).0
+
+pub returns-clause-again : goal.returns-clause-again
+returns-clause-again c = λ long. IfSome-triangles_again c.args._size c.args._count c.args._bytes.now (λ i. let f = c.type_inv._bytes i in omega arith) long
