@@ -1,6 +1,6 @@
 -- What is stored of a geometry and read back is its primitives, and what is read is within the limits.
-use Rattle.std.proofs.Common.{ℕ, ◌≡◌, ◌+◌, ◌*◌, ◌==◌, ◌&&◌, ◌++◌, Bool, true, false, List, [], ◌∷◌, length, Option, Some, None, option_map, get_or, refl, sym, ap, subst, ◌∙◌, arith, length-append, mul-suc}
-use Rattle.std.specs.Prelude.{All, IfOk, Result, Ok, Err, if◌then◌else◌}
+use Rattle.std.proofs.Common.{ℕ, ◌≡◌, ◌<◌, ◌+◌, ◌*◌, ◌==◌, ◌&&◌, ◌++◌, Bool, true, false, List, [], ◌∷◌, length, Option, Some, None, option_map, get_or, refl, sym, ap, subst, ◌∙◌, arith, length-append, mul-suc}
+use Rattle.std.specs.Prelude.{All, IfSome, slice_index, if◌then◌else◌}
 use Rattle.std.specs.List.{flat_map}
 use Rattle.std.proofs.lemmas.Bool.Decides.{nat_tests}
 use Rattle.std.proofs.lemmas.List.Concat.{flat_map-cons}
@@ -11,6 +11,7 @@ use Rattle.ray_flags.specs.declared.kind.Kind.TheVariants.{Triangle, Aabb}
 use Rattle.ray_primitives.specs.Primitives.{TriangleValue, IsTriangleOf, IsAabb}
 use Rattle.ray_primitives.specs.StoredPrimitives.{triangle_bytes, aabb_bytes, stored_triangles, stored_boxes}
 use Rattle.ray_primitives.proofs.StoredBack.{triangles_back, boxes_back, length-triangle_bytes, length-aabb_bytes}
+use Rattle.ray_primitives.proofs.StoredAgain.{triangles_again, boxes_again}
 use Rattle.ray_primitives.proofs.StoredLimits.{AreTrianglesOf-stored, AreBoxesOf-stored}
 use Rattle.ray_bottom.specs.declared.geometry.Geometry.{Geometry}
 use Rattle.ray_bottom.specs.declared.shapes.Shapes.{Shapes}
@@ -105,3 +106,44 @@ pub AreStored-shapes : (kind : Kind) (format : Format) (size count : ℕ) (bytes
     stored_shapes kind format size count bytes ≡ Some s → AreStored kind count s
 AreStored-shapes Triangle format size count bytes s e = triangles_limits format size count bytes s e
 AreStored-shapes Aabb format size count bytes s e = boxes_limits size count bytes s e
+
+-- ---- what is read and stored again is the same bytes
+
+second_of : (a b : Bool) → (a && b) ≡ true → b ≡ true
+second_of true b e = e
+second_of false b e = absurd cc
+
+same_number : (a b : ℕ) → (a == b) ≡ true → a ≡ b
+same_number a b e = grind (arith, nat_tests)
+
+triangles_again_of : (format : Format) (size count : ℕ) (bytes : List ℕ) (s : Shapes) → ((i : ℕ) → slice_index bytes i < 256) →
+    triangles_of format size count bytes ≡ Some s → element_bytes s ≡ bytes
+unfolding triangles_of
+triangles_again_of format size count bytes s fits e =
+    let h = if_some (is_index_size size && (length bytes == 48 * count)) (option_map (Triangles format size) (stored_triangles size count bytes)) s e in
+    let m = mapped (Triangles format size) (stored_triangles size count bytes) s h.1 in
+    let long = same_number (length bytes) (48 * count) (second_of (is_index_size size) (length bytes == 48 * count) h.0) in
+    ap (λ (t : Shapes). element_bytes t) (sym m.same) ∙ triangles_again size count bytes m.value fits long m.is_some
+
+boxes_again_of : (size count : ℕ) (bytes : List ℕ) (s : Shapes) → ((i : ℕ) → slice_index bytes i < 256) →
+    boxes_of_elements size count bytes ≡ Some s → element_bytes s ≡ bytes
+unfolding boxes_of_elements
+boxes_again_of size count bytes s fits e =
+    let h = if_some ((size == 0) && (length bytes == 24 * count)) (option_map Boxes (stored_boxes count bytes)) s e in
+    let m = mapped Boxes (stored_boxes count bytes) s h.1 in
+    let long = same_number (length bytes) (24 * count) (second_of (size == 0) (length bytes == 24 * count) h.0) in
+    ap (λ (t : Shapes). element_bytes t) (sym m.same) ∙ boxes_again count bytes m.value fits long m.is_some
+
+again_of : (kind : Kind) (format : Format) (size count : ℕ) (bytes : List ℕ) (s : Shapes) → ((i : ℕ) → slice_index bytes i < 256) →
+    stored_shapes kind format size count bytes ≡ Some s → element_bytes s ≡ bytes
+again_of Triangle format size count bytes s fits e = triangles_again_of format size count bytes s fits e
+again_of Aabb format size count bytes s fits e = boxes_again_of size count bytes s fits e
+
+if_read : {X : Type 0} (P : X → Type 0) (o : Option X) → ((x : X) → o ≡ Some x → P x) → IfSome o P
+if_read P (Some x) each = each x refl
+if_read P None each = tt
+
+pub element_bytes-stored : (kind : Kind) (format : Format) (size count : ℕ) (bytes : List ℕ) → ((i : ℕ) → slice_index bytes i < 256) →
+    IfSome (stored_shapes kind format size count bytes) (λ s. element_bytes s ≡ bytes)
+element_bytes-stored kind format size count bytes fits =
+    if_read (λ (s : Shapes). element_bytes s ≡ bytes) (stored_shapes kind format size count bytes) (λ s e. again_of kind format size count bytes s fits e)

@@ -32,5 +32,5 @@ pub use crate::builder::Builder;
 pub use crate::meet::Meet;
 pub use crate::prim_place::PrimPlace;
 pub use crate::stored::Stored;
-pub use crate::stored_law::stored_back;
+pub use crate::stored_law::{stored_again, stored_back};
 pub use ray_primitives::{BoxInfo, BuildFault, TriangleInfo};
