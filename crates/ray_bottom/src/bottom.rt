@@ -9,7 +9,7 @@ use crate::geometry::Geometry;
 use ray_bytes::compacted_of;
 use ray_flags::{BuildFlags, Kind};
 use ray_geom::Box3;
-use std::alloc::{AllocError, Global};
+use std::alloc::{AllocError as NoMemory, Global};
 use std::marker::Model;
 
 /// A bottom structure that is built. Contracts see it as its contents. (VkAccelerationStructureKHR of
@@ -29,7 +29,7 @@ impl Model for Bottom {
 
 impl Bottom {
     /// A structure with the same contents. (VK_COPY_ACCELERATION_STRUCTURE_MODE_CLONE_KHR)
-    pub fn copy(&self, alloc: Global) -> Result<Bottom, AllocError>
+    pub fn copy(&self, alloc: Global) -> Result<Bottom, NoMemory>
         ensures { IfOk result (λ copy. copy ≡ self.now) }
     {
         let contents = self.contents.copy(alloc)?;
@@ -38,7 +38,7 @@ impl Bottom {
 
     /// A structure with the same contents, inactive primitives among them.
     /// (VK_COPY_ACCELERATION_STRUCTURE_MODE_COMPACT_KHR)
-    pub fn compact(&self, alloc: Global) -> Result<Bottom, AllocError>
+    pub fn compact(&self, alloc: Global) -> Result<Bottom, NoMemory>
         ensures { IfOk result (λ copy. copy ≡ self.now) }
     {
         self.copy(alloc)

@@ -2,7 +2,7 @@ ghost use Rattle.std.specs.Prelude.{◌≡◌, [], OnOk, OnErr, Some, None, true
 ghost use Rattle.ray_bottom.specs.Slots.{contents_at, has_room, Changes};
 
 use crate::bottom::Bottom;
-use std::alloc::{AllocError, Global};
+use std::alloc::{AllocError as NoMemory, Global};
 use std::collections::BTreeMap;
 use std::marker::Model;
 
@@ -41,7 +41,7 @@ impl Bottoms {
 
     /// Makes room for an id, where there is none yet. What stands there stays. Without memory all is
     /// as before.
-    pub fn make_room(&mut self, id: u32) -> Result<(), AllocError>
+    pub fn make_room(&mut self, id: u32) -> Result<(), NoMemory>
         ensures ok { OnOk result (Changes id (Some (contents_at id self.old)) self.old self.new) }
         ensures err { OnErr result (self.new ≡ self.old) }
     {

@@ -15,8 +15,9 @@ use ray_flags::BuildFlags;
 use ray_primitives::{
     BoxInfo, BuildFault, KeptBox, KeptTriangle, TriangleInfo, read_boxes, read_triangles,
 };
-use std::alloc::{AllocError, Global};
+use std::alloc::{AllocError as NoMemory, Global};
 use std::marker::Model;
+use std::thread::Threads;
 
 /// Builds a bottom structure, geometry by geometry. Contracts see it as the contents so far, with
 /// those of the structure that is updated. (vkCmdBuildAccelerationStructuresKHR)
@@ -129,7 +130,7 @@ impl<'a> Builder<'a> {
     /// Adds a geometry as it is stored. The builder is of a new structure; with the geometry there
     /// are at most 256, all of one kind, with at most 2^20 primitives together; and it stands for a
     /// geometry, as [`Stored::is_sound`] says. Without memory the builder is as before.
-    pub fn stored(&mut self, from: Stored<'_>) -> Result<(), AllocError>
+    pub fn stored(&mut self, from: Stored<'_>) -> Result<(), NoMemory>
         requires anew { self.old.replaced ≡ None }
         requires room { HasRoom from.kind from.count self.old.contents.geometries }
         requires sound { IsSome (stored_shapes from.kind from.format from.index_size from.count
@@ -146,8 +147,8 @@ impl<'a> Builder<'a> {
         Ok(())
     }
 
-    /// The structure with the contents.
-    pub fn finish(self) -> Result<Bottom, AllocError>
+    /// The structure with the contents. The runtime is for trees, which aren't built yet.
+    pub fn finish<R: Threads + Sync>(self, _rt: &R) -> Result<Bottom, NoMemory>
         ensures { IfOk result (λ bottom. bottom ≡ self.entry.contents) }
     {
         Ok(Bottom {

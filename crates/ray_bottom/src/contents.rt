@@ -6,7 +6,7 @@ ghost use Rattle.ray_bottom.specs.Contents.{with_geometry};
 use crate::geometry::Geometry;
 use ray_flags::BuildFlags;
 use ray_geom::Box3;
-use std::alloc::{AllocError, Global};
+use std::alloc::{AllocError as NoMemory, Global};
 use std::marker::Model;
 
 // The contents of a structure, with what is counted of them: their bounds, how many primitives
@@ -48,7 +48,7 @@ impl Contents {
     }
 
     // One geometry more. Without memory for it all is as before.
-    pub(crate) fn push(&mut self, geometry: Geometry) -> Result<(), AllocError>
+    pub(crate) fn push(&mut self, geometry: Geometry) -> Result<(), NoMemory>
         requires room { HasRoom (kind_of geometry) (count_of geometry) self.old.geometries }
         requires limits { IsGeometry geometry }
         ensures ok { OnOk result (self.new ≡ with_geometry self.old geometry) }
@@ -65,7 +65,7 @@ impl Contents {
     }
 
     // The same contents.
-    pub(crate) fn copy(&self, alloc: Global) -> Result<Contents, AllocError>
+    pub(crate) fn copy(&self, alloc: Global) -> Result<Contents, NoMemory>
         ensures { IfOk result (λ copy. copy ≡ self.now) }
     {
         let geometries = copy_all(alloc, &self.geometries)?;
@@ -130,7 +130,7 @@ impl Contents {
 }
 
 // The same geometries.
-fn copy_all(alloc: Global, geometries: &Vec<Geometry>) -> Result<Vec<Geometry>, AllocError>
+fn copy_all(alloc: Global, geometries: &Vec<Geometry>) -> Result<Vec<Geometry>, NoMemory>
     ensures { IfOk result (λ copy. copy.items ≡ geometries.now.items) }
 {
     let mut copy = Vec::with_capacity(alloc, geometries.len())?;

@@ -11,7 +11,7 @@ use ray_contents::{Elements, extended};
 use ray_flags::Kind;
 use ray_geom::Box3;
 use ray_primitives::{KeptBox, KeptTriangle};
-use std::alloc::{AllocError, Global};
+use std::alloc::{AllocError as NoMemory, Global};
 
 // A geometry of a structure: its opacity and its primitives.
 #[derive(Drop)]
@@ -82,7 +82,7 @@ impl Geometry {
     }
 
     // The same geometry.
-    pub(crate) fn copy(&self, alloc: Global) -> Result<Geometry, AllocError>
+    pub(crate) fn copy(&self, alloc: Global) -> Result<Geometry, NoMemory>
         ensures { IfOk result (λ g. g ≡ self.now) }
     {
         let shapes = copy_shapes(alloc, &self.shapes)?;
@@ -146,7 +146,7 @@ fn extend_boxes(boxes: &[KeptBox], bounds: Option<Box3>) -> Option<Box3>
 }
 
 // The same primitives.
-fn copy_shapes(alloc: Global, shapes: &Shapes) -> Result<Shapes, AllocError>
+fn copy_shapes(alloc: Global, shapes: &Shapes) -> Result<Shapes, NoMemory>
     ensures { IfOk result (λ s. s ≡ shapes.now) }
 {
     match shapes {
@@ -173,7 +173,7 @@ fn copy_shapes(alloc: Global, shapes: &Shapes) -> Result<Shapes, AllocError>
 fn copy_triangles(
     alloc: Global,
     triangles: &[KeptTriangle],
-) -> Result<Elements<KeptTriangle>, AllocError>
+) -> Result<Elements<KeptTriangle>, NoMemory>
     ensures { IfOk result (λ copy. copy ≡ triangles.now) }
 {
     let mut copy = Vec::with_capacity(alloc, triangles.len())?;
@@ -184,7 +184,7 @@ fn copy_triangles(
 }
 
 // The same boxes.
-fn copy_boxes(alloc: Global, boxes: &[KeptBox]) -> Result<Elements<KeptBox>, AllocError>
+fn copy_boxes(alloc: Global, boxes: &[KeptBox]) -> Result<Elements<KeptBox>, NoMemory>
     ensures { IfOk result (λ copy. copy ≡ boxes.now) }
 {
     let mut copy = Vec::with_capacity(alloc, boxes.len())?;

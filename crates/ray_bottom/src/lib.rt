@@ -34,3 +34,4 @@ pub use crate::prim_place::PrimPlace;
 pub use crate::stored::Stored;
 pub use crate::stored_law::{stored_again, stored_back};
 pub use ray_primitives::{BoxInfo, BuildFault, TriangleInfo};
+pub use std::alloc::AllocError as NoMemory;

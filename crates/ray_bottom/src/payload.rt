@@ -14,7 +14,7 @@ use ray_bytes::Format;
 use ray_flags::Kind;
 use ray_geom::Steps;
 use ray_primitives::{KeptBox, KeptTriangle};
-use std::alloc::{AllocError, Global};
+use std::alloc::{AllocError as NoMemory, Global};
 use std::sync::ledger::Ledger;
 
 impl Bottom {
@@ -24,7 +24,7 @@ impl Bottom {
         &self,
         alloc: Global,
         steps: &mut Steps<L>,
-    ) -> Result<Vec<u8>, AllocError>
+    ) -> Result<Vec<u8>, NoMemory>
         ensures value { IfOk result (λ bytes. bytes.items ≡ payload_of self.now) }
         ensures cost { OnOk result (steps.new ≡ steps.old + total_of self.now.geometries) }
         ensures rising { steps.old ≤ steps.new }
@@ -39,7 +39,7 @@ impl Bottom {
 
 // The head of a structure.
 #[tactic(auto, unfolding(crate::specs::Storing::bytes_of_words))]
-fn append_head(bytes: &mut Vec<u8>, flags: u32, geometries: u32) -> Result<(), AllocError>
+fn append_head(bytes: &mut Vec<u8>, flags: u32, geometries: u32) -> Result<(), NoMemory>
     ensures { OnOk result (bytes.new.items
         ≡ bytes.old.items ++ bytes_of_words (0 ∷ flags ∷ geometries ∷ 0 ∷ [])) }
 {
@@ -54,7 +54,7 @@ fn append_geometries<L: Ledger>(
     bytes: &mut Vec<u8>,
     geometries: &[Geometry],
     steps: &mut Steps<L>,
-) -> Result<(), AllocError>
+) -> Result<(), NoMemory>
     requires { total_of geometries.now ≤ 2 ^ 20 }
     ensures { Appends (flat_map geometry_bytes geometries.now) (total_of geometries.now)
         bytes.old.items bytes.new.items steps.old steps.new result }
@@ -70,7 +70,7 @@ fn append_geometry<L: Ledger>(
     bytes: &mut Vec<u8>,
     g: &Geometry,
     steps: &mut Steps<L>,
-) -> Result<(), AllocError>
+) -> Result<(), NoMemory>
     requires { count_of g.now ≤ 2 ^ 20 }
     ensures { Appends (geometry_bytes g.now) (count_of g.now) bytes.old.items bytes.new.items
         steps.old steps.new result }
@@ -98,7 +98,7 @@ fn words_of(g: &Geometry) -> [u32; 8]
 
 // Eight words.
 #[tactic(auto, unfolding(crate::specs::Storing::bytes_of_words))]
-fn append_words(bytes: &mut Vec<u8>, words: [u32; 8]) -> Result<(), AllocError>
+fn append_words(bytes: &mut Vec<u8>, words: [u32; 8]) -> Result<(), NoMemory>
     ensures { OnOk result (bytes.new.items ≡ bytes.old.items ++ bytes_of_words words) }
 {
     let mut head = [0; 32];
@@ -112,7 +112,7 @@ fn append_elements<L: Ledger>(
     bytes: &mut Vec<u8>,
     shapes: &Shapes,
     steps: &mut Steps<L>,
-) -> Result<(), AllocError>
+) -> Result<(), NoMemory>
     ensures { Appends (element_bytes shapes.now) (count_of_shapes shapes.now) bytes.old.items
         bytes.new.items steps.old steps.new result }
 {
@@ -129,7 +129,7 @@ fn append_triangles<L: Ledger>(
     bytes: &mut Vec<u8>,
     triangles: &[KeptTriangle],
     steps: &mut Steps<L>,
-) -> Result<(), AllocError>
+) -> Result<(), NoMemory>
     ensures { Appends (flat_map triangle_bytes triangles.now) (length triangles.now)
         bytes.old.items bytes.new.items steps.old steps.new result }
 {
@@ -145,7 +145,7 @@ fn append_boxes<L: Ledger>(
     bytes: &mut Vec<u8>,
     boxes: &[KeptBox],
     steps: &mut Steps<L>,
-) -> Result<(), AllocError>
+) -> Result<(), NoMemory>
     ensures { Appends (flat_map aabb_bytes boxes.now) (length boxes.now) bytes.old.items
         bytes.new.items steps.old steps.new result }
 {

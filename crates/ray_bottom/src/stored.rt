@@ -7,7 +7,7 @@ use crate::shapes::Shapes;
 use ray_bytes::Format;
 use ray_flags::Kind;
 use ray_primitives::{are_boxes, are_triangles, boxes_of_bytes, triangles_of_bytes};
-use std::alloc::{AllocError, Global};
+use std::alloc::{AllocError as NoMemory, Global};
 
 /// A geometry as it is stored: the numbers of its head, and its elements. (Own: the layout.)
 #[derive(Drop)]
@@ -42,7 +42,7 @@ impl<'a> Stored<'a> {
     }
 
     // Its primitives.
-    pub(crate) fn shapes(&self, alloc: Global) -> Result<Shapes, AllocError>
+    pub(crate) fn shapes(&self, alloc: Global) -> Result<Shapes, NoMemory>
         requires { let s = self.now in
             IsSome (stored_shapes s.kind s.format s.index_size s.count s.elements.now) }
         ensures value { let s = self.now in IfOk result (λ shapes.
@@ -54,7 +54,7 @@ impl<'a> Stored<'a> {
     }
 
     // Its primitives, where it stands for some.
-    fn read(&self, alloc: Global) -> Result<Option<Shapes>, AllocError>
+    fn read(&self, alloc: Global) -> Result<Option<Shapes>, NoMemory>
         ensures { let s = self.now in IfOk result (λ read.
             read ≡ stored_shapes s.kind s.format s.index_size s.count s.elements.now) }
     {
@@ -79,7 +79,7 @@ fn read_triangles(
     index_size: u8,
     count: u32,
     bytes: &[u8],
-) -> Result<Option<Shapes>, AllocError>
+) -> Result<Option<Shapes>, NoMemory>
     ensures { IfOk result (λ read. read ≡ triangles_of format index_size count bytes.now) }
 {
     if is_index_size(index_size) && bytes.len() == 48 * count as usize {
@@ -103,7 +103,7 @@ fn read_boxes(
     index_size: u8,
     count: u32,
     bytes: &[u8],
-) -> Result<Option<Shapes>, AllocError>
+) -> Result<Option<Shapes>, NoMemory>
     ensures { IfOk result (λ read. read ≡ boxes_of_elements index_size count bytes.now) }
 {
     if index_size == 0 && bytes.len() == 24 * count as usize {

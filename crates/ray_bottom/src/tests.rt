@@ -10,6 +10,7 @@ use ray_geom::{Box3, Matrix, Ray, Steps, Vec3};
 use std::alloc::{AllocError, Global};
 use std::marker::Brand;
 use std::test::Fail;
+use std::thread::Threads;
 
 const fn at(x: i64, y: i64, z: i64) -> Vec3 {
     Vec3 { x, y, z }
@@ -63,14 +64,15 @@ fn info(count: u8, first_vertex: u32, max_vertex: u32) -> TriangleInfo
 }
 
 // A structure of one geometry of triangles.
-fn built(
-    alloc: Global,
+fn built<R: AllocGlobal + Threads + Sync>(
+    rt: &R,
     words: &[i32],
     transform: Option<&[i32]>,
     count: u8,
     first_vertex: u32,
     max_vertex: u32,
 ) -> Result<Bottom, BuildFault> {
+    let alloc = rt.alloc();
     let vertices = bytes_of(alloc, &VERTICES)?;
     let indices = bytes_of(alloc, words)?;
     let matrix = bytes_of(alloc, transform.unwrap_or(&[]))?;
@@ -82,7 +84,7 @@ fn built(
         TransformView::new(matrix.as_slice(), 0),
         info(count, first_vertex, max_vertex),
     )?;
-    let bottom = builder.finish()?;
+    let bottom = builder.finish(rt)?;
     Ok(bottom)
 }
 
@@ -174,7 +176,7 @@ fn reads_indexed_triangles(rt: HostRuntime) {
         ),
     ];
     for (name, indices, count, first, max, want) in cases {
-        let got = told(built(rt.alloc(), indices, None, count, first, max));
+        let got = told(built(&rt, indices, None, count, first, max));
         assert!(rt; got == want, "{name}");
     }
 }
@@ -220,7 +222,7 @@ fn moves_triangles(rt: HostRuntime) {
         ("no matrix, no triangle", [0; 12], 0, 2, (None, None)),
     ];
     for (name, transform, count, max, want) in cases {
-        let got = told(built(rt.alloc(), &[0, 1, 2], Some(&transform), count, 0, max));
+        let got = told(built(&rt, &[0, 1, 2], Some(&transform), count, 0, max));
         assert!(rt; got == want, "{name}");
     }
 }
@@ -255,7 +257,7 @@ fn reads_formats(rt: HostRuntime) -> Result<(), Fail> {
         None,
         None,
     )?;
-    let bottom = builder.finish()?.compact(rt.alloc())?;
+    let bottom = builder.finish(&rt)?.compact(rt.alloc())?;
     assert!(rt; bottom.bounds() == Box3::new(at(0, 0, -2), at(4, 4, 0)));
     assert_eq!(rt;
         (bottom.geometries(), bottom.total(), bottom.active()),
@@ -268,7 +270,7 @@ fn reads_formats(rt: HostRuntime) -> Result<(), Fail> {
 // A triangle that moves, one that becomes inactive, and one with other indices.
 #[test]
 fn updates_triangles(rt: HostRuntime) -> Result<(), Fail> {
-    let old = built(rt.alloc(), &[0, 1, 2], None, 1, 0, 4)?;
+    let old = built(&rt, &[0, 1, 2], None, 1, 0, 4)?;
     assert!(rt; old.flags().0 == 2);
     let vertices = bytes_of(
         rt.alloc(),
@@ -300,7 +302,7 @@ fn updates_triangles(rt: HostRuntime) -> Result<(), Fail> {
         None,
         info(1, 0, 4),
     )?;
-    let new = builder.finish()?;
+    let new = builder.finish(&rt)?;
     assert!(rt; new.flags().0 == 2 && new.total() == 1);
     assert!(rt; new.bounds() == Box3::new(at(-1, 0, 0), at(4, 4, 0)));
     Ok(())
@@ -362,7 +364,7 @@ fn builds_and_meets_boxes(rt: HostRuntime) -> Result<(), Fail> {
     let turned = builder.boxes(&boxes(1), BoxView::new(bytes.as_slice(), 72, 24));
     assert!(rt; fault(turned) == Some((DataRule::X4, Some(0))));
     builder.boxes(&boxes(2), BoxView::new(bytes.as_slice(), 0, 24))?;
-    let bottom = builder.finish()?;
+    let bottom = builder.finish(&rt)?;
     assert!(rt; bottom.total() == 2 && bottom.active() == 1);
     let m = Matrix::identity();
     let Some(Meet::Aabb(span)) = meet(&bottom, 0, 0, &m) else {
@@ -384,7 +386,7 @@ fn fault(added: Result<(), BuildFault>) -> Option<(DataRule, Option<u32>)> {
 // The triangle of the recording, met in the world of a mirrored instance, as it is stored.
 #[test]
 fn meets_and_stores_triangles(rt: HostRuntime) -> Result<(), Fail> {
-    let bottom = built(rt.alloc(), &[0, 1, 2], None, 1, 0, 4)?.copy(rt.alloc())?;
+    let bottom = built(&rt, &[0, 1, 2], None, 1, 0, 4)?.copy(rt.alloc())?;
     let mirrored = Matrix::from_words([-4, 0, 0, 8, 0, 4, 0, 0, 0, 0, 4, 0]).expect(&rt, "m");
     let Some(Meet::Tri(hit)) = meet(&bottom, 0, 0, &mirrored) else {
         return Ok(assert!(rt; false, "a triangle"));
@@ -409,7 +411,7 @@ fn meets_and_stores_triangles(rt: HostRuntime) -> Result<(), Fail> {
     if stored.is_sound() {
         builder.stored(stored)?;
     }
-    let again = builder.finish()?;
+    let again = builder.finish(&rt)?;
     assert!(rt; again.total() == 1 && again.opaque(0) && again.kind(0) == Kind::Triangle);
     assert!(rt; again.count(0) == 1 && again.bounds() == bottom.bounds());
     Ok(())
@@ -418,7 +420,7 @@ fn meets_and_stores_triangles(rt: HostRuntime) -> Result<(), Fail> {
 #[test]
 fn keeps_structures_by_ids(rt: HostRuntime) -> Result<(), Fail> {
     let mut bottoms = Bottoms::new(rt.alloc());
-    let bottom = built(rt.alloc(), &[0, 1, 2], None, 1, 0, 4)?;
+    let bottom = built(&rt, &[0, 1, 2], None, 1, 0, 4)?;
     bottoms.make_room(7)?;
     assert!(rt; bottoms.get(7).is_none());
     bottoms.put(7, bottom);

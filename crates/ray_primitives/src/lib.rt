@@ -41,3 +41,4 @@ pub use crate::stored_laws::{stored_boxes_law, stored_triangles_law};
 pub use crate::stored_triangles::{are_triangles, triangles_of_bytes};
 pub use crate::triangle_info::TriangleInfo;
 pub use crate::triangles::read_triangles;
+pub use std::alloc::AllocError as NoMemory;

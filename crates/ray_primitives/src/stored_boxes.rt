@@ -11,7 +11,7 @@ use byteorder::{ByteOrder, LittleEndian};
 use ray_bytes::is_inactive_mark;
 use ray_contents::{Elements, Point32, point_within};
 use ray_geom::Vec3;
-use std::alloc::{AllocError, Global};
+use std::alloc::{AllocError as NoMemory, Global};
 
 impl KeptBox {
     /// The box as it is stored. (Own: the layout.)
@@ -52,7 +52,7 @@ pub fn boxes_of_bytes(
     alloc: Global,
     bytes: &[u8],
     count: u32,
-) -> Result<Option<Elements<KeptBox>>, AllocError>
+) -> Result<Option<Elements<KeptBox>>, NoMemory>
     requires { 24 * count ≤ length bytes.now }
     ensures { IfOk result (λ read. read ≡ stored_boxes count bytes.now) }
 {

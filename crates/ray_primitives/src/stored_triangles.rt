@@ -14,7 +14,7 @@ use byteorder::{ByteOrder, LittleEndian};
 use ray_bytes::is_inactive_mark;
 use ray_contents::{Elements, Point32, point_within};
 use ray_geom::Vec3;
-use std::alloc::{AllocError, Global};
+use std::alloc::{AllocError as NoMemory, Global};
 
 impl KeptTriangle {
     /// The triangle as it is stored. (Own: the layout.)
@@ -78,7 +78,7 @@ pub fn triangles_of_bytes(
     bytes: &[u8],
     index_size: u8,
     count: u32,
-) -> Result<Option<Elements<KeptTriangle>>, AllocError>
+) -> Result<Option<Elements<KeptTriangle>>, NoMemory>
     requires { 48 * count ≤ length bytes.now }
     ensures { IfOk result (λ read. read ≡ stored_triangles index_size count bytes.now) }
 {
