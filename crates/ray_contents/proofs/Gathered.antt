@@ -181,3 +181,11 @@ pub each-all_some : {X : Type 0} (value : ℕ → Option X) (count : ℕ) (xs : 
     (k : ℕ) (x : X) → slice_get xs k ≡ Some x → value k ≡ Some x
 each-all_some value count xs e k x h =
     required_ok (value k) x ((gathered_all (λ i. required (value i)) count xs (all_given value count xs e)).each k x h)
+
+-- ---- what loops name: to gather with a fault, to gather where a value may be missing, and to test whether there are all
+
+pub ruleset gathering = (gathered_none, gathered_more, gathered_fault)
+
+pub ruleset all_values = (all_some_none, all_some_more, all_some_missing)
+
+pub ruleset has_all = (has_all_none, has_all_more, has_all_missing)

@@ -35,7 +35,7 @@ pub fn read_boxes(
 }
 
 // The boxes of a geometry.
-#[tactic(auto, unfolding(crate::specs::BoxReading::boxes_read), using(ray_contents::proofs::Gathered::gathered_none, ray_contents::proofs::Gathered::gathered_more, ray_contents::proofs::Gathered::gathered_fault))]
+#[tactic(auto, unfolding(crate::specs::BoxReading::boxes_read), using(ray_contents::proofs::Gathered::gathering))]
 fn read(
     alloc: Global,
     info: &BoxInfo,

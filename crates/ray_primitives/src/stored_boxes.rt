@@ -47,7 +47,7 @@ impl KeptBox {
 }
 
 /// The first boxes of bytes, of 24 each. Ok(None) exactly where one of them stands for none.
-#[tactic(auto, using(ray_contents::proofs::Gathered::all_some_none, ray_contents::proofs::Gathered::all_some_more, ray_contents::proofs::Gathered::all_some_missing))]
+#[tactic(auto, using(ray_contents::proofs::Gathered::all_values))]
 pub fn boxes_of_bytes(
     alloc: Global,
     bytes: &[u8],
@@ -67,7 +67,7 @@ pub fn boxes_of_bytes(
 }
 
 /// Whether each of the first boxes of bytes, of 24 each, stands for one.
-#[tactic(auto, using(ray_contents::proofs::Gathered::has_all_none, ray_contents::proofs::Gathered::has_all_more, ray_contents::proofs::Gathered::has_all_missing))]
+#[tactic(auto, using(ray_contents::proofs::Gathered::has_all))]
 pub fn are_boxes(bytes: &[u8], count: u32) -> bool
     requires { 24 * count ≤ length bytes.now }
     ensures { result ≡ is_some (stored_boxes count bytes.now) }

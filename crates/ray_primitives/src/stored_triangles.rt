@@ -72,7 +72,7 @@ impl KeptTriangle {
 }
 
 /// The first triangles of bytes, of 48 each. Ok(None) exactly where one of them stands for none.
-#[tactic(auto, using(ray_contents::proofs::Gathered::all_some_none, ray_contents::proofs::Gathered::all_some_more, ray_contents::proofs::Gathered::all_some_missing))]
+#[tactic(auto, using(ray_contents::proofs::Gathered::all_values))]
 pub fn triangles_of_bytes(
     alloc: Global,
     bytes: &[u8],
@@ -93,7 +93,7 @@ pub fn triangles_of_bytes(
 }
 
 /// Whether each of the first triangles of bytes, of 48 each, stands for one.
-#[tactic(auto, using(ray_contents::proofs::Gathered::has_all_none, ray_contents::proofs::Gathered::has_all_more, ray_contents::proofs::Gathered::has_all_missing))]
+#[tactic(auto, using(ray_contents::proofs::Gathered::has_all))]
 pub fn are_triangles(bytes: &[u8], index_size: u8, count: u32) -> bool
     requires { 48 * count ≤ length bytes.now }
     ensures { result ≡ is_some (stored_triangles index_size count bytes.now) }

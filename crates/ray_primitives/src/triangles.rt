@@ -101,7 +101,7 @@ fn usable_matrix(geometry: u32, matrix: Option<Matrix>) -> Result<Option<Matrix>
 }
 
 // All triangles, or the first rule that is broken.
-#[tactic(auto, using(ray_contents::proofs::Gathered::gathered_none, ray_contents::proofs::Gathered::gathered_more, ray_contents::proofs::Gathered::gathered_fault))]
+#[tactic(auto, using(ray_contents::proofs::Gathered::gathering))]
 fn all(
     alloc: Global,
     source: &TriangleSource<'_>,
