@@ -1,8 +1,9 @@
 # make demo: runs the program on the triangle recording before anything is proved, in under a minute
 # make: proves everything that the program stands on, links it, and leaves it as ./vkray
-# make test: the whole gate: every proof from nothing, the wrong bodies, the tests and the programs
+# make conformance: runs the conformance cases through the library's one call, in seconds once it is proved
+# make test: the whole gate: every proof from nothing, the wrong bodies, the tests, the cases and the programs
 
-.PHONY: all demo test same
+.PHONY: all demo conformance test same
 
 all:
 	cd crates/vkray_cli && rt run -- run < ../../examples/triangle.json > /dev/null
@@ -10,6 +11,9 @@ all:
 
 demo: same
 	cd crates/vkray_cli && rt try -- run < ../../examples/triangle.json
+
+conformance:
+	cd crates/vkray_cases && rt run -- "$(CURDIR)/crates/vkray_cases/data"
 
 test: same
 	rt ci

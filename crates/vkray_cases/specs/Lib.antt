@@ -1,0 +1,4 @@
+pub mod Cases
+pub mod Told
+pub mod Judged
+pub mod Tallies
