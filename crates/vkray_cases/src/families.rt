@@ -6,7 +6,7 @@ use std::{fs, io};
 
 /// Runs the cases of each folder in this one, and prints a line for each. Whether all are answered
 /// as they want.
-pub fn run_families<R: Files + AllocGlobal + Print + Threads + Sync + Clone + Drop>(
+pub fn run_families<R: Files + AllocGlobal + Print + Eprint + Threads + Sync + Clone + Drop>(
     rt: &R,
     folder: &str,
 ) -> io::Result<bool> {
@@ -23,7 +23,7 @@ pub fn run_families<R: Files + AllocGlobal + Print + Threads + Sync + Clone + Dr
 }
 
 // Runs the cases of a family.
-fn run_family<R: Files + AllocGlobal + Print + Threads + Sync + Clone + Drop>(
+fn run_family<R: Files + AllocGlobal + Print + Eprint + Threads + Sync + Clone + Drop>(
     rt: &R,
     folder: &str,
     family: &str,

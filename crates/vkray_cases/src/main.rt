@@ -44,7 +44,7 @@ fn main(rt: HostRuntime) -> ExitCode {
 }
 
 // Runs the cases of the folder that the words name. Whether all are answered as they want.
-fn run<R: Env + Files + AllocGlobal + Print + Threads + Sync + Clone + Drop>(
+fn run<R: Env + Files + AllocGlobal + Print + Eprint + Threads + Sync + Clone + Drop>(
     rt: &R,
 ) -> io::Result<bool> {
     let words: Vec<String> = env::args(rt)?.skip(1).collect(rt.alloc())?;

@@ -10,8 +10,9 @@ use std::rt::Files;
 use std::thread::Threads;
 use std::{fs, io, str};
 
-/// Runs the case of this name in a folder, and prints each answer that differs.
-pub fn run_case<R: Files + AllocGlobal + Print + Threads + Sync>(
+/// Runs the case of this name in a folder, and prints each answer that differs. Its name alone goes to
+/// standard error, too.
+pub fn run_case<R: Files + AllocGlobal + Print + Eprint + Threads + Sync>(
     rt: &R,
     folder: &str,
     name: &str,
@@ -27,6 +28,7 @@ pub fn run_case<R: Files + AllocGlobal + Print + Threads + Sync>(
         }
         Err(ReadFault::Shape) => {
             println!(rt; "{name} is no case")?;
+            eprintln!(rt; "{name} is no case")?;
             Ok(Tally::NO_CASE)
         }
         Err(ReadFault::NoMemory) => Err(io::Error::from(io::ErrorKind::OutOfMemory)),
@@ -56,10 +58,11 @@ fn json(alloc: Global, bytes: &[u8]) -> Result<Value, ReadFault> {
 }
 
 // Prints the answers that differ from those that a case wants.
-fn tell<R: Print>(rt: &R, name: &str, case: &Case, judged: &[Judged]) -> io::Result<()> {
+fn tell<R: Print + Eprint>(rt: &R, name: &str, case: &Case, judged: &[Judged]) -> io::Result<()> {
     for (wanted, judged) in case.answers.as_slice().iter().zip(judged) {
         if !judged.is_met {
             println!(rt; "{name} differs")?;
+            eprintln!(rt; "{name} differs")?;
             println!(rt; "    shows   {}", case.shows.as_str())?;
             println!(rt; "    why     {}", case.why.as_str())?;
             tell_answer(rt, wanted, judged)?;
