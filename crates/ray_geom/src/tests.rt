@@ -31,50 +31,14 @@ fn told(
     Some((hit.t.lowest(), weights.0, weights.1, hit.den_negative))
 }
 
+// Which rays hit which triangles is shown by the conformance cases.
 #[test]
 fn hits_triangles(rt: HostRuntime) {
-    let down = at(0, 0, -1);
-    let up = at(0, 0, 1);
     let corner = (at(0, 0, 0), at(4, 0, 0), at(0, 4, 0));
-    let inside = (at(1, 1, 5), down);
+    let down = at(0, 0, -1);
     let quarters = Some(((5, 1), (1, 4), (1, 4), true));
-    // A square in two triangles, and the middle of their shared edge, from above and from below.
-    let lower = (at(0, 0, 0), at(4, 0, 0), at(4, 4, 0));
-    let upper = (at(0, 0, 0), at(4, 4, 0), at(0, 4, 0));
-    let above = (at(2, 2, 5), down);
-    let below = (at(2, 2, -5), up);
-    // The greatest coordinates, and the same with the third vertex raised by 1.
-    let (left, right) = (at(-524288, -524288, 0), at(524288, -524288, 0));
-    let flat = (left, right, at(0, 524288, 0));
-    let raised = (left, right, at(0, 524288, 1));
-    let long = (at(0, 0, 524288), at(0, 0, -1048576));
-    let all = (0, FAR);
-    let no_weights = Some(((5, 1), (0, 1), (0, 1), true));
-    let from_above = Some(((5, 1), (0, 1), (1, 2), true));
-    let from_below = Some(((5, 1), (0, 1), (1, 2), false));
-    let half = Some(((1, 2), (1, 4), (1, 2), true));
-    let nearly_half = Some(((1048575, 2097152), (1, 4), (1, 2), true));
-    let on_vertex = (at(0, 0, 5), down);
-    let along_plane = (at(-1, 1, 0), at(1, 0, 0));
-    let cases = [
-        ("inside", inside, all, corner, quarters),
-        ("first vertex", on_vertex, all, corner, no_weights),
-        ("edge from above, lower", above, all, lower, from_above),
-        ("edge from above, upper", above, all, upper, None),
-        ("edge from below, lower", below, all, lower, from_below),
-        ("edge from below, upper", below, all, upper, None),
-        ("greatest numbers", long, all, flat, half),
-        ("long fraction", long, all, raised, nearly_half),
-        ("beside", (at(3, 3, 5), down), all, corner, None),
-        ("behind", (at(1, 1, 5), up), all, corner, None),
-        ("in the plane", along_plane, all, corner, None),
-        ("at both ends", inside, (327680, 327680), corner, quarters),
-        ("tmin above", inside, (327681, FAR), corner, None),
-        ("tmax below", inside, (0, 327679), corner, None),
-    ];
-    for (name, ray, interval, tri, want) in cases {
-        assert_eq!(rt; told(ray, interval, tri), want, "{name}");
-    }
+    assert_eq!(rt; told((at(1, 1, 5), down), (0, FAR), corner), quarters);
+    assert_eq!(rt; told((at(3, 3, 5), down), (0, FAR), corner), None);
 }
 
 #[test]
@@ -120,49 +84,14 @@ fn orders_fractions(rt: HostRuntime) {
     }
 }
 
+// The limits of rays and triangles are shown by the conformance cases.
 #[test]
-fn limits_rays(rt: HostRuntime) {
+fn limits_rays_and_triangles(rt: HostRuntime) {
     let zero = at(0, 0, 0);
-    let one = at(1, 0, 0);
-    let far = at(524288, -524288, 524288);
-    let fast = at(-1048576, 1048576, -1048576);
-    let cases = [
-        ("plain", zero, one, 0, FAR, true),
-        ("origin at its limits", far, one, 0, 0, true),
-        ("origin x beyond", at(524289, 0, 0), one, 0, 0, false),
-        ("origin y beyond", at(0, -524289, 0), one, 0, 0, false),
-        ("origin z beyond", at(0, 0, 524289), one, 0, 0, false),
-        ("direction at its limits", zero, fast, 0, 0, true),
-        ("direction x beyond", zero, at(1048577, 0, 0), 0, 0, false),
-        ("direction y beyond", zero, at(0, -1048577, 0), 0, 0, false),
-        ("direction z beyond", zero, at(0, 0, 1048577), 0, 0, false),
-        ("no direction", zero, zero, 0, 0, false),
-        ("direction along z alone", zero, at(0, 0, -1), 0, 0, true),
-        ("tmin at tmax", zero, one, FAR, FAR, true),
-        ("tmin above tmax", zero, one, 1, 0, false),
-        ("tmax beyond", zero, one, 0, FAR + 1, false),
-        ("the least number", at(i64::MIN, 0, 0), one, 0, 0, false),
-    ];
-    for (name, origin, dir, tmin, tmax, want) in cases {
-        assert_eq!(rt; Ray::new(origin, dir, tmin, tmax).is_some(), want, "{name}");
-    }
-}
-
-#[test]
-fn limits_triangles(rt: HostRuntime) {
-    let zero = at(0, 0, 0);
-    let far = at(524288, -524288, 524288);
-    let away = at(-524288, 524288, -524288);
-    let cases = [
-        ("at the limits", far, away, far, true),
-        ("v0 beyond", at(524289, 0, 0), zero, zero, false),
-        ("v1 beyond", zero, at(0, -524289, 0), zero, false),
-        ("v2 beyond", zero, zero, at(0, 0, 524289), false),
-        ("a single point", zero, zero, zero, true),
-    ];
-    for (name, v0, v1, v2, want) in cases {
-        assert_eq!(rt; Tri::new(v0, v1, v2).is_some(), want, "{name}");
-    }
+    assert!(rt; Ray::new(zero, at(0, 0, -1), 0, FAR).is_some());
+    assert!(rt; Ray::new(zero, zero, 0, FAR).is_none());
+    assert!(rt; Tri::new(zero, at(4, 0, 0), at(0, 4, 0)).is_some());
+    assert!(rt; Tri::new(at(524289, 0, 0), zero, zero).is_none());
 }
 
 #[test]
