@@ -1,17 +1,18 @@
-//! The program `vkray_cases`: runs the cases of a conformance corpus through the program's one call,
-//! over sources and sinks in memory, and says which of them is answered otherwise than it wants.
+//! The program `vkray_cases`: runs the cases of a conformance corpus through the program's one
+//! call, over sources and sinks in memory, and says which of them is answered otherwise than it
+//! wants.
 //!
-//! `vkray_cases FOLDER` goes over the folders of FOLDER, each a family, and their files, each a case,
-//! both by name; without a word FOLDER is the folder that it runs in. It prints a line for each
-//! answer that differs, with what was wanted and what came, and a line for each family. It ends
-//! with 0 where all cases are answered as they want, with 1 where one isn't or a file is no case,
-//! and with 2 where the folder can't be read, the words are others, or memory runs out.
+//! `vkray_cases FOLDER` goes over the folders of FOLDER, each a family, and their files, each a
+//! case, both by name; without a word FOLDER is the folder that it runs in. It prints a line for
+//! each answer that differs, with what was wanted and what came, and a line for each family. It
+//! ends with 0 where all cases are answered as they want, with 1 where one isn't or a file is no
+//! case, and with 2 where the folder can't be read, the words are others, or memory runs out.
 //!
 //! A case is a JSON object; `conformance/README.md` describes it, and `specs/Cases` says what one
 //! spells. The contracts that `main` uses: [`Case::read`] reads a case exactly, [`input`] gives the
-//! bytes that it describes, [`ask`] tells what the program answers to them, as the clause of `vkray`
-//! says it, [`judge_all`] asks for each answer of a case and says whether status and text are those
-//! that are wanted, and [`Tally::of_case`] counts those that are not.
+//! bytes that it describes, [`ask`] tells what the program answers to them, as the clause of
+//! `vkray` says it, [`judge_all`] asks for each answer of a case and says whether status and text
+//! are those that are wanted, and [`Tally::of_case`] counts those that are not.
 #![tactic(auto)]
 
 mod asking;

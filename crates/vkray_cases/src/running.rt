@@ -10,8 +10,8 @@ use std::rt::Files;
 use std::thread::Threads;
 use std::{fs, io, str};
 
-/// Runs the case of this name in a folder, and prints each answer that differs. Its name alone goes to
-/// standard error, too.
+/// Runs the case of this name in a folder, and prints each answer that differs. The name of such a
+/// case goes to standard error, too.
 pub fn run_case<R: Files + AllocGlobal + Print + Eprint + Threads + Sync>(
     rt: &R,
     folder: &str,
