@@ -4,10 +4,9 @@ use std::test::Fail;
 use std::thread::Threads;
 use vkray::{NoGate, Status, vkray};
 
-/// How a call of the program went: its words, its source and its sink.
+/// How `run` is called: its source and its sink.
 #[derive(Clone, Copy)]
 pub(crate) struct Call<'a> {
-    pub(crate) words: &'a [&'a str],
     pub(crate) input: &'a [u8],
     /// How many bytes the source gives a call at most.
     pub(crate) read_piece: u32,
@@ -24,7 +23,6 @@ pub(crate) struct Call<'a> {
 /// `run` on an input, with a source and a sink that never fail.
 pub(crate) fn run(input: &[u8]) -> Call<'_> {
     Call {
-        words: &["run"],
         input,
         read_piece: 65536,
         read_fails: None,
@@ -40,10 +38,7 @@ pub(crate) fn answer<R: Threads + Sync>(
     alloc: Global,
     call: &Call<'_>,
 ) -> Result<(Status, MemSink), Fail> {
-    let mut words = Vec::new(alloc);
-    for word in call.words {
-        words.push(String::from_str(alloc, word)?)?;
-    }
+    let words = vec![in alloc; String::from_str(alloc, "run")?]?;
     let piece = call.read_piece.max(1);
     let mut source = MemSource::new(
         call.input.to_vec(alloc)?,

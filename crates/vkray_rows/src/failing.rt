@@ -1,5 +1,5 @@
 use crate::answer::{Call, answer, run};
-use crate::triangle::{LINE, RAY, VERTICES, recording};
+use crate::triangle::{LINE, RECORDING};
 use std::test::Fail;
 use vkray::Status;
 
@@ -9,12 +9,11 @@ const CALLS: u32 = 3;
 
 #[test]
 fn each_failing_read_is_a_read_fault(rt: HostRuntime) -> Result<(), Fail> {
-    let input = recording(rt.alloc(), VERTICES, RAY)?;
     for k in 0..CALLS {
         let call = Call {
             read_piece: 1000,
             read_fails: Some(k),
-            ..run(input.as_bytes())
+            ..run(RECORDING.as_bytes())
         };
         let (status, sink) = answer(&rt, rt.alloc(), &call)?;
         assert_eq!(rt; status, Status::ReadFault, "{k}");
@@ -23,7 +22,7 @@ fn each_failing_read_is_a_read_fault(rt: HostRuntime) -> Result<(), Fail> {
     let call = Call {
         read_piece: 1000,
         read_fails: Some(CALLS),
-        ..run(input.as_bytes())
+        ..run(RECORDING.as_bytes())
     };
     let (status, _sink) = answer(&rt, rt.alloc(), &call)?;
     assert_eq!(rt; status, Status::Done);
@@ -32,12 +31,11 @@ fn each_failing_read_is_a_read_fault(rt: HostRuntime) -> Result<(), Fail> {
 
 #[test]
 fn each_failing_write_is_a_write_fault(rt: HostRuntime) -> Result<(), Fail> {
-    let input = recording(rt.alloc(), VERTICES, RAY)?;
     for (k, _) in LINE.as_bytes().iter().enumerate() {
         let call = Call {
             write_piece: 1,
             write_fails: Some(k as u32),
-            ..run(input.as_bytes())
+            ..run(RECORDING.as_bytes())
         };
         let (status, sink) = answer(&rt, rt.alloc(), &call)?;
         assert_eq!(rt; status, Status::WriteFault, "{k}");
@@ -48,11 +46,10 @@ fn each_failing_write_is_a_write_fault(rt: HostRuntime) -> Result<(), Fail> {
 
 #[test]
 fn a_full_sink_is_a_write_fault(rt: HostRuntime) -> Result<(), Fail> {
-    let input = recording(rt.alloc(), VERTICES, RAY)?;
     for (k, _) in LINE.as_bytes().iter().enumerate() {
         let call = Call {
             room: k as u32,
-            ..run(input.as_bytes())
+            ..run(RECORDING.as_bytes())
         };
         let (status, sink) = answer(&rt, rt.alloc(), &call)?;
         assert_eq!(rt; status, Status::WriteFault, "{k}");
