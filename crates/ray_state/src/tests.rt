@@ -3,8 +3,8 @@ ghost use Rattle.ray_state.specs.Action.{device_action_at, has_meaning};
 
 use crate::task::Task;
 use crate::{FetchFault, Output, Piece, PieceOut, State, fetch, pieces, store};
-use ray_bytes::{DataRule, HitRecord};
-use ray_cmd::{Place, Recording, read_recording};
+use ray_bytes::HitRecord;
+use ray_cmd::{Recording, read_recording};
 use ray_geom::Steps;
 use std::alloc::Global;
 use std::marker::Brand;
@@ -124,58 +124,14 @@ fn run<R: Threads + Sync>(
     Ok(text)
 }
 
+// What recordings come to is shown by the conformance cases.
 #[test]
-fn runs_recordings(rt: HostRuntime) -> Result<(), Fail> {
-    let beyond = FetchFault::Data(DataRule::X2, Place::Element(0, 0, 0));
-    let no_direction = FetchFault::Data(DataRule::X11, Place::Part(0));
-    // Each row has the triangle recording with the first of one text turned into another.
-    let rows: [(&str, &str, &str, Result<&str, (u32, FetchFault)>); 6] = [
-        (
-            "the triangle recording",
-            "[",
-            "[",
-            Ok("0 tri inst 0 custom 0 sbt 0 geom 0 prim 0 face 1 t 5/1 u 1/4 v 1/4\n"),
-        ),
-        (
-            "a ray beside the triangle",
-            r#""data":"0100000001"#,
-            r#""data":"0500000001"#,
-            Ok("0 none\n"),
-        ),
-        (
-            "an inactive triangle",
-            r#""data":"00000000"#,
-            r#""data":"00000080"#,
-            Ok("0 none\n"),
-        ),
-        (
-            "an inactive triangle with a coordinate beyond the limits",
-            r#""data":"0000000000000000"#,
-            r#""data":"00000080ffffff7f"#,
-            Ok("0 none\n"),
-        ),
-        (
-            "the second vertex beyond the limits",
-            "04000000",
-            "01000800",
-            Err((7, beyond)),
-        ),
-        (
-            "a ray without a direction",
-            "ffffffff",
-            "00000000",
-            Err((TRACE, no_direction)),
-        ),
-    ];
-    for (name, from, to, want) in rows {
-        let json = TRIANGLE.replacen(rt.alloc(), from, to, 1)?;
-        let rec = read_recording(rt.alloc(), json.as_bytes())?;
-        let got = run(&rt, rt.alloc(), &rec);
-        match (got, want) {
-            (Ok(text), Ok(want)) => assert_eq!(rt; text.as_slice(), want.as_bytes(), "{name}"),
-            (Ok(_), Err(want)) => assert_eq!(rt; None, Some(want), "{name}"),
-            (Err(fault), want) => assert_eq!(rt; Some(fault), want.err(), "{name}"),
-        }
+fn runs_a_recording(rt: HostRuntime) -> Result<(), Fail> {
+    let line = "0 tri inst 0 custom 0 sbt 0 geom 0 prim 0 face 1 t 5/1 u 1/4 v 1/4\n";
+    let rec = read_recording(rt.alloc(), TRIANGLE.as_bytes())?;
+    match run(&rt, rt.alloc(), &rec) {
+        Ok(text) => assert_eq!(rt; text.as_slice(), line.as_bytes()),
+        Err(fault) => assert_eq!(rt; Some(fault), None),
     }
     Ok(())
 }
