@@ -1,5 +1,5 @@
 -- What holds of the boxes of all active primitives holds of one; and where a transform keeps bounds, it keeps each of them.
-use Rattle.std.proofs.Common.{ℕ, ◌≡◌, ◌^◌, ◌++◌, zero, suc, List, [], ◌∷◌, length, Option, Some, None, option_map, get_or, refl, sym, ap, subst, ◌∙◌, arith}
+use Rattle.std.proofs.Common.{ℕ, ◌≡◌, ◌++◌, zero, suc, List, [], ◌∷◌, Option, Some, None, option_map, get_or, refl, sym, ap, subst, arith}
 use Rattle.std.specs.Prelude.{All, IfSome, slice_get}
 use Rattle.std.specs.List.{filter_map, cons_option, flat_map}
 use Rattle.std.proofs.lemmas.List.Elements.{All-cons, All-tail, All-nil}
@@ -8,9 +8,9 @@ use Rattle.ray_geom.specs.Scene.{RayValue, TriValue}
 use Rattle.ray_geom.specs.HitValue.{hit_of}
 use Rattle.ray_geom.specs.ObjectRay.{ObjectRayValue, object_of}
 use Rattle.ray_prune.specs.BoxReach.{span_of}
-use Rattle.ray_geom.specs.Boxes.{BoxValue, IsPart}
+use Rattle.ray_geom.specs.Boxes.{BoxValue}
 use Rattle.ray_geom.specs.Transform.{MatrixValue, world_tri}
-use Rattle.ray_geom.specs.LeastBoxes.{box_of_boxes, box_of_tri, HoldsBoxes, IsLeast}
+use Rattle.ray_geom.specs.LeastBoxes.{box_of_tri, HoldsBoxes, IsLeast}
 use Rattle.ray_geom.proofs.LeastBoxes.{IsLeastOf-boxes, IsLeast-tri, IsIn-part}
 use Rattle.ray_prune.proofs.Corners.{IsShort-image}
 use Rattle.ray_contents.specs.Bounds.{KeepsBounds}

@@ -5,9 +5,6 @@ use Rattle.ray_bytes.specs.declared.format.Format.{Format}
 use Rattle.ray_bytes.specs.declared.data_fault.DataFault.{DataFault}
 use Rattle.ray_bytes.specs.Records.{index_size}
 use Rattle.ray_bytes.specs.Views.{Vertices, Indices, Boxes}
-use Rattle.ray_flags.specs.declared.kind.Kind.{Kind}
-use Rattle.ray_flags.specs.declared.kind.Kind.TheVariants.{Triangle, Aabb}
-use Rattle.ray_flags.specs.declared.build_flags.BuildFlags.{BuildFlags}
 use Rattle.ray_primitives.specs.declared.triangle_info.TriangleInfo.{TriangleInfo}
 use Rattle.ray_primitives.specs.declared.box_info.BoxInfo.{BoxInfo}
 use Rattle.ray_primitives.specs.declared.build_fault.BuildFault.{BuildFault}
@@ -18,7 +15,7 @@ use Rattle.ray_primitives.specs.BoxReading.{boxes_read}
 use Rattle.ray_bottom.specs.declared.geometry.Geometry.{Geometry}
 use Rattle.ray_bottom.specs.declared.shapes.Shapes.{Shapes}
 use Rattle.ray_bottom.specs.declared.shapes.Shapes.TheVariants as shapes
-use Rattle.ray_bottom.specs.Contents.{ContentsValue, with_geometry, kind_of, count_of}
+use Rattle.ray_bottom.specs.Contents.{ContentsValue, with_geometry}
 
 -- a builder: the contents so far, and those of the structure that is updated, if one is
 pub record BuilderValue : Type 0 where

@@ -8,7 +8,7 @@ use Rattle.ray_flags.specs.declared.kind.Kind.{Kind}
 use Rattle.ray_flags.specs.declared.kind.Kind.TheVariants.{Triangle, Aabb}
 use Rattle.ray_flags.specs.declared.build_flags.BuildFlags.{BuildFlags}
 use Rattle.ray_flags.specs.Flags.{build_has, PreferFastTrace, PreferFastBuild}
-use Rattle.ray_primitives.specs.Primitives.{TriangleValue, IsTriangleOf, IsAabb, box_of_triangle}
+use Rattle.ray_primitives.specs.Primitives.{IsTriangleOf, IsAabb, box_of_triangle}
 use Rattle.ray_bottom.specs.declared.geometry.Geometry.{Geometry}
 use Rattle.ray_bottom.specs.declared.shapes.Shapes.{Shapes}
 use Rattle.ray_bottom.specs.declared.shapes.Shapes.TheVariants.{Triangles, Boxes}

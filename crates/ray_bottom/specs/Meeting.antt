@@ -1,5 +1,5 @@
 -- What a ray meets of a primitive of a structure that an instance places in the world. (Vulkan, "Ray Traversal".)
-use Rattle.std.specs.Prelude.{ℕ, ◌^◌, Option, Some, None, option_map, option_and_then, List, All, slice_get}
+use Rattle.std.specs.Prelude.{ℕ, ◌^◌, Option, option_map, option_and_then, List, All, slice_get}
 use Rattle.ray_geom.specs.declared.vec3.Vec3.{Vec3}
 use Rattle.ray_geom.specs.Vector.{IsShort}
 use Rattle.ray_geom.specs.Scene.{RayValue, TriValue}

@@ -1,5 +1,5 @@
 -- Structures by their ids. (Own: ids stand for the handles of VkAccelerationStructureKHR.)
-use Rattle.std.specs.Prelude.{ℕ, ◌≡◌, ◌==◌, Bool, if◌then◌else◌, Option, Some, None, option_and_then, is_some, List}
+use Rattle.std.specs.Prelude.{ℕ, ◌≡◌, ◌==◌, Bool, if◌then◌else◌, Option, option_and_then, is_some, List}
 use Rattle.std.specs.Map.{lookup}
 use Rattle.std.specs.BTreeMap.{is_at}
 use Rattle.std.specs.Ordering.{nat_cmp}

@@ -1,23 +1,21 @@
 -- The boxes that are read are within the limits.
-use Rattle.std.proofs.Common.{ℕ, ◌≡◌, ◌^◌, ◌&&◌, not, Bool, true, false, Result, Ok, Err, Option, Some, None, List, length, drop, refl, sym, ap, subst, ◌∙◌, arith}
+use Rattle.std.proofs.Common.{ℕ, ◌≡◌, ◌^◌, ◌&&◌, not, Bool, true, false, Result, Ok, Err, Option, Some, None, List, length, drop, refl, ap, subst, arith}
 use Rattle.std.specs.Prelude.{ℤ, int_lt, ◌≤ℤ◌, All, is_some, if◌then◌else◌}
 use Rattle.std.specs.Bool.{beq}
 use Rattle.std.proofs.lemmas.Int.{ints}
 use Rattle.ray_geom.specs.declared.vec3.Vec3.{Vec3}
 use Rattle.ray_geom.specs.Vector.{IsShort, point_of}
-use Rattle.ray_geom.specs.Boxes.{BoxValue, IsBox, IsBelow, box_value}
+use Rattle.ray_geom.specs.Boxes.{BoxValue, IsBelow, box_value}
 use Rattle.ray_bytes.specs.declared.data_rule.DataRule.{DataRule}
 use Rattle.ray_bytes.specs.declared.data_rule.DataRule.TheVariants.{X4, X9}
-use Rattle.ray_bytes.specs.declared.data_fault.DataFault.{DataFault}
 use Rattle.ray_bytes.specs.InactiveMark.{is_inactive_mark}
 use Rattle.ray_bytes.specs.Views.{Boxes}
-use Rattle.ray_contents.specs.Gathering.{gathered}
 use Rattle.ray_contents.specs.Limits.{point_within}
 use Rattle.ray_contents.proofs.Gathered.{All-gathered, gathered_all}
 use Rattle.ray_primitives.specs.declared.box_info.BoxInfo.{BoxInfo}
 use Rattle.ray_primitives.specs.Primitives.{IsAabb}
 use Rattle.ray_primitives.specs.Updates.{old_at, box_after}
-use Rattle.ray_primitives.specs.BoxReading.{box_words, is_ordered, ordered_box, boxed, box_from, box_read, updated_box, box_element, boxes_read}
+use Rattle.ray_primitives.specs.BoxReading.{box_words, is_ordered, boxed, box_from, box_read, updated_box, box_element, boxes_read}
 use Rattle.ray_primitives.proofs.Results.{element_ok, if_ok, ok_same, short_within}
 
 at_most_by : (a b : ℤ) → not (int_lt b a) ≡ true → a ≤ℤ b

@@ -1,11 +1,11 @@
 -- The limits of the primitives as they are kept.
-use Rattle.std.proofs.Common.{◌≡◌, Bool, true, false, Option, Some, None, sym, subst}
-use Rattle.std.specs.Prelude.{IfSome, if◌then◌else◌}
+use Rattle.std.proofs.Common.{Bool, true, false}
+use Rattle.std.specs.Prelude.{if◌then◌else◌}
 use Rattle.ray_geom.specs.declared.vec3.Vec3.{Vec3}
-use Rattle.ray_geom.specs.Scene.{TriValue, IsTri, tri_value}
+use Rattle.ray_geom.specs.Scene.{IsTri, tri_value}
 use Rattle.ray_bytes.specs.InactiveMark.{is_inactive_mark}
 use Rattle.ray_primitives.specs.declared.index_values.IndexValues.{IndexValues}
-use Rattle.ray_primitives.specs.Primitives.{TriangleValue, IsTriangle, active_triangle, inactive_triangle, kept_triangle}
+use Rattle.ray_primitives.specs.Primitives.{IsTriangle, active_triangle, inactive_triangle, kept_triangle}
 
 by_mark : (marked : Bool) (a b c : Vec3) (indices : IndexValues) → IsTri (tri_value a b c) →
     IsTriangle (if marked then inactive_triangle indices else active_triangle a b c indices)

@@ -1,5 +1,5 @@
 -- What is Ok, and what follows of it.
-use Rattle.std.proofs.Common.{ℕ, ◌^◌, ◌≡◌, Bool, true, false, Result, Ok, Err, Option, Some, None, refl, sym, subst, ◌∙◌}
+use Rattle.std.proofs.Common.{ℕ, ◌^◌, ◌≡◌, Bool, true, false, Result, Ok, Err, Some, refl, subst}
 use Rattle.std.specs.Prelude.{IfOk, if◌then◌else◌}
 use Rattle.ray_geom.specs.declared.vec3.Vec3.{Vec3}
 use Rattle.ray_geom.specs.Vector.{IsShort}

@@ -1,9 +1,9 @@
 -- The primitives that are read of their stored form are within the limits.
-use Rattle.std.proofs.Common.{ℕ, ◌≡◌, ◌^◌, ◌&&◌, Bool, true, false, List, length, Option, Some, None, refl, sym, ap, subst}
+use Rattle.std.proofs.Common.{ℕ, ◌≡◌, ◌^◌, ◌&&◌, Bool, true, false, List, length, Option, Some, None, refl, sym, subst}
 use Rattle.std.specs.Prelude.{IfSome, All, if◌then◌else◌}
 use Rattle.ray_geom.specs.declared.vec3.Vec3.{Vec3}
 use Rattle.ray_geom.specs.Vector.{IsShort}
-use Rattle.ray_geom.specs.Boxes.{BoxValue, IsBox, IsBelow, box_value}
+use Rattle.ray_geom.specs.Boxes.{BoxValue, box_value}
 use Rattle.ray_bytes.specs.InactiveMark.{is_inactive_mark}
 use Rattle.ray_contents.specs.Limits.{point_within}
 use Rattle.ray_contents.proofs.Gathered.{length-all_some, All-all_some}

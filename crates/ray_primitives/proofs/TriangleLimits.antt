@@ -1,17 +1,15 @@
 -- The triangles that are read are within the limits, and their index values fit.
-use Rattle.std.proofs.Common.{ℕ, ◌≡◌, ◌^◌, ◌+◌, ◌*◌, ◌==◌, ◌&&◌, nat_le, Bool, true, false, Result, Ok, Err, Option, Some, None, List, length, refl, sym, ap, subst, ◌∙◌}
+use Rattle.std.proofs.Common.{ℕ, ◌≡◌, ◌^◌, ◌+◌, ◌*◌, ◌==◌, ◌&&◌, nat_le, Bool, true, false, Result, Ok, Err, Option, Some, None, List, length, refl, sym, ap, subst}
 use Rattle.std.specs.Prelude.{All, is_some, option_and_then, if◌then◌else◌}
 use Rattle.std.specs.Bool.{beq}
 use Rattle.ray_geom.specs.declared.vec3.Vec3.{Vec3}
 use Rattle.ray_geom.specs.Vector.{IsShort}
-use Rattle.ray_geom.specs.Scene.{tri_value}
-use Rattle.ray_geom.specs.Transform.{MatrixValue, image_of, matrix_of, table_of}
+use Rattle.ray_geom.specs.Transform.{MatrixValue, image_of}
 use Rattle.ray_bytes.specs.declared.data_rule.DataRule.{DataRule}
-use Rattle.ray_bytes.specs.declared.data_rule.DataRule.TheVariants.{X1, X2, X9, X10}
+use Rattle.ray_bytes.specs.declared.data_rule.DataRule.TheVariants.{X9, X10}
 use Rattle.ray_bytes.specs.declared.data_fault.DataFault.{DataFault}
 use Rattle.ray_bytes.specs.InactiveMark.{is_inactive_mark}
 use Rattle.ray_bytes.specs.Views.{Vertices, Indices}
-use Rattle.ray_contents.specs.Gathering.{gathered}
 use Rattle.ray_contents.specs.Limits.{point_within}
 use Rattle.ray_contents.proofs.Gathered.{All-gathered, gathered_all}
 use Rattle.ray_primitives.specs.declared.index_values.IndexValues.{IndexValues}

@@ -1,5 +1,5 @@
 -- What a reading gives, and where a data rule is broken.
-use Rattle.std.specs.Prelude.{ℕ, ◌≡◌, Result, Ok, Err, Option, Some, None}
+use Rattle.std.specs.Prelude.{ℕ, ◌≡◌, Result, Ok, Err, Some, None}
 use Rattle.ray_bytes.specs.declared.data_rule.DataRule.{DataRule}
 use Rattle.ray_bytes.specs.declared.data_fault.DataFault.{DataFault}
 use Rattle.ray_primitives.specs.declared.build_fault.BuildFault.{BuildFault}

@@ -4,7 +4,7 @@
 --
 -- By hand, the triangle (0,0,0), (4,0,0), (0,4,0) without indices is stored as 12 zero bytes, 04 00 00 00 and 8 zero bytes,
 -- 00 00 00 00, 04 00 00 00 and 4 zero bytes, and 12 zero bytes.
-use Rattle.std.specs.Prelude.{ℕ, ℤ, pos, ◌+◌, ◌*◌, ◌&&◌, Bool, if◌then◌else◌, Option, Some, None, List, [], ◌∷◌, ◌++◌, take, drop}
+use Rattle.std.specs.Prelude.{ℕ, pos, ◌+◌, ◌*◌, ◌&&◌, Bool, if◌then◌else◌, Option, Some, None, List, [], ◌∷◌, ◌++◌, take, drop}
 use Rattle.std.specs.Int.{w32, cast_unsigned}
 use Rattle.std.specs.List.{flat_map}
 use Rattle.std.specs.Ordering.{int_eq}
