@@ -1,10 +1,10 @@
 -- What is gathered of one element more, and that the gathered are the first fault, else all.
 use Rattle.std.proofs.Common.{ℕ, zero, suc, ◌≡◌, ◌<◌, ◌≤◌, ◌+◌, ◌-◌, ◌++◌, List, [], ◌∷◌, length, take, Result, Ok, Err, Option, Some, None, refl, sym, ap, subst, ◌∙◌, arith, add-one, length-append}
 use Rattle.std.proofs.Common.{get_or}
-use Rattle.std.specs.Prelude.{Bool, true, false, IsOk, is_some, slice_get, All}
+use Rattle.std.specs.Prelude.{true, false, IsOk, is_some, slice_get, All}
 use Rattle.std.proofs.Math.Seq.{take-length}
 use Rattle.std.proofs.lemmas.Option.{slice_get-get_or}
-use Rattle.ray_contents.specs.Gathering.{with_next, gathered, AreAll, IsFirst, IsFirstOrAll, required, given, all_some}
+use Rattle.ray_contents.specs.Gathering.{with_next, gathered, AreAll, IsFirstOrAll, required, given, all_some}
 
 -- what a loop that reads one element after the other cites: nothing, one more, a fault
 pub gathered_none : {X F : Type 0} (element : ℕ → Result X F) → gathered element 0 ≡ Ok []

@@ -1,5 +1,5 @@
 -- Bounds: how they grow, and what it is that a transform keeps them within the limits.
-use Rattle.std.specs.Prelude.{Option, Some, None, List}
+use Rattle.std.specs.Prelude.{Option, Some, None}
 use Rattle.ray_geom.specs.Boxes.{BoxValue}
 use Rattle.ray_geom.specs.Transform.{MatrixValue}
 use Rattle.ray_geom.specs.LeastBoxes.{joined_of}
