@@ -1,0 +1,4 @@
+pub mod Index
+pub mod Corners
+pub mod Limits
+pub mod Counting

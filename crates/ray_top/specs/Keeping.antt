@@ -1,0 +1,33 @@
+-- Words of private types alone, which a reader of the public contracts needs not.
+use Rattle.std.specs.Prelude.{ℕ, ℤ, ◌≡◌, Option, List}
+use Rattle.std.specs.Map.{lookup}
+use Rattle.std.specs.BTreeMap.{is_at}
+use Rattle.std.specs.Ordering.{nat_cmp}
+use Rattle.ray_geom.specs.Boxes.{BoxValue}
+use Rattle.ray_geom.specs.Transform.{MatrixValue, matrix_of, table_of}
+use Rattle.ray_flags.specs.declared.instance_flags.InstanceFlags.{InstanceFlags}
+use Rattle.ray_top.specs.declared.used.Used.{Used}
+use Rattle.ray_top.specs.Instances.{InstanceValue}
+use Rattle.ray_top.specs.InstanceReading.{bounds_in}
+use Rattle.ray_top.specs.Contents.{TopValue, IsTop, active_of}
+
+-- what a map of ids has under one
+abbrev pub bounds_at : ℕ → List (ℕ × Option BoxValue) → Option (Option BoxValue)
+bounds_at id entries = lookup (is_at (nat_cmp id)) entries
+
+-- a map of ids has what stands beside each in a list
+pub record IsIndex (used : List Used) (entries : List (ℕ × Option BoxValue)) : Type 0 where
+  pub each : (id : ℕ) → bounds_at id entries ≡ bounds_in used id
+
+-- the transform of twelve numbers, row by row, and the instance of what is kept of one
+unfoldable pub matrix_from : List ℤ → MatrixValue
+matrix_from rows = matrix_of (table_of rows)
+
+abbrev pub instance_value : List ℤ → ℕ → ℕ → ℕ → InstanceFlags → ℕ → InstanceValue
+instance_value rows custom mask sbt flags id =
+    record { matrix = matrix_from rows; custom = custom; mask = mask; sbt = sbt; flags = flags; id = id }
+
+-- a top structure within the limits, with the number of its active instances
+pub record IsCounted (t : TopValue) (active : ℕ) : Type 0 where
+  pub limits : IsTop t
+  pub active_is : active ≡ active_of t.contents.instances

@@ -1,0 +1,4 @@
+pub mod Instances
+pub mod InstanceReading
+pub mod Contents
+pub mod Keeping
