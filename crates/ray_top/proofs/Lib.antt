@@ -2,3 +2,4 @@ pub mod Index
 pub mod Corners
 pub mod Limits
 pub mod Counting
+pub mod Causes

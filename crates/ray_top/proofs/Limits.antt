@@ -20,7 +20,7 @@ use Rattle.ray_contents.proofs.Gathered.{All-gathered, gathered_all}
 use Rattle.ray_primitives.specs.Updates.{old_at}
 use Rattle.ray_primitives.proofs.Results.{element_ok, if_ok, ok_same}
 use Rattle.ray_top.specs.declared.used.Used.{Used}
-use Rattle.ray_top.specs.Instances.{InstanceValue, instance_from, matrix_in, flags_in, forces_both}
+use Rattle.ray_top.specs.Instances.{InstanceValue, instance_from, matrix_from, flags_in, forces_both}
 use Rattle.ray_top.specs.InstanceReading.{bounds_in, bounds_kept, forced, limited, in_use, referring, instance_read, instance_after, updated_instance, record_in, instance_element, instances_read}
 use Rattle.ray_top.specs.Contents.{IsInstance}
 use Rattle.ray_top.proofs.Corners.{KeepsBounds-kept}
@@ -45,7 +45,7 @@ where_is : {P X : Type 0} (d : Dec P) (x y : X) → where_so d x ≡ Some y → 
 where_is (yes p) x y e = (p, cc)
 where_is (no n) x y e = absurd cc
 
-matrix_is : (m p : MatrixValue) → matrix_within m ≡ Some p → IsMatrix m × (m ≡ p)
+pub matrix_is : (m p : MatrixValue) → matrix_within m ≡ Some p → IsMatrix m × (m ≡ p)
 unfolding matrix_within
 matrix_is m p e = where_is (matrix_decided m) m p e
 
@@ -54,13 +54,13 @@ inactive_limits used i r p e = subst (λ x. IsInstance used x) (ok_same None i r
 
 -- one instance, by what was found of it
 limited_limits : (used : List Used) (from : InstanceRecord) (id : ℕ) (bounds : Option BoxValue) (within : Option MatrixValue) (i : Option InstanceValue) →
-    IsRecord from → bounds_in used id ≡ Some bounds → matrix_within (matrix_in from) ≡ within → limited from id bounds within ≡ Ok i → IsInstance used i
+    IsRecord from → bounds_in used id ≡ Some bounds → matrix_within (matrix_from from.rows) ≡ within → limited from id bounds within ≡ Ok i → IsInstance used i
 limited_limits used from id bounds None i is_record p q e = absurd cc
 limited_limits used from id bounds (Some m) i is_record p q e =
-    let matrix = matrix_is (matrix_in from) m q in
+    let matrix = matrix_is (matrix_from from.rows) m q in
     let bounded = if_ok (bounds_kept m bounds) (forced from id) X7 i e in
     let once = if_not (forces_both (flags_in from)) (Ok (Some (instance_from from id))) X8 i bounded.1 in
-    let keeps : KeepsBounds (matrix_in from) bounds = subst (λ n. KeepsBounds n bounds) (sym matrix.1) (KeepsBounds-kept m bounds bounded.0) in
+    let keeps : KeepsBounds (matrix_from from.rows) bounds = subst (λ n. KeepsBounds n bounds) (sym matrix.1) (KeepsBounds-kept m bounds bounded.0) in
     subst (λ x. IsInstance used x) (ok_same (Some (instance_from from id)) i (Ok (Some (instance_from from id))) refl once.1)
     (record {
       limits = record {
@@ -69,14 +69,14 @@ limited_limits used from id bounds (Some m) i is_record p q e =
         sbt = is_record.sbt;
         flags = low_flags from.flags;
         not_both = once.0;
-        kept = subst (λ o. IsSomeAnd o (KeepsBounds (matrix_in from))) (sym p) keeps;
+        kept = subst (λ o. IsSomeAnd o (KeepsBounds (matrix_from from.rows))) (sym p) keeps;
       };
     })
 
 in_use_limits : (used : List Used) (from : InstanceRecord) (id : ℕ) (known : Option (Option BoxValue)) (i : Option InstanceValue) →
     IsRecord from → bounds_in used id ≡ known → in_use from id known ≡ Ok i → IsInstance used i
 in_use_limits used from id None i is_record p e = absurd cc
-in_use_limits used from id (Some bounds) i is_record p e = limited_limits used from id bounds (matrix_within (matrix_in from)) i is_record p refl e
+in_use_limits used from id (Some bounds) i is_record p e = limited_limits used from id bounds (matrix_within (matrix_from from.rows)) i is_record p refl e
 
 referring_limits : (used : List Used) (from : InstanceRecord) (reference : Reference) (i : Option InstanceValue) →
     IsRecord from → referring used from reference ≡ Ok i → IsInstance used i

@@ -26,7 +26,7 @@ use Rattle.ray_contents.specs.Limits.{image_within, matrix_within}
 use Rattle.ray_primitives.specs.Outcomes.{at_element}
 use Rattle.ray_primitives.specs.Updates.{old_at}
 use Rattle.ray_top.specs.declared.used.Used.{Used}
-use Rattle.ray_top.specs.Instances.{InstanceValue, instance_from, matrix_in, flags_in, forces_both}
+use Rattle.ray_top.specs.Instances.{InstanceValue, instance_from, matrix_from, flags_in, forces_both}
 
 -- ---- the structures in use
 
@@ -65,7 +65,7 @@ limited from id bounds (Some m) = bounded from id bounds m
 -- the same where its structure is in use; X5 where it isn't
 abbrev pub in_use : InstanceRecord → ℕ → Option (Option BoxValue) → Result (Option InstanceValue) DataRule
 in_use from id None = Err X5
-in_use from id (Some bounds) = limited from id bounds (matrix_within (matrix_in from))
+in_use from id (Some bounds) = limited from id bounds (matrix_within (matrix_from from.rows))
 
 -- the instance of a record with what it refers to: with no structure it is inactive, and nothing else of it is looked at;
 -- a number that is the reference of no id breaks X5

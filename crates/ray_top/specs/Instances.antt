@@ -1,6 +1,6 @@
 -- The instances of top structures, and how a record of the buffer says one. (VkAccelerationStructureInstanceKHR, with whole
 -- numbers in its transform and a reference in place of a device address.)
-use Rattle.std.specs.Prelude.{ℕ, ◌%◌, ◌&&◌, Bool, true, false, Option, Some, None}
+use Rattle.std.specs.Prelude.{ℕ, ℤ, ◌%◌, ◌&&◌, Bool, true, false, Option, Some, None, List}
 use Rattle.ray_geom.specs.Transform.{MatrixValue, matrix_of, table_of, identity_value}
 use Rattle.ray_bytes.specs.declared.instance_record.InstanceRecord.{InstanceRecord}
 use Rattle.ray_flags.specs.declared.instance_flags.InstanceFlags.{InstanceFlags}
@@ -17,17 +17,18 @@ pub record InstanceValue : Type 0 where
   pub flags : InstanceFlags
   pub id : ℕ
 
--- the transform of a record, and its four flags: bits above 8 are dropped
-unfoldable pub matrix_in : InstanceRecord → MatrixValue
-matrix_in from = matrix_of (table_of from.rows)
+-- the transform of the twelve numbers of a record, row by row
+unfoldable pub matrix_from : List ℤ → MatrixValue
+matrix_from rows = matrix_of (table_of rows)
 
+-- the four flags of a record: bits above 8 are dropped
 abbrev pub flags_in : InstanceRecord → InstanceFlags
 flags_in from = record { 0 = from.flags % 16 }
 
 -- the instance of a record whose reference is that of this id
 abbrev pub instance_from : InstanceRecord → ℕ → InstanceValue
 instance_from from id = record {
-  matrix = matrix_in from;
+  matrix = matrix_from from.rows;
   custom = from.custom;
   mask = from.mask;
   sbt = from.sbt;

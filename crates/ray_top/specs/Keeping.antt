@@ -4,10 +4,9 @@ use Rattle.std.specs.Map.{lookup}
 use Rattle.std.specs.BTreeMap.{is_at}
 use Rattle.std.specs.Ordering.{nat_cmp}
 use Rattle.ray_geom.specs.Boxes.{BoxValue}
-use Rattle.ray_geom.specs.Transform.{MatrixValue, matrix_of, table_of}
 use Rattle.ray_flags.specs.declared.instance_flags.InstanceFlags.{InstanceFlags}
 use Rattle.ray_top.specs.declared.used.Used.{Used}
-use Rattle.ray_top.specs.Instances.{InstanceValue}
+use Rattle.ray_top.specs.Instances.{InstanceValue, matrix_from}
 use Rattle.ray_top.specs.InstanceReading.{bounds_in}
 use Rattle.ray_top.specs.Contents.{TopValue, IsTop, active_of}
 
@@ -19,10 +18,7 @@ bounds_at id entries = lookup (is_at (nat_cmp id)) entries
 pub record IsIndex (used : List Used) (entries : List (ℕ × Option BoxValue)) : Type 0 where
   pub each : (id : ℕ) → bounds_at id entries ≡ bounds_in used id
 
--- the transform of twelve numbers, row by row, and the instance of what is kept of one
-unfoldable pub matrix_from : List ℤ → MatrixValue
-matrix_from rows = matrix_of (table_of rows)
-
+-- the instance of what is kept of one
 abbrev pub instance_value : List ℤ → ℕ → ℕ → ℕ → InstanceFlags → ℕ → InstanceValue
 instance_value rows custom mask sbt flags id =
     record { matrix = matrix_from rows; custom = custom; mask = mask; sbt = sbt; flags = flags; id = id }

@@ -2,3 +2,4 @@ pub mod Instances
 pub mod InstanceReading
 pub mod Contents
 pub mod Keeping
+pub mod Laws

@@ -5,11 +5,12 @@
 //! `instances_read` of `specs/InstanceReading` which instances the records of a buffer hold, or
 //! which of the data rules X5 to X9 is broken first.
 //!
-//! It stands on `ray_primitives` (what a reading gives), `ray_contents` (the first fault, else all),
-//! `ray_geom`, `ray_bytes` and `ray_flags`.
+//! It stands on `ray_primitives` (what a reading gives), `ray_contents` (the first fault, else
+//! all), `ray_geom`, `ray_bytes` and `ray_flags`.
 #![tactic(auto)]
 
 mod instance;
+mod laws;
 mod lists;
 mod placed;
 mod reading;
@@ -18,6 +19,7 @@ mod used;
 mod used_index;
 
 pub use crate::instance::Instance;
+pub use crate::laws::reading_law;
 pub use crate::top::Top;
 pub use crate::used::Used;
 pub use ray_primitives::BuildFault;

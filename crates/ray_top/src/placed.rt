@@ -1,6 +1,6 @@
 ghost use Rattle.std.specs.Prelude.{◌≡◌, Some, None};
 ghost use Rattle.ray_geom.specs.Transform.{IsMatrix};
-ghost use Rattle.ray_top.specs.Instances.{instance_from, matrix_in, told_instance};
+ghost use Rattle.ray_top.specs.Instances.{instance_from, matrix_from, told_instance};
 
 use crate::instance::Instance;
 use ray_bytes::InstanceRecord;
@@ -8,8 +8,8 @@ use ray_flags::InstanceFlags;
 use ray_geom::Matrix;
 use std::marker::Model;
 
-/// An active instance in 64 bytes: its transform as the twelve numbers of its record. Contracts see
-/// it as its value.
+/// An active instance in 64 bytes, with its transform as the twelve numbers of its record. Contracts
+/// see it as its value.
 #[derive(Debug, Drop)]
 pub(crate) struct Placed {
     rows: [i32; 12],
@@ -22,8 +22,8 @@ pub(crate) struct Placed {
 
 impl Model for Placed {
     ghost use Rattle.ray_geom.specs.Transform.{IsMatrix};
-    ghost use Rattle.ray_top.specs.Instances.{InstanceValue};
-    ghost use Rattle.ray_top.specs.Keeping.{matrix_from, instance_value};
+    ghost use Rattle.ray_top.specs.Instances.{InstanceValue, matrix_from};
+    ghost use Rattle.ray_top.specs.Keeping.{instance_value};
 
     ghost Value = { InstanceValue };
 
@@ -34,9 +34,8 @@ impl Model for Placed {
 
 impl Placed {
     // The instance of a record, with the id to which it refers.
-    #[tactic(auto, unfolding(crate::specs::Instances::matrix_in, crate::specs::Keeping::matrix_from))]
     pub(crate) fn new(from: &InstanceRecord, id: u32) -> Placed
-        requires { IsMatrix (matrix_in from.now) }
+        requires { IsMatrix (matrix_from from.now.rows) }
         ensures { result ≡ instance_from from.now id }
     {
         Placed {
@@ -79,7 +78,7 @@ impl Placed {
     }
 
     // Its transform.
-    #[tactic(auto, unfolding(crate::specs::Keeping::matrix_from))]
+    #[tactic(auto, unfolding(crate::specs::Instances::matrix_from))]
     fn matrix(&self) -> Matrix
         ensures { result ≡ self.now.matrix }
     {

@@ -5,7 +5,7 @@ ghost use Rattle.ray_geom.specs.Transform.{IsMatrix};
 ghost use Rattle.ray_primitives.specs.Outcomes.{Gives};
 ghost use Rattle.ray_primitives.specs.Updates.{old_at};
 ghost use Rattle.ray_top.specs.Contents.{IsInstance};
-ghost use Rattle.ray_top.specs.Instances.{matrix_in, forces_both};
+ghost use Rattle.ray_top.specs.Instances.{matrix_from, forces_both};
 ghost use Rattle.ray_top.specs.InstanceReading.{bounds_kept, forced, bounded, limited, in_use};
 ghost use Rattle.ray_top.specs.InstanceReading.{referring, instance_read, instance_after};
 ghost use Rattle.ray_top.specs.InstanceReading.{updated_instance, instance_element};
@@ -21,8 +21,9 @@ use ray_geom::{Box3, Matrix};
 use ray_primitives::BuildFault;
 use std::alloc::Global;
 
-// The first instances of a buffer, as an update of old ones where there are some. Data comes exactly
-// where one of X5 to X9 is broken, and is the first: by instance, and for one instance the least.
+// The first instances of a buffer, as an update of old ones where there are some. Data comes
+// exactly where one of X5 to X9 is broken, and is the first: by instance, and for one instance the
+// least.
 pub(crate) fn read_instances(
     alloc: Global,
     used: &UsedIndex<'_>,
@@ -155,9 +156,9 @@ fn in_use(
 }
 
 // The same of a structure in use.
-#[tactic(auto, unfolding(crate::specs::Instances::matrix_in))]
+#[tactic(auto, unfolding(crate::specs::Instances::matrix_from))]
 fn limited(from: &InstanceRecord, id: u32, bounds: Option<Box3>) -> Result<Option<Placed>, DataRule>
-    ensures { result ≡ limited from.now id bounds (matrix_within (matrix_in from.now)) }
+    ensures { result ≡ limited from.now id bounds (matrix_within (matrix_from from.now.rows)) }
 {
     match matrix_within(from.rows) {
         Some(m) => bounded(from, id, bounds, &m),
@@ -172,7 +173,7 @@ fn bounded(
     bounds: Option<Box3>,
     m: &Matrix,
 ) -> Result<Option<Placed>, DataRule>
-    requires { IsMatrix (matrix_in from.now) }
+    requires { IsMatrix (matrix_from from.now.rows) }
     ensures { result ≡ bounded from.now id bounds m.now }
 {
     if kept(m, bounds) {
@@ -184,7 +185,7 @@ fn bounded(
 
 // The same where the transform keeps the bounds.
 fn forced(from: &InstanceRecord, id: u32) -> Result<Option<Placed>, DataRule>
-    requires { IsMatrix (matrix_in from.now) }
+    requires { IsMatrix (matrix_from from.now.rows) }
     ensures { result ≡ forced from.now id }
 {
     if forces_both(InstanceFlags(from.flags % 16)) {

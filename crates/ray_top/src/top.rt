@@ -43,9 +43,9 @@ impl Model for Top {
 
 impl Top {
     /// The structure of the first `count` instances of the view, at most 2^16. `flags` doesn't ask
-    /// both for fast traces and for fast builds. Data comes exactly where one of X5 to X9 is broken,
-    /// and is the first: by instance, and for one instance the least. The runtime is for trees,
-    /// which aren't built yet. (VK_BUILD_ACCELERATION_STRUCTURE_MODE_BUILD_KHR)
+    /// both for fast traces and for fast builds. Data comes exactly where one of X5 to X8 is
+    /// broken, and is the first: by instance, and for one instance the least. The runtime is for
+    /// trees, which aren't built yet. (VK_BUILD_ACCELERATION_STRUCTURE_MODE_BUILD_KHR)
     pub fn build<R: Threads + Sync>(
         _rt: &R,
         alloc: Global,
@@ -62,8 +62,8 @@ impl Top {
     }
 
     /// An update of this structure: one of its flags, with the instances that the view holds, which
-    /// are as many and are compared with the old ones by X9. Data comes exactly where one of X5 to X9
-    /// is broken, and is the first. (VK_BUILD_ACCELERATION_STRUCTURE_MODE_UPDATE_KHR)
+    /// are as many, and are compared with the old ones by X9. Data comes exactly where one of X5 to
+    /// X9 is broken, and is the first. (VK_BUILD_ACCELERATION_STRUCTURE_MODE_UPDATE_KHR)
     pub fn update<R: Threads + Sync>(
         &self,
         _rt: &R,
