@@ -41,10 +41,11 @@ bounds_in used id = fold (noted id) None used
 
 -- ---- one instance
 
--- whether the images of the eight corners of bounds are within the limits; where there are no bounds, there are none to check
+-- whether the image of a corner is within the limits
 abbrev pub keeps_corner : MatrixValue → Vec3 → Bool
 keeps_corner m corner = is_some (image_within m corner)
 
+-- the same of the eight corners of bounds; where there are no bounds, there are none to check
 unfoldable pub bounds_kept : MatrixValue → Option BoxValue → Bool
 bounds_kept m None = true
 bounds_kept m (Some box) = list_all (keeps_corner m) (corners_of box)

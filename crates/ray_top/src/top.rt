@@ -56,7 +56,8 @@ impl Top {
     ) -> Result<Top, BuildFault>
         requires speed { has_both_fast flags ≡ false }
         requires count { count ≤ 2 ^ 16 }
-        ensures { Gives (top_built flags used.now view.entry count) result }
+        ensures value { Gives (top_built flags used.now view.entry count) result }
+        ensures count { IfOk result (λ t. length t.contents.instances ≡ count) }
     {
         read_top(alloc, flags, &view, count, used, None)
     }
@@ -73,7 +74,8 @@ impl Top {
         used: &[Used],
     ) -> Result<Top, BuildFault>
         requires { count ≡ length self.now.contents.instances }
-        ensures { Gives (top_updated self.now used.now view.entry count) result }
+        ensures value { Gives (top_updated self.now used.now view.entry count) result }
+        ensures count { IfOk result (λ t. length t.contents.instances ≡ count) }
     {
         let olds = self.instances.as_slice();
         read_top(alloc, self.flags, &view, count, used, Some(olds))
@@ -138,8 +140,9 @@ fn read_top(
 ) -> Result<Top, BuildFault>
     requires speed { has_both_fast flags ≡ false }
     requires count { count ≤ 2 ^ 16 }
-    ensures { Gives (top_with flags used.now (instances_read used.now view.now
+    ensures value { Gives (top_with flags used.now (instances_read used.now view.now
         (option_copied olds.entry) count)) result }
+    ensures count { IfOk result (λ t. length t.contents.instances ≡ count) }
 {
     let index = UsedIndex::new(alloc, used)?;
     let instances = read_instances(alloc, &index, view, olds, count)?;
