@@ -1,0 +1,13 @@
+pub mod Memory
+pub mod Areas
+pub mod Action
+pub mod Seeing
+pub mod Building
+pub mod Outcomes
+pub mod Storing
+pub mod Pieces
+pub mod Text
+pub mod Running
+pub mod Touching
+pub mod Readiness
+pub mod Laws
