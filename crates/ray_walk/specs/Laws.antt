@@ -1,0 +1,59 @@
+-- What the candidates are, said of a list and of what it holds, and the laws that it is so. Each law is the contract of a call of `src/laws`.
+use Rattle.std.specs.Prelude.{ℕ, ◌≡◌, ◌↔◌, Some, true, false, List, Contains, slice_get}
+use Rattle.ray_geom.specs.Scene.{RayValue}
+use Rattle.ray_geom.specs.Frac.{numerator, denominator}
+use Rattle.ray_flags.specs.declared.ray_flags.RayFlags.{RayFlags}
+use Rattle.ray_bottom.specs.declared.geometry.Geometry.{Geometry}
+use Rattle.ray_bottom.specs.Contents.{ContentsValue as BottomContents}
+use Rattle.ray_bottom.specs.Meeting.{MeetValue, Hit, Through, meet_of}
+use Rattle.ray_top.specs.Instances.{InstanceValue}
+use Rattle.ray_top.specs.Contents.{ContentsValue as TopContents}
+use Rattle.ray_query.specs.declared.found.Found.{Found}
+use Rattle.ray_query.specs.Key.{KeysRise}
+use Rattle.ray_walk.specs.Fractions.{fraction_of}
+use Rattle.ray_walk.specs.Candidates.{Structures, is_seen, placed, passes_over, found_of, candidates}
+
+-- a ray finds this: there is an active instance of its number, whose mask is seen; the structure of that instance; a geometry
+-- of its number in the structure; and something is met of the primitive of its number, which the ray doesn't pass over, and of
+-- which this is what is found
+pub record IsFound (top : TopContents) (bottoms : Structures) (ray : RayValue) (flags : RayFlags) (mask : ℕ) (f : Found) : Type 0 where
+  pub instance : InstanceValue
+  pub active : slice_get top.instances f.instance ≡ Some (Some instance)
+  pub seen : is_seen mask instance ≡ true
+  pub bottom : BottomContents
+  pub stands : bottoms instance.id ≡ Some bottom
+  pub geometry : Geometry
+  pub at_geometry : slice_get bottom.geometries f.geometry ≡ Some geometry
+  pub meet : MeetValue
+  pub met : meet_of bottom.geometries (record { geometry = f.geometry; primitive = f.primitive }) ray instance.matrix ≡ Some meet
+  pub admitted : passes_over flags (placed flags f.instance instance f.geometry geometry) meet ≡ false
+  pub is_it : f ≡ found_of (placed flags f.instance instance f.geometry geometry) f.primitive meet
+
+-- a list is the candidates of a ray: its keys rise, and its members are exactly what the ray finds
+pub record AreCandidates (top : TopContents) (bottoms : Structures) (ray : RayValue) (flags : RayFlags) (mask : ℕ) (fs : List Found) : Type 0 where
+  pub rising : KeysRise fs
+  pub members : (f : Found) → Contains fs f ↔ IsFound top bottoms ray flags mask f
+
+-- the candidates as they are defined are so
+abbrev pub CandidatesAreSo : Type 0
+CandidatesAreSo =
+    (top : TopContents) (bottoms : Structures) (ray : RayValue) (flags : RayFlags) (mask : ℕ)
+    → AreCandidates top bottoms ray flags mask (candidates top bottoms ray flags mask)
+
+-- and no other list is
+abbrev pub CandidatesAreOne : Type 0
+CandidatesAreOne =
+    (top : TopContents) (bottoms : Structures) (ray : RayValue) (flags : RayFlags) (mask : ℕ) (fs : List Found)
+    → AreCandidates top bottoms ray flags mask fs → fs ≡ candidates top bottoms ray flags mask
+
+-- ---- the numbers of what is met
+
+-- the fraction of two numbers has these numbers
+pub record KeepsNumbers (parts : ℕ × ℕ) : Type 0 where
+  pub num : numerator (fraction_of parts) ≡ parts.0
+  pub den : denominator (fraction_of parts) ≡ parts.1
+
+-- so do the fractions of a hit and of a span
+abbrev pub KeepsAllNumbers : MeetValue → Type 0
+KeepsAllNumbers (Hit hit) = KeepsNumbers hit.t × KeepsNumbers hit.u × KeepsNumbers hit.v
+KeepsAllNumbers (Through span) = KeepsNumbers span.entry × KeepsNumbers span.exit

@@ -1,0 +1,14 @@
+use ray_top::Instance;
+
+/// A geometry as an instance places it in the world.
+#[derive(Clone, Copy, Debug)]
+pub(crate) struct Placed {
+    /// The instance's number in its top structure.
+    pub(crate) number: u32,
+    /// The instance, which is active.
+    pub(crate) instance: Instance,
+    /// The geometry's number in the instance's structure.
+    pub(crate) geometry: u32,
+    /// Whether its primitives count as opaque.
+    pub(crate) opaque: bool,
+}
