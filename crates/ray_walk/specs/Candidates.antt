@@ -3,14 +3,13 @@
 -- ray with its flags and its cull mask. Nothing here knows of trees, or of an order in which things are looked at.
 -- (Vulkan, "Ray Traversal" and "Ray Intersection Candidate Determination"; own: the order of the candidates, and
 -- that distances are exact.)
-use Rattle.std.specs.Prelude.{ℕ, zero, suc, ◌≡◌, ◌==◌, ◌++◌, Bool, true, false, not, if◌then◌else◌, Option, Some, None, option_and_then, List, [], ◌∷◌, length, slice_get}
+use Rattle.std.specs.Prelude.{ℕ, zero, suc, ◌==◌, ◌++◌, Bool, false, not, if◌then◌else◌, Option, Some, None, option_and_then, List, [], ◌∷◌, length, slice_get}
 use Rattle.std.specs.Int.RustNames.{bit_and}
 use Rattle.ray_geom.specs.Scene.{RayValue}
 use Rattle.ray_geom.specs.Transform.{det_of}
 use Rattle.ray_geom.specs.HitValue.{HitValue}
 use Rattle.ray_prune.specs.BoxReach.{SpanValue}
 use Rattle.ray_prune.specs.Facing.{is_front}
-use Rattle.ray_flags.specs.declared.kind.Kind.{Kind}
 use Rattle.ray_flags.specs.declared.kind.Kind.TheVariants.{Triangle, Aabb}
 use Rattle.ray_flags.specs.declared.ray_flags.RayFlags.{RayFlags}
 use Rattle.ray_flags.specs.Admission.{opacity_of, shows_front, is_culled}

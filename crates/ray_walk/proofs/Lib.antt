@@ -1,0 +1,10 @@
+pub mod Keys
+pub mod Fractions
+pub mod Members
+pub mod Order
+pub mod Joined
+pub mod Apart
+pub mod Findings
+pub mod Placing
+pub mod Exactly
+pub mod Playing

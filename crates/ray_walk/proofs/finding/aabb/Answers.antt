@@ -1,0 +1,20 @@
+use Rattle.std.proofs.Common.{sym, false}
+use Rattle.ray_flags.specs.declared.kind.Kind.TheVariants.{Aabb}
+use Rattle.ray_walk.proofs.Fractions.{fraction_back, fraction_zero}
+use Rattle.ray_walk.proofs.finding.aabb.Goals as goal
+
+pub returns : goal.returns
+returns c = λ i. record {
+  kind = Aabb;
+  opaque = c.args.at.now.opaque;
+  instance = c.args.at.now.number;
+  geometry = c.args.at.now.geometry;
+  primitive = c.args.primitive;
+  custom = c.args.at.now.instance.custom;
+  sbt = c.args.at.now.instance.sbt;
+  front = false;
+  t = sym (fraction_back c.args.span.now.entry) i;
+  exit = sym (fraction_back c.args.span.now.exit) i;
+  u = fraction_zero c.zero.result c.zero.ensures.num c.zero.ensures.den i;
+  v = fraction_zero c.zero-2.result c.zero-2.ensures.num c.zero-2.ensures.den i;
+}

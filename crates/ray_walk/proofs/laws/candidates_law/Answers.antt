@@ -1,0 +1,8 @@
+use Rattle.ray_walk.proofs.Exactly.{candidates-one, candidates-so}
+use Rattle.ray_walk.proofs.laws.candidates_law.Goals as goal
+
+pub returns-clause-so : goal.returns-clause-so
+returns-clause-so c = candidates-so
+
+pub returns-clause-only : goal.returns-clause-only
+returns-clause-only c = candidates-one

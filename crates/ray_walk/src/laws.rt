@@ -1,0 +1,43 @@
+ghost use Rattle.std.specs.Prelude.{◌≡◌, ◌+◌, IfSome, All};
+ghost use Rattle.ray_contents.specs.Bounds.{KeepsBounds};
+ghost use Rattle.ray_bottom.specs.Contents.{bounds_of};
+ghost use Rattle.ray_bottom.specs.Meeting.{meet_of};
+ghost use Rattle.ray_walk.specs.Laws.{CandidatesAreOne, CandidatesAreSo, KeepsAllNumbers};
+ghost use Rattle.ray_walk.specs.Standing.{AreStanding, IsHere, structures_in};
+
+use ray_bottom::{Bottom, Bottoms, PrimPlace};
+use ray_geom::{Matrix, Ray, Steps};
+use ray_top::Top;
+use std::sync::ledger::Ledger;
+
+/// The law of candidates: their keys rise, and they are exactly what the ray finds; and no other
+/// list is so. (Vulkan, "Ray Intersection Candidate Determination"; own: the order.)
+pub fn candidates_law()
+    ensures so { CandidatesAreSo }
+    ensures only { CandidatesAreOne }
+{}
+
+/// The law of numbers: what is found has the numerators and denominators of what is met, which are
+/// those of fractions within the limits, in lowest terms. (Own.)
+pub fn numbers_law<L: Ledger>(
+    bottom: &Bottom,
+    place: PrimPlace,
+    ray: &Ray,
+    m: &Matrix,
+    steps: &mut Steps<L>,
+)
+    requires { KeepsBounds m.now (bounds_of bottom.now.geometries) }
+    ensures numbers { IfSome (meet_of bottom.now.geometries place ray.now m.now) KeepsAllNumbers }
+    ensures step { steps.new ≡ steps.old + 1 }
+{
+    let _meet = bottom.test_prim(place, ray, m, steps);
+}
+
+/// The law of standing: where each structure that was in use stands under its id with the bounds
+/// that were given, the structure of each active instance does. (Own.)
+pub fn standing_law(top: &Top, _bottoms: &Bottoms)
+    requires { All (IsHere (structures_in _bottoms.now)) top.now.used }
+    ensures { AreStanding top.now (structures_in _bottoms.now) }
+{
+    let _limits = top.len();
+}
