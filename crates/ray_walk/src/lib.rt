@@ -17,6 +17,8 @@ mod gathering;
 mod laws;
 mod placed;
 mod plain;
+#[cfg(test)]
+mod tests;
 
 pub use laws::{candidates_law, numbers_law, standing_law};
 pub use plain::trace_plain;
