@@ -8,3 +8,4 @@ pub mod Findings
 pub mod Placing
 pub mod Exactly
 pub mod Playing
+pub mod Facing

@@ -1,6 +1,9 @@
 -- What the candidates are, said of a list and of what it holds, and the laws that it is so. Each law is the contract of a call of `src/laws`.
-use Rattle.std.specs.Prelude.{ℕ, ◌≡◌, ◌↔◌, Some, true, false, List, Contains, slice_get}
-use Rattle.ray_geom.specs.Scene.{RayValue}
+use Rattle.std.specs.Prelude.{ℕ, pos, ◌≡◌, ◌≢◌, ◌↔◌, IsTrue, Some, true, false, List, Contains, slice_get}
+use Rattle.ray_geom.specs.Scene.{RayValue, TriValue}
+use Rattle.ray_geom.specs.Transform.{det_of, world_tri}
+use Rattle.ray_geom.specs.HitValue.{HitValue, hit_of}
+use Rattle.ray_prune.specs.Facing.{IsFront}
 use Rattle.ray_geom.specs.Frac.{numerator, denominator}
 use Rattle.ray_flags.specs.declared.ray_flags.RayFlags.{RayFlags}
 use Rattle.ray_bottom.specs.declared.geometry.Geometry.{Geometry}
@@ -11,7 +14,7 @@ use Rattle.ray_top.specs.Contents.{ContentsValue as TopContents}
 use Rattle.ray_query.specs.declared.found.Found.{Found}
 use Rattle.ray_query.specs.Key.{KeysRise}
 use Rattle.ray_walk.specs.Fractions.{fraction_of}
-use Rattle.ray_walk.specs.Candidates.{Structures, is_seen, placed, passes_over, found_of, candidates}
+use Rattle.ray_walk.specs.Candidates.{Placed, Structures, is_seen, placed, sees_front, passes_over, found_of, candidates}
 
 -- a ray finds this: there is an active instance of its number, whose mask is seen; the structure of that instance; a geometry
 -- of its number in the structure; and something is met of the primitive of its number, which the ray doesn't pass over, and of
@@ -45,6 +48,13 @@ abbrev pub CandidatesAreOne : Type 0
 CandidatesAreOne =
     (top : TopContents) (bottoms : Structures) (ray : RayValue) (flags : RayFlags) (mask : ℕ) (fs : List Found)
     → AreCandidates top bottoms ray flags mask fs → fs ≡ candidates top bottoms ray flags mask
+
+-- a triangle that is hit shows its front, before the instance's flip, exactly where den * det < 0
+abbrev pub FacesAreSo : Type 0
+FacesAreSo =
+    (at : Placed) (ray : RayValue) (tri : TriValue) (hit : HitValue)
+    → hit_of ray (world_tri at.instance.matrix tri) ≡ Some hit → det_of at.instance.matrix ≢ pos 0
+    → IsTrue (sees_front at hit) ↔ IsFront ray at.instance.matrix tri
 
 -- ---- the numbers of what is met
 

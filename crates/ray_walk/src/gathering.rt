@@ -1,4 +1,5 @@
-ghost use Rattle.std.specs.Prelude.{◌≡◌, ◌≤◌, ◌<◌, ◌++◌, false, IfSome, OnOk, IfOk, Some, length, option_map, slice_get};
+ghost use Rattle.std.specs.Prelude.{◌≡◌, ◌≤◌, ◌<◌, ◌++◌, IfSome, OnOk, IfOk, Some};
+ghost use Rattle.std.specs.Prelude.{length, option_map, slice_get};
 ghost use Rattle.std.specs.Option.{option_to_list};
 ghost use Rattle.ray_contents.specs.Bounds.{KeepsBounds};
 ghost use Rattle.ray_flags.specs.Admission.{AsksBoth, ForcesBoth};

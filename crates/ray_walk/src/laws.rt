@@ -2,7 +2,8 @@ ghost use Rattle.std.specs.Prelude.{◌≡◌, ◌+◌, IfSome, All};
 ghost use Rattle.ray_contents.specs.Bounds.{KeepsBounds};
 ghost use Rattle.ray_bottom.specs.Contents.{bounds_of};
 ghost use Rattle.ray_bottom.specs.Meeting.{meet_of};
-ghost use Rattle.ray_walk.specs.Laws.{CandidatesAreOne, CandidatesAreSo, KeepsAllNumbers};
+ghost use Rattle.ray_walk.specs.Laws.{CandidatesAreOne, CandidatesAreSo, FacesAreSo};
+ghost use Rattle.ray_walk.specs.Laws.{KeepsAllNumbers};
 ghost use Rattle.ray_walk.specs.Standing.{AreStanding, IsHere, structures_in};
 
 use ray_bottom::{Bottom, Bottoms, PrimPlace};
@@ -11,10 +12,13 @@ use ray_top::Top;
 use std::sync::ledger::Ledger;
 
 /// The law of candidates: their keys rise, and they are exactly what the ray finds; and no other
-/// list is so. (Vulkan, "Ray Intersection Candidate Determination"; own: the order.)
+/// list is so. A triangle that is hit shows its front, before the instance's flip, exactly where
+/// the determinants of the hit and of the instance's matrix have opposite signs. (Vulkan, "Ray
+/// Intersection Candidate Determination"; own: the order.)
 pub fn candidates_law()
     ensures so { CandidatesAreSo }
     ensures only { CandidatesAreOne }
+    ensures faces { FacesAreSo }
 {}
 
 /// The law of numbers: what is found has the numerators and denominators of what is met, which are

@@ -314,6 +314,32 @@ fn asks_about_triangles(rt: HostRuntime) -> Result<(), Fail> {
     Ok(())
 }
 
+// The two triangles of a cell of a made-up scene, with three of its rays: through the first, along
+// an outer edge that is no triangle's, and along one that is.
+#[test]
+fn a_made_up_cell(rt: HostRuntime) -> Result<(), Fail> {
+    let words = [0, 0, 0, 8, 0, 5, 8, 8, 1, 0, 0, 0, 8, 8, 1, 0, 8, 3];
+    let cases: [(&str, i64, i64, Option<(u64, u64)>); 3] = [
+        ("inside", 3, 1, Some((32757, 8))),
+        ("outer edge", 8, 6, None),
+        ("edge", 2, 0, Some((16379, 4))),
+    ];
+    let bottom = triangles(&rt, false, &words, 2)?;
+    let placed = scene(&rt, bottom, &PLAIN, 1)?;
+    for (name, x, y, t) in cases {
+        let want = match t {
+            Some(t) => Some((0, 0, true, t)),
+            None => None,
+        };
+        let origin = Vec3 { x, y, z: 4096 };
+        assert!(rt;
+            traced(&rt, &placed, origin, RayFlags(0), 1, &CONFIRM)? == want,
+            "{name}"
+        );
+    }
+    Ok(())
+}
+
 #[test]
 fn laws(rt: HostRuntime) -> Result<(), Fail> {
     candidates_law();

@@ -1,4 +1,5 @@
 use Rattle.ray_walk.proofs.Exactly.{candidates-one, candidates-so}
+use Rattle.ray_walk.proofs.Facing.{sees_front-so}
 use Rattle.ray_walk.proofs.laws.candidates_law.Goals as goal
 
 pub returns-clause-so : goal.returns-clause-so
@@ -6,3 +7,6 @@ returns-clause-so c = candidates-so
 
 pub returns-clause-only : goal.returns-clause-only
 returns-clause-only c = candidates-one
+
+pub returns-clause-faces : goal.returns-clause-faces
+returns-clause-faces c = sees_front-so
