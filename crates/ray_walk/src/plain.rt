@@ -18,7 +18,8 @@ use std::sync::ledger::Ledger;
 /// structure of each active instance stands under its id, with the bounds that stood beside the id
 /// when `top` was built or last updated, and `flags` doesn't ask that everything counts as opaque
 /// and that nothing does. `number` is the ray's in its trace. A step is taken for each primitive
-/// that is tested, and memory for what is found alone. (Vulkan, "Ray Traversal"; SPV_KHR_ray_query.)
+/// that is tested, and memory for what is found alone. (Vulkan, "Ray Traversal";
+/// SPV_KHR_ray_query.)
 pub fn trace_plain<C: Client, L: Ledger>(
     alloc: Global,
     top: &Top,
