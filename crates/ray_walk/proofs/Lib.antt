@@ -9,3 +9,4 @@ pub mod Placing
 pub mod Exactly
 pub mod Playing
 pub mod Facing
+pub mod Agreeing

@@ -18,7 +18,7 @@ use Rattle.ray_walk.specs.Standing.{IsStanding, AreStanding, IsHere}
 use Rattle.ray_walk.specs.Telling.{IsPlaceable, instance_of}
 
 -- what holds of all holds of one by its number
-All-at : {X : Type 0} (P : X → Type 0) (xs : List X) (n : ℕ) (x : X) → All P xs → slice_get xs n ≡ Some x → P x
+pub All-at : {X : Type 0} (P : X → Type 0) (xs : List X) (n : ℕ) (x : X) → All P xs → slice_get xs n ≡ Some x → P x
 All-at P xs n x all at = subst P (get_or_from_slice_get xs n x x at) (all n x (slice_get_within xs n x at))
 
 forces : (flags : InstanceFlags) → forces_both flags ≡ false → ForcesBoth flags → ⊥

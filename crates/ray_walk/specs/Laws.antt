@@ -1,5 +1,5 @@
 -- What the candidates are, said of a list and of what it holds, and the laws that it is so. Each law is the contract of a call of `src/laws`.
-use Rattle.std.specs.Prelude.{ℕ, pos, ◌≡◌, ◌≢◌, ◌↔◌, IsTrue, Some, true, false, List, Contains, slice_get}
+use Rattle.std.specs.Prelude.{ℕ, pos, ◌≡◌, ◌≢◌, ◌↔◌, IsTrue, Some, IfSome, true, false, List, All, Contains, slice_get}
 use Rattle.ray_geom.specs.Scene.{RayValue, TriValue}
 use Rattle.ray_geom.specs.Transform.{det_of, world_tri}
 use Rattle.ray_geom.specs.HitValue.{HitValue, hit_of}
@@ -48,6 +48,16 @@ abbrev pub CandidatesAreOne : Type 0
 CandidatesAreOne =
     (top : TopContents) (bottoms : Structures) (ray : RayValue) (flags : RayFlags) (mask : ℕ) (fs : List Found)
     → AreCandidates top bottoms ray flags mask fs → fs ≡ candidates top bottoms ray flags mask
+
+-- the same stands under the ids of the active instances
+pub record AgreeFor (top : TopContents) (bottoms others : Structures) : Type 0 where
+  pub each : All (λ i. IfSome i (λ (j : InstanceValue). bottoms j.id ≡ others j.id)) top.instances
+
+-- then the candidates are the same, and so is what a trace answers: nothing else that stands there matters
+abbrev pub CandidatesAgree : Type 0
+CandidatesAgree =
+    (top : TopContents) (bottoms others : Structures) (ray : RayValue) (flags : RayFlags) (mask : ℕ)
+    → AgreeFor top bottoms others → candidates top bottoms ray flags mask ≡ candidates top others ray flags mask
 
 -- a triangle that is hit shows its front, before the instance's flip, exactly where den * det < 0
 abbrev pub FacesAreSo : Type 0

@@ -3,7 +3,7 @@ ghost use Rattle.ray_contents.specs.Bounds.{KeepsBounds};
 ghost use Rattle.ray_bottom.specs.Contents.{bounds_of};
 ghost use Rattle.ray_bottom.specs.Meeting.{meet_of};
 ghost use Rattle.ray_walk.specs.Laws.{CandidatesAreOne, CandidatesAreSo, FacesAreSo};
-ghost use Rattle.ray_walk.specs.Laws.{KeepsAllNumbers};
+ghost use Rattle.ray_walk.specs.Laws.{CandidatesAgree, KeepsAllNumbers};
 ghost use Rattle.ray_walk.specs.Standing.{AreStanding, IsHere, structures_in};
 
 use ray_bottom::{Bottom, Bottoms, PrimPlace};
@@ -19,6 +19,12 @@ pub fn candidates_law()
     ensures so { CandidatesAreSo }
     ensures only { CandidatesAreOne }
     ensures faces { FacesAreSo }
+{}
+
+/// The law of structures: where the same stands under the ids of the active instances, the
+/// candidates are the same, and with them the answers of traces. (Own.)
+pub fn agreeing_law()
+    ensures { CandidatesAgree }
 {}
 
 /// The law of numbers: what is found has the numerators and denominators of what is met, which are

@@ -2,7 +2,8 @@
 //!
 //! `specs/Candidates` says what the candidates of a ray are, and `trace_answer` there what a trace
 //! answers, as functions of contents alone. [`candidates_law`] says that they are what a ray finds,
-//! in rising order of keys, and that no other list is.
+//! in rising order of keys, and that no other list is; [`agreeing_law`] that they depend on the
+//! structures of active instances alone.
 //!
 //! The layer above uses [`trace_plain`], whose answer is `trace_answer`. It tests every primitive,
 //! and stays as the plain program of that definition beside any faster one. Its condition is on
@@ -20,6 +21,6 @@ mod plain;
 #[cfg(test)]
 mod tests;
 
-pub use laws::{candidates_law, numbers_law, standing_law};
+pub use laws::{agreeing_law, candidates_law, numbers_law, standing_law};
 pub use plain::trace_plain;
 pub use std::alloc::AllocError as NoMemory;

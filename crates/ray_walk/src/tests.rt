@@ -3,7 +3,7 @@ ghost use Rattle.ray_bottom.specs.Slots.{contents_at};
 ghost use Rattle.ray_query.specs.declared.decision.Decision.TheVariants.{Confirm, Ignore};
 ghost use Rattle.ray_walk.specs.Standing.{AreStanding, structures_in};
 
-use crate::{NoMemory, candidates_law, numbers_law, standing_law, trace_plain};
+use crate::{NoMemory, agreeing_law, candidates_law, numbers_law, standing_law, trace_plain};
 use bitflags::Flags;
 use ray_bottom::{Bottom, Bottoms, BoxInfo, Builder, PrimPlace, TriangleInfo};
 use ray_bytes::{BoxView, Format, InstanceView, VertexView};
@@ -343,6 +343,7 @@ fn a_made_up_cell(rt: HostRuntime) -> Result<(), Fail> {
 #[test]
 fn laws(rt: HostRuntime) -> Result<(), Fail> {
     candidates_law();
+    agreeing_law();
     let bottom = triangles(&rt, true, &ONE, 1)?;
     let (m, down) = (Matrix::identity(), Vec3 { x: 0, y: 0, z: -1 });
     let ray = Ray::new(ABOVE, down, 0, 1 << 30).expect(&rt, "ray");
