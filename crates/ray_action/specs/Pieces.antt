@@ -1,5 +1,5 @@
 -- The actions of a recording: those of each command, with what the status before it tells. (Own.)
-use Rattle.std.specs.Prelude.{ℕ, ◌+◌, ◌*◌, ◌/◌, List, [], ◌∷◌, ◌++◌, map, Option, Some, None, Bool, true, false, unwrap_or, length, slice_index_or}
+use Rattle.std.specs.Prelude.{ℕ, ◌+◌, ◌*◌, ◌/◌, ◌%◌, List, [], ◌∷◌, ◌++◌, map, Option, Some, None, Bool, true, false, unwrap_or, length, slice_index_or}
 use Rattle.std.specs.List.{range_with_len}
 use Rattle.ray_flags.specs.declared.ray_flags.RayFlags.{RayFlags}
 use Rattle.ray_script.specs.declared.raw_rule.RawRule.{RawRule}
@@ -71,6 +71,10 @@ region_action src dst region =
 
 -- ---- traces: 64 rays each, and at the end those that are left
 
+-- the cull mask: the low 8 bits of the number that is given (SPV_KHR_ray_query)
+abbrev pub cull_mask : ℕ → ℕ
+cull_mask mask = mask % 256
+
 abbrev pub rays_action : List Command → Status → ℕ → Spot → Spot → ℕ → RayFlags → ℕ → List RawRule → ℕ → Action
 rays_action rec z top rays hits count flags mask script k = TraceRays (record {
   top = top;
@@ -80,7 +84,7 @@ rays_action rec z top rays hits count flags mask script k = TraceRays (record {
   first = 64 * k;
   count = rays_of_piece count k;
   flags = flags;
-  mask = mask;
+  mask = cull_mask mask;
   script = script;
 })
 

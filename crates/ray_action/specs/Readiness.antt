@@ -1,8 +1,9 @@
 -- When an action is ready: what it sees is there, so that what comes of it has a meaning. It is a condition
 -- on the memory as it is, and on no history. That each action of a recording that keeps the rules is ready
 -- in its turn is a law of its own. (Own; after the valid usage of the commands in Vulkan.)
-use Rattle.std.specs.Prelude.{ℕ, ◌≡◌, ◌≤◌, ◌^◌, List, [], ◌∷◌, Option, Some, None, Bool, true, false, All, IsSome, IfSome, length}
+use Rattle.std.specs.Prelude.{ℕ, ◌≡◌, ◌≤◌, ◌^◌, List, [], ◌∷◌, Option, Some, None, Bool, true, false, All, IsSome, IfSome, length, sum}
 use Rattle.std.specs.Option.{option_and_then}
+use Rattle.ray_flags.specs.Admission.{AsksBoth}
 use Rattle.ray_flags.specs.declared.build_flags.BuildFlags.{BuildFlags}
 use Rattle.ray_script.specs.Scripts.{refused_at}
 use Rattle.ray_bottom.specs.Contents as bottoms
@@ -42,6 +43,11 @@ abbrev pub AreThere : Ids LiveBuffer → List Geometry → List SeenGeometry →
 AreThere buffers [] [] = Unit {0}
 AreThere buffers (geometry ∷ geometries) (g ∷ seen) = IsThere buffers geometry g × AreThere buffers geometries seen
 AreThere buffers _ _ = ⊥
+
+-- counts of primitives are those of a structure, one a geometry: not too many
+pub record AreCounts (counts : List ℕ) : Type 0 where
+  pub few : length counts ≤ 256
+  pub few_primitives : sum counts ≤ 2 ^ 20
 
 -- geometries are those of a bottom structure: all of triangles or all of boxes, and not too many
 pub record AreOfBottom (geometries : List Geometry) : Type 0 where
@@ -94,14 +100,15 @@ abbrev pub FitsMode : CopyMode → Option Contents → Type 0
 FitsMode copies.Clone contents = Unit {0}
 FitsMode copies.Compact contents = IsBottomSource contents
 
--- rays and a top structure are there, with the structures of its active instances as they were, and the
--- rules are a script
+-- rays and a top structure are there, with the structures of its active instances as they were; the rules are a
+-- script, and the flags don't ask that everything counts as opaque and that nothing does
 pub record IsTraceReady (trace : Tracing) (seen : SeenTrace) : Type 0 where
   pub rays : IsSome seen.rays
   pub top : tops.TopValue
   pub is_it : option_and_then as_top seen.top ≡ Some top
   pub standing : AreStanding top (bottoms_in seen.uses)
   pub script : refused_at trace.script ≡ None
+  pub flags : AsksBoth trace.flags → ⊥
 
 -- ---- every action
 
@@ -111,7 +118,7 @@ IsEnough (MakeBuffer id size content) seen = seen ≡ None
 IsEnough (MakeStructure id form) seen = seen ≡ None
 IsEnough (DestroyBuffer id) seen = Unit {0}
 IsEnough (DestroyStructure id) seen = Unit {0}
-IsEnough (ShowSizes kind counts) seen = Unit {0}
+IsEnough (ShowSizes kind counts) seen = AreCounts counts
 IsEnough (ShowBytes from form) seen = IsSome seen
 IsEnough (UpdateBytes to content) seen = Unit {0}
 IsEnough (FillBytes to value) seen = Unit {0}

@@ -1,0 +1,15 @@
+use Rattle.std.proofs.Common.{ℕ, List, ◌≡◌, refl, sym, ap, subst, ◌∙◌}
+use Rattle.std.specs.Prelude.{if◌then◌else◌, Some, None}
+use Rattle.ray_action.specs.Memory.{Location, StructureAt}
+use Rattle.ray_memory.specs.State.{StateValue, memory_of}
+use Rattle.ray_memory.specs.contracts.state.State.{the_view}
+use Rattle.ray_action.specs.Areas.{is_in_range, is_contents_of}
+use Rattle.ray_action.specs.Storing.{stored, filled, holding}
+use Rattle.ray_memory.proofs.Changing.{memory-refilled}
+use Rattle.ray_memory.proofs.state.State.fill.Goals as goal
+
+pub returns : goal.returns
+returns c =
+    let new : StateValue = record { buffers = c.refill_in.new.buffers.entries; structures = c.self.inside.structures.entries; bottoms = c.self.inside.bottoms } in
+    subst (λ (s : StateValue). (l : Location) → memory_of new l ≡ (if is_in_range c.args.to l then filled c.args.to.from c.args.value l (memory_of s l) else memory_of s l)) c.self.view_is
+    (memory-refilled (the_view c.self.inside) new c.args.to c.args.value c.refill_in.ensures refl refl)

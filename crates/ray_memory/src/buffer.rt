@@ -1,0 +1,104 @@
+ghost use Rattle.std.specs.Prelude.{◌≡◌, ◌+◌, ◌-◌, length, option_copied, IfOk};
+ghost use Rattle.ray_memory.specs.Bytes.{IsFresh, IsOverwritten, IsRefilled, part_at};
+
+use ray_rules::ByteRange;
+use std::alloc::{AllocError as NoMemory, Global};
+use std::marker::Model;
+
+// The bytes of a live buffer.
+#[derive(Drop)]
+pub(crate) struct Buffer {
+    bytes: Vec<u8>,
+}
+
+impl Model for Buffer {
+    ghost use Rattle.std.specs.Prelude.{ℕ, List};
+
+    ghost Value = { List ℕ };
+
+    ghost view = { λ b. b.bytes.items };
+}
+
+impl Buffer {
+    // The content, cut or filled up with zeros to `size` bytes.
+    pub(crate) fn fresh(alloc: Global, size: usize, content: &[u8]) -> Result<Buffer, NoMemory>
+        ensures { IfOk result (λ buffer. IsFresh size content.now buffer) }
+    {
+        let mut bytes = Vec::with_capacity(alloc, size)?;
+        for k in 0..size {
+            bytes.push(content.get(k).copied().unwrap_or(0))?;
+        }
+        Ok(Buffer { bytes })
+    }
+
+    // How many bytes it has.
+    pub(crate) fn size(&self) -> u64
+        ensures { result ≡ length self.now }
+    {
+        self.bytes.len() as u64
+    }
+
+    // So many bytes from a place on, where all of them are there.
+    pub(crate) fn part(&self, from: u128, size: u128) -> Option<&[u8]>
+        ensures { option_copied result ≡ part_at self.now from size }
+    {
+        part_of(self.bytes.as_slice(), from, size)
+    }
+
+    // Writes the bytes over those of a range, as far as both go and the range is there.
+    pub(crate) fn overwrite(&mut self, to: ByteRange, bytes: &[u8])
+        ensures { IsOverwritten to bytes.now self.old self.new }
+    {
+        overwrite(self.bytes.as_mut_slice(), to, bytes);
+    }
+
+    // Writes a word again and again over the bytes of a range, little-endian, as far as it is there.
+    pub(crate) fn refill(&mut self, to: ByteRange, value: u32)
+        ensures { IsRefilled to value self.old self.new }
+    {
+        refill(self.bytes.as_mut_slice(), to, value);
+    }
+}
+
+// So many bytes from a place on, where all of them are there.
+fn part_of(bytes: &[u8], from: u128, size: u128) -> Option<&[u8]>
+    ensures { option_copied result ≡ part_at bytes.now from size }
+{
+    let len = bytes.len() as u128;
+    if size <= len && from <= len - size {
+        let from = from as usize;
+        Some(&bytes[from..from + size as usize])
+    } else {
+        None
+    }
+}
+
+// Writes the bytes over those of a range, as far as both go and the range is there.
+fn overwrite(bytes: &mut [u8], to: ByteRange, from: &[u8])
+    ensures { IsOverwritten to from.now bytes.old bytes.new }
+{
+    let len = bytes.len() as u128;
+    if to.from < len {
+        let start = to.from as usize;
+        let room = to.size.min(len - to.from) as usize;
+        let count = room.min(from.len());
+        for k in 0..count {
+            bytes[start + k] = from[k];
+        }
+    }
+}
+
+// Writes a word again and again over the bytes of a range, little-endian, as far as it is there.
+fn refill(bytes: &mut [u8], to: ByteRange, value: u32)
+    ensures { IsRefilled to value bytes.old bytes.new }
+{
+    let word = value.to_le_bytes();
+    let len = bytes.len() as u128;
+    if to.from < len {
+        let start = to.from as usize;
+        let count = to.size.min(len - to.from) as usize;
+        for k in 0..count {
+            bytes[start + k] = word[k % 4];
+        }
+    }
+}
