@@ -1,3 +1,4 @@
 pub mod Writing
 pub mod Ranges
 pub mod Changing
+pub mod Texts

@@ -16,5 +16,6 @@ mod making;
 mod state;
 mod storing;
 mod structure;
+mod text;
 
 pub use crate::state::State;
