@@ -1,0 +1,5 @@
+pub mod Under
+pub mod Laws
+pub mod LeastLists
+pub mod Counting
+pub mod Locals
