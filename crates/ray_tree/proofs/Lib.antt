@@ -3,3 +3,4 @@ pub mod Laws
 pub mod LeastLists
 pub mod Counting
 pub mod Locals
+pub mod ItemBoxes

@@ -5,6 +5,7 @@ mod activity;
 mod bounds;
 mod least;
 mod node;
+mod over;
 mod tree;
 
 pub use crate::node::Node;

@@ -4,10 +4,9 @@ ghost use Rattle.ray_tree.specs.Shapes.{node_at};
 ghost use Rattle.ray_tree.specs.Trees.{TreeOver, IsShape, box_at, item_at, leaves_of};
 ghost use Rattle.ray_tree.specs.Local.{IsFit};
 
-use crate::activity::has_items;
 use crate::bounds::Bounds;
-use crate::least::are_least;
 use crate::node::Node;
+use crate::over::is_over;
 use ray_geom::Box3;
 use std::alloc::AllocError as NoMemory;
 use std::marker::Model;
@@ -65,6 +64,15 @@ impl Tree {
         ensures value { result ≡ node_at self.now.nodes i }
         ensures limits { IsFit (length self.now.order) (length self.now.nodes) result }
     {
+        self.shape();
+        self.plain_node(i)
+    }
+
+    // The node of a number, as it stands there.
+    fn plain_node(&self, i: u32) -> Node
+        requires { i < length self.now.nodes }
+        ensures { result ≡ node_at self.now.nodes i }
+    {
         self.nodes[i as usize]
     }
 
@@ -120,9 +128,6 @@ impl Tree {
         ensures { IsTrue result ↔ TreeOver self.now items.now }
     {
         self.shape();
-        if !has_items(&self.order, items) {
-            return false;
-        }
-        are_least(items, &self.order, &self.boxes, &self.nodes)
+        is_over(&self.nodes, &self.boxes, &self.order, items)
     }
 }

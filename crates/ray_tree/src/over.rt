@@ -1,0 +1,25 @@
+//! Whether nodes, boxes and an order are a tree over items.
+ghost use Rattle.std.specs.Prelude.{◌↔◌, IsTrue};
+ghost use Rattle.ray_tree.specs.Trees.{IsShape, TreeOver, tree_value};
+
+use crate::activity::has_items;
+use crate::bounds::Bounds;
+use crate::least::are_least;
+use crate::node::Node;
+use ray_geom::Box3;
+
+// Whether a tree is one over these items.
+pub(crate) fn is_over(
+    nodes: &[Node],
+    boxes: &[Bounds],
+    order: &[u32],
+    items: &[Option<Box3>],
+) -> bool
+    requires { IsShape (tree_value nodes.now boxes.now order.now) }
+    ensures { IsTrue result ↔ TreeOver (tree_value nodes.now boxes.now order.now) items.now }
+{
+    if !has_items(order, items) {
+        return false;
+    }
+    are_least(items, order, boxes, nodes)
+}
