@@ -4,3 +4,5 @@ pub mod LeastLists
 pub mod Counting
 pub mod Locals
 pub mod ItemBoxes
+pub mod Spelled
+pub mod Halved

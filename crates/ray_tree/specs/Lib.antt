@@ -1,3 +1,4 @@
 pub mod Shapes
 pub mod Trees
 pub mod Local
+pub mod Plans
