@@ -6,3 +6,5 @@ pub mod Locals
 pub mod ItemBoxes
 pub mod Spelled
 pub mod Halved
+pub mod Planting
+pub mod Sizes

@@ -2,3 +2,4 @@ pub mod Shapes
 pub mod Trees
 pub mod Local
 pub mod Plans
+pub mod Entries

@@ -2,10 +2,14 @@
 #![tactic(auto)]
 
 mod activity;
+mod arrange;
 mod bounds;
 mod least;
+mod leaves;
 mod node;
+mod order;
 mod over;
+mod plant;
 mod tree;
 
 pub use crate::node::Node;
