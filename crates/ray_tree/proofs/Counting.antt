@@ -76,7 +76,7 @@ total-inside (suc n) from (suc m) h = elim (apart (from + m) n (omega arith)) [
     short p small = grind (arith, nat_tests)
 
 -- numbers of a list
-abbrev one : ℕ → ℕ → ℕ
+abbrev pub one : ℕ → ℕ → ℕ
 one p q = cond (q == p) 1 0
 
 times-cons : (p q : ℕ) (qs : List ℕ) → times p (q ∷ qs) ≡ one p q + times p qs
@@ -125,7 +125,7 @@ holds-times P p (q ∷ qs) h some = elim (first_or (q == p) (times p qs) (omega 
     first_or true n h = inl refl
     first_or false n h = inr (omega arith)
 
-either : (a b : ℕ) → (a < b) ⊎ (b ≤ a)
+pub either : (a b : ℕ) → (a < b) ⊎ (b ≤ a)
 either a b = by (b - a) a b refl
   where
     by : (d x y : ℕ) → y - x ≡ d → (x < y) ⊎ (y ≤ x)
@@ -139,7 +139,7 @@ past items p le = ap (λ o. cond (is_some o) 1 0) (get_or_past items p None le)
 pub active-below : (items : List (Option BoxValue)) (p : ℕ) → IsActive items p → p < length items
 active-below items p h = elim (either p (length items)) [ inl a ↦ a | inr b ↦ absurd (omega (arith, h, past items p b)) ]
 
-at_most_active : (items : List (Option BoxValue)) (p : ℕ) → active items p ≤ 1
+pub at_most_active : (items : List (Option BoxValue)) (p : ℕ) → active items p ≤ 1
 at_most_active items p = below_one (is_some (item_box items p))
   where
     below_one : (b : Bool) → cond b 1 0 ≤ 1

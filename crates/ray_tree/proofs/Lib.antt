@@ -8,3 +8,7 @@ pub mod Spelled
 pub mod Halved
 pub mod Planting
 pub mod Sizes
+pub mod Entered
+pub mod Listing
+pub mod Filled
+pub mod Median

@@ -1,9 +1,9 @@
 -- Trees without numbers, and how they are numbered: nodes one after the other, a left child right after its
 -- parent. The builders make their nodes so; no clause of a public call speaks of it. (Own.)
-use Rattle.std.specs.Prelude.{◌≡◌, ◌+◌, ◌-◌, ◌/◌, ◌<◌, ◌≤◌, ℕ, zero, suc, nat_le, if◌then◌else◌, List, [], ◌∷◌, ◌++◌}
+use Rattle.std.specs.Prelude.{◌≡◌, ◌+◌, ◌-◌, ◌/◌, ◌<◌, ◌≤◌, ℕ, zero, suc, nat_le, if◌then◌else◌, List, [], ◌∷◌, ◌++◌, length}
 use Rattle.ray_tree.specs.declared.node.Node.{Node}
 use Rattle.ray_tree.specs.declared.node.Node.TheVariants.{Leaf, Inner}
-use Rattle.ray_tree.specs.Shapes.{Shape, Tip, Fork}
+use Rattle.ray_tree.specs.Shapes.{Shape, Tip, Fork, node_at}
 
 -- a leaf over so many places, or two trees
 pub data Plan : Type 0 where
@@ -47,3 +47,7 @@ halves (suc height) count =
 abbrev pub median_nodes : ℕ → List Node
 median_nodes zero = []
 median_nodes (suc n) = spell 0 0 (halves 18 (suc n))
+
+-- each child stands after its parent
+pub record AreRising (nodes : List Node) : Type 0 where
+  pub each : (n left right : ℕ) → n < length nodes → node_at nodes n ≡ Inner left right → (n < left) × (n < right)

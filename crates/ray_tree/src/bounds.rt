@@ -1,10 +1,11 @@
-ghost use Rattle.std.specs.Prelude.{◌≡◌};
+ghost use Rattle.std.specs.Prelude.{◌≡◌, IfOk};
 ghost use Rattle.ray_geom.specs.Boxes.{IsBox};
 ghost use Rattle.ray_geom.specs.Equality.{box_eq};
 ghost use Rattle.ray_geom.specs.LeastBoxes.{union_of, lesser_of, greater_of};
 
 use ray_contents::Point32;
 use ray_geom::{Box3, Vec3};
+use std::alloc::{AllocError as NoMemory, Global};
 use std::marker::Model;
 
 // A box in 24 bytes. Contracts see it as the box.
@@ -60,6 +61,17 @@ impl Bounds {
     {
         self.lo.wide() == other.lo.wide() && self.hi.wide() == other.hi.wide()
     }
+}
+
+// Boxes in 24 bytes each.
+pub(crate) fn narrowed(alloc: Global, boxes: &[Box3]) -> Result<Vec<Bounds>, NoMemory>
+    ensures { IfOk result (λ v. v.items ≡ boxes.now) }
+{
+    let mut narrow = Vec::new(alloc);
+    for b in boxes {
+        narrow.push(Bounds::of(b))?;
+    }
+    Ok(narrow)
 }
 
 // Coordinate by coordinate the lesser of two points.

@@ -35,7 +35,8 @@ pub(crate) fn list_leaves(
         }
         Node::Inner { left, right } => {
             list_leaves(nodes, left, levels - 1, leaves)?;
-            list_leaves(nodes, right, levels - 1, leaves)
+            list_leaves(nodes, right, levels - 1, leaves)?;
+            Ok(())
         }
     }
 }

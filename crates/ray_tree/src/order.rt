@@ -58,5 +58,6 @@ pub(crate) fn ordered(alloc: Global, items: &[Option<Box3>]) -> Result<Vec<u32>,
 {
     let mut entries = entries_of(alloc, items)?;
     arrange_all(&mut entries);
-    items_of(alloc, &entries)
+    let numbers = items_of(alloc, &entries)?;
+    Ok(numbers)
 }

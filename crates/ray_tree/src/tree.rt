@@ -1,14 +1,15 @@
-ghost use Rattle.std.specs.Prelude.{◌≡◌, ◌<◌, ◌↔◌, ℕ, IsTrue, IfOk, SomeIff, length, slice_index};
+ghost use Rattle.std.specs.Prelude.{◌≡◌, ◌<◌, ◌≤◌, ◌^◌, ◌↔◌, ℕ, IsTrue, IfOk, SomeIff, length, slice_index};
 ghost use Rattle.ray_geom.specs.Boxes.{BoxValue};
 ghost use Rattle.ray_tree.specs.Shapes.{node_at};
-ghost use Rattle.ray_tree.specs.Trees.{TreeOver, IsShape, box_at, item_at, leaves_of};
+ghost use Rattle.ray_tree.specs.Trees.{TreeOver, IsShape, tree_value, box_at, item_at, leaves_of};
 ghost use Rattle.ray_tree.specs.Local.{IsFit};
 
-use crate::bounds::Bounds;
+use crate::bounds::{Bounds, narrowed};
+use crate::leaves::list_leaves;
 use crate::node::Node;
 use crate::over::is_over;
 use ray_geom::Box3;
-use std::alloc::AllocError as NoMemory;
+use std::alloc::{AllocError as NoMemory, Global};
 use std::marker::Model;
 
 /// A binary tree over items. Contracts see it as its nodes, their boxes, and the items' numbers in
@@ -33,6 +34,50 @@ impl Model for Tree {
 }
 
 impl Tree {
+    /// The tree of these nodes, boxes and items' numbers, node 0 being the root. They are a tree
+    /// over the items, which are at most 2^20.
+    ///
+    /// # Errors
+    ///
+    /// For want of memory alone.
+    pub fn of_parts(
+        alloc: Global,
+        nodes: Vec<Node>,
+        boxes: Vec<Box3>,
+        order: Vec<u32>,
+        _items: &[Option<Box3>],
+    ) -> Result<Tree, NoMemory>
+        requires few { length _items.now ≤ 2 ^ 20 }
+        requires over { TreeOver (tree_value nodes.items boxes.items order.items) _items.now }
+        ensures { IfOk result (λ t. t ≡ tree_value nodes.items boxes.items order.items) }
+    {
+        let bounds = narrowed(alloc, &boxes)?;
+        let tree = Tree::kept(alloc, nodes, bounds, order)?;
+        Ok(tree)
+    }
+
+    // The tree of these.
+    pub(crate) fn kept(
+        alloc: Global,
+        nodes: Vec<Node>,
+        boxes: Vec<Bounds>,
+        order: Vec<u32>,
+    ) -> Result<Tree, NoMemory>
+        requires shape { IsShape (tree_value nodes.items boxes.items order.items) }
+        requires few { length nodes.items < 2 ^ 32 }
+        ensures { IfOk result (λ t. t ≡ tree_value nodes.items boxes.items order.items) }
+    {
+        let mut leaves = Vec::new(alloc);
+        let levels = nodes.len();
+        list_leaves(&nodes, 0, levels, &mut leaves)?;
+        Ok(Tree {
+            nodes,
+            boxes,
+            order,
+            leaves,
+        })
+    }
+
     /// Says what the shape of a tree is; it does nothing.
     pub fn shape(&self)
         ensures { IsShape self.now }
