@@ -1,5 +1,5 @@
 pub mod Under
-pub mod Laws
+pub mod NodeLaws
 pub mod LeastLists
 pub mod Counting
 pub mod Locals
@@ -12,3 +12,5 @@ pub mod Entered
 pub mod Listing
 pub mod Filled
 pub mod Median
+pub mod Nested
+pub mod Tips

@@ -9,7 +9,7 @@ use Rattle.ray_tree.specs.Shapes.{Shape, Gone, Tip, Fork, node_at, grow, shape_i
 use Rattle.ray_tree.specs.Trees.{TreeValue, shape_at, box_at, boxes_in, boxes_below, IsShape, TreeOver}
 use Rattle.ray_tree.specs.Local.{IsLocal, AreLocal, AreFit, IsFit, HasItems}
 use Rattle.ray_tree.proofs.Under.{shape_suc, shape_zero}
-use Rattle.ray_tree.proofs.Laws.{whole_at, at_leaf, at_inner}
+use Rattle.ray_tree.proofs.NodeLaws.{whole_at, at_leaf, at_inner}
 use Rattle.ray_tree.proofs.LeastLists.{least_append, same_least}
 use Rattle.ray_tree.proofs.Counting.{has_items, items_once}
 

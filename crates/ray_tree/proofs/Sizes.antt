@@ -11,7 +11,7 @@ use Rattle.ray_tree.proofs.Under.{at_itself, shape_zero}
 use Rattle.ray_tree.proofs.Counting.{total, total-sum, total-same, total-inside}
 use Rattle.ray_tree.proofs.Locals.{over_has}
 
-abbrev size_of : Shape → ℕ
+abbrev pub size_of : Shape → ℕ
 size_of Gone = 0
 size_of (Tip node first count) = 1
 size_of (Fork node l r) = 1 + (size_of l + size_of r)
@@ -69,7 +69,7 @@ size-places (Fork node l r) ends few =
 in_range : (n many : ℕ) → 0 < inside n 0 many → n < many
 in_range n many h = grind (arith, nat_tests)
 
-size-is : (tree : TreeValue) → IsShape tree → 0 < length tree.nodes → size_of (shape_at tree 0) ≡ length tree.nodes
+pub size-is : (tree : TreeValue) → IsShape tree → 0 < length tree.nodes → size_of (shape_at tree 0) ≡ length tree.nodes
 size-is tree shape some =
     sym (visits-total (length tree.nodes) (shape_at tree 0) (shape.ends some) (λ m h. in_range m (length tree.nodes) (omega (arith, h, shape.nodes_once m))))
     ∙ total-same (length tree.nodes) (λ m. visits m (shape_at tree 0)) (λ m. inside m 0 (length tree.nodes)) (λ m small. shape.nodes_once m)

@@ -3,3 +3,4 @@ pub mod Trees
 pub mod Local
 pub mod Plans
 pub mod Entries
+pub mod Nesting

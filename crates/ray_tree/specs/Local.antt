@@ -46,3 +46,13 @@ pub record IsKept (tree : TreeValue) (leaves : List ℕ) : Type 0 where
   pub listed : leaves ≡ leaves_of tree
   pub few_nodes : length tree.nodes < 2 ^ 32
   pub few_leaves : length leaves < 2 ^ 32
+
+-- a node is a leaf
+abbrev pub IsLeaf : Node → Type 0
+IsLeaf (Leaf first count) = Unit {0}
+IsLeaf (Inner left right) = ⊥
+
+-- a number is that of a leaf
+pub record IsLeafAt (tree : TreeValue) (n : ℕ) : Type 0 where
+  pub small : n < length tree.nodes
+  pub leaf : IsLeaf (node_at tree.nodes n)

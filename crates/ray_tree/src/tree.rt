@@ -2,7 +2,7 @@ ghost use Rattle.std.specs.Prelude.{◌≡◌, ◌<◌, ◌≤◌, ◌^◌, ◌�
 ghost use Rattle.ray_geom.specs.Boxes.{BoxValue};
 ghost use Rattle.ray_tree.specs.Shapes.{node_at};
 ghost use Rattle.ray_tree.specs.Trees.{TreeOver, IsShape, tree_value, box_at, item_at, leaves_of};
-ghost use Rattle.ray_tree.specs.Local.{IsFit};
+ghost use Rattle.ray_tree.specs.Local.{IsFit, IsLeafAt};
 
 use crate::bounds::{Bounds, narrowed};
 use crate::leaves::list_leaves;
@@ -146,6 +146,16 @@ impl Tree {
 
     /// The node of a leaf. Leaves are numbered from the left.
     pub fn leaf(&self, k: u32) -> u32
+        requires { k < length (leaves_of self.now) }
+        ensures value { result ≡ slice_index (leaves_of self.now) k }
+        ensures limits { IsLeafAt self.now result }
+    {
+        self.shape();
+        self.plain_leaf(k)
+    }
+
+    // The node of a leaf, as it stands there.
+    fn plain_leaf(&self, k: u32) -> u32
         requires { k < length (leaves_of self.now) }
         ensures { result ≡ slice_index (leaves_of self.now) k }
     {
