@@ -14,3 +14,4 @@ pub mod Filled
 pub mod Median
 pub mod Nested
 pub mod Tips
+pub mod OneItem

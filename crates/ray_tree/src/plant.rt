@@ -5,6 +5,9 @@ ghost use Rattle.ray_tree.specs.Plans.{halves, spell};
 use crate::node::Node;
 use std::alloc::AllocError as NoMemory;
 
+// A leaf has at most so many places.
+const MOST: u32 = 4;
+
 // Adds the nodes over so many places from the first one on, over at most so many levels.
 pub(crate) fn plant(
     nodes: &mut Vec<Node>,
@@ -21,7 +24,7 @@ pub(crate) fn plant(
 {
     let at = nodes.len();
     nodes.push(Node::Leaf { first, count })?;
-    if count <= 4 {
+    if count <= MOST {
         return Ok(());
     }
     let half = (count + 1) / 2;

@@ -105,3 +105,22 @@ fn builds_five(rt: HostRuntime) -> Result<(), NoMemory> {
     assert!(rt; count_at(&tree, 0) == 3 && count_at(&tree, 1) == 2);
     Ok(())
 }
+
+// The tree over one box, of parts.
+fn of_one(alloc: Global, b: Box3) -> Result<Tree, NoMemory> {
+    let mut nodes = Vec::new(alloc);
+    nodes.push(Node::Leaf { first: 0, count: 1 })?;
+    let mut boxes = Vec::new(alloc);
+    boxes.push(b)?;
+    let mut order = Vec::new(alloc);
+    order.push(0)?;
+    Tree::of_parts(alloc, nodes, boxes, order, &[Some(b)])
+}
+
+#[test]
+fn is_made_of_parts(rt: HostRuntime) -> Result<(), NoMemory> {
+    let b = Box3::of_point(Vec3 { x: 1, y: 2, z: 3 });
+    let tree = of_one(rt.alloc(), b)?;
+    assert!(rt; tree.is_tree_over(&[Some(b)]));
+    Ok(())
+}
