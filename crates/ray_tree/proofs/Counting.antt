@@ -1,11 +1,11 @@
 -- Sums over all numbers below one, and that a list without repeats that is as long as there are active items
 -- and has active ones alone has each of them once.
-use Rattle.std.proofs.Common.{◌≡◌, ◌∙◌, ◌+◌, ◌-◌, ◌*◌, ◌<◌, ◌≤◌, ℕ, zero, suc, ◌⊎◌, inl, inr, Bool, true, false, cond, Option, Some, None, List, [], ◌∷◌, length, take, get_or, nat_eq, refl, sym, ap, subst, arith}
-use Rattle.std.specs.Prelude.{is_some, ◌==◌, ◌↔◌}
-use Rattle.std.specs.List.{All, sum_by, count_by}
+use Rattle.std.proofs.Common.{◌≡◌, ◌∙◌, ◌+◌, ◌-◌, ◌<◌, ◌≤◌, ℕ, zero, suc, ◌⊎◌, inl, inr, Bool, true, false, cond, Option, None, List, [], ◌∷◌, length, take, get_or, refl, sym, ap, subst, arith}
+use Rattle.std.specs.Prelude.{is_some, ◌==◌}
+use Rattle.std.specs.List.{All, count_by}
 use Rattle.std.proofs.lemmas.Bool.Decides.{nat_tests}
 use Rattle.std.proofs.lemmas.Bool.{eqb-true}
-use Rattle.std.proofs.lemmas.List.Elements.{All-nil, All-cons, All-head, All-tail, All-weaker, All-from_get_or, All-get_or}
+use Rattle.std.proofs.lemmas.List.Elements.{All-head, All-tail, All-weaker, All-from_get_or}
 use Rattle.std.proofs.lemmas.List.Sums.{sum_by-cons, sum_by_more, get_or-le-sum_by}
 use Rattle.std.proofs.lemmas.List.{take_all, get_or_past}
 use Rattle.ray_geom.specs.Boxes.{BoxValue}
@@ -48,7 +48,7 @@ total-equal (suc n) f g h e p small =
     let below : total n f ≤ total n g = total-most n f g (λ q lt. h q (omega arith)) in
     let last : f n ≤ g n = h n (omega arith) in
     elim (apart p n small) [
-      inl a ↦ total-equal n f g (λ q lt. h q (omega arith)) (omega (arith, e, below, last)) p a
+      | inl a ↦ total-equal n f g (λ q lt. h q (omega arith)) (omega (arith, e, below, last)) p a
       | inr b ↦ subst (λ r. f r ≡ g r) (sym b) (omega (arith, e, below, last))
     ]
 
@@ -66,11 +66,11 @@ total-inside n from zero h = total-same n (λ p. inside p from 0) (λ p. 0) (λ 
     none p = grind (arith, nat_tests)
 total-inside zero from (suc m) h = absurd (omega arith)
 total-inside (suc n) from (suc m) h = elim (apart (from + m) n (omega arith)) [
-    inl a ↦ (let last : inside n from (suc m) ≡ 0 = grind (arith, nat_tests) in
+  | inl a ↦ (let last : inside n from (suc m) ≡ 0 = grind (arith, nat_tests) in
       omega (arith, total-inside n from (suc m) (omega arith), last))
-    | inr b ↦ (let last : inside n from (suc m) ≡ 1 = grind (arith, nat_tests) in
+  | inr b ↦ (let last : inside n from (suc m) ≡ 1 = grind (arith, nat_tests) in
       omega (arith, total-same n (λ p. inside p from (suc m)) (λ p. inside p from m) (λ p small. short p (omega arith)), total-inside n from m (omega arith), last))
-  ]
+]
   where
     short : (p : ℕ) → p < from + m → inside p from (suc m) ≡ inside p from m
     short p small = grind (arith, nat_tests)
@@ -117,9 +117,9 @@ times-some qs i small =
 holds-times : (P : ℕ → Type 0) (p : ℕ) (qs : List ℕ) → All P qs → 0 < times p qs → P p
 holds-times P p [] h some = absurd (omega arith)
 holds-times P p (q ∷ qs) h some = elim (first_or (q == p) (times p qs) (omega (arith, times-cons p q qs))) [
-    inl a ↦ subst P (eqb-true q p a) (All-head P q qs h)
-    | inr b ↦ holds-times P p qs (All-tail P q qs h) b
-  ]
+  | inl a ↦ subst P (eqb-true q p a) (All-head P q qs h)
+  | inr b ↦ holds-times P p qs (All-tail P q qs h) b
+]
   where
     first_or : (b : Bool) (n : ℕ) → 0 < cond b 1 0 + n → (b ≡ true) ⊎ (0 < n)
     first_or true n h = inl refl
@@ -153,23 +153,23 @@ below_all items qs h = All-weaker (IsActive items) (λ q. q < length items) (λ 
 pub has_items : (order : List ℕ) (items : List (Option BoxValue)) → ((p : ℕ) → times p order ≡ active items p) → HasItems order items
 has_items order items once =
     let each : All (IsActive items) order = All-from_get_or (IsActive items) order 0 (λ i small.
-      let p = get_or order i 0 in omega (arith, times-some order i small, once p, at_most_active items p)) in
+    let p = get_or order i 0 in omega (arith, times-some order i small, once p, at_most_active items p)) in
     record {
       many = sym (total-times (length items) order (below_all items order each))
-        ∙ total-same (length items) (λ p. times p order) (active items) (λ p small. once p)
-        ∙ total-active items;
+          ∙ total-same (length items) (λ p. times p order) (active items) (λ p small. once p)
+          ∙ total-active items;
       each = each;
     }
 
 pub items_once : (order : List ℕ) (items : List (Option BoxValue)) → ((p : ℕ) → times p order ≤ 1) → HasItems order items → (p : ℕ) → times p order ≡ active items p
 items_once order items most has p = elim (either p (length items)) [
-    inl a ↦ total-equal (length items) (λ q. times q order) (active items) (λ q small. within q)
+  | inl a ↦ total-equal (length items) (λ q. times q order) (active items) (λ q small. within q)
       (total-times (length items) order (below_all items order has.each) ∙ has.many ∙ sym (total-active items)) p a
-    | inr b ↦ omega (arith, within p, past items p b)
-  ]
+  | inr b ↦ omega (arith, within p, past items p b)
+]
   where
     within : (q : ℕ) → times q order ≤ active items q
     within q = elim (either 0 (times q order)) [
-        inl a ↦ omega (arith, most q, holds-times (IsActive items) q order has.each a)
-        | inr b ↦ omega arith
-      ]
+      | inl a ↦ omega (arith, most q, holds-times (IsActive items) q order has.each a)
+      | inr b ↦ omega arith
+    ]

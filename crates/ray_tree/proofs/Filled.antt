@@ -1,7 +1,7 @@
 -- One box more, from the last node to the first.
-use Rattle.std.proofs.Common.{◌≡◌, ◌≢◌, ◌∙◌, ◌+◌, ◌<◌, ◌≤◌, ◌⊎◌, inl, inr, ◌++◌, ℕ, zero, suc, Option, List, [], ◌∷◌, length, get_or, set, refl, sym, ap, ap₂, subst, arith, get_or-set_other, get_or-set_same}
+use Rattle.std.proofs.Common.{◌≡◌, ◌≢◌, ◌∙◌, ◌+◌, ◌<◌, ◌≤◌, inl, inr, ◌++◌, ℕ, zero, suc, Option, List, [], ◌∷◌, length, get_or, set, refl, sym, ap, ap₂, subst, arith, get_or-set_other, get_or-set_same}
 use Rattle.ray_geom.specs.Boxes.{BoxValue}
-use Rattle.ray_geom.specs.LeastBoxes.{HoldsBoxes, IsLeast, union_of}
+use Rattle.ray_geom.specs.LeastBoxes.{union_of}
 use Rattle.ray_tree.specs.declared.node.Node.{Node}
 use Rattle.ray_tree.specs.declared.node.Node.TheVariants.{Leaf, Inner}
 use Rattle.ray_tree.specs.Shapes.{node_at}
@@ -33,16 +33,17 @@ module _ (items : List (Option BoxValue)) (order : List ℕ) (boxes : List BoxVa
   one_more : AreLocalFrom items order boxes nodes (i + 1) → IsLocal items order boxes made (node_at nodes i) → (n : ℕ) → i ≤ n → n < length nodes
       → IsLocalAt items order (set boxes i made) nodes n
   one_more from local n le lt d = elim (either i n) [
-      inl a ↦ (let ne : n ≢ i = omega arith in
+    | inl a ↦ (let ne : n ≢ i = omega arith in
         subst (λ b. IsLocal items order (set boxes i made) b (node_at nodes n)) (sym (the_other ne))
         (after n le lt (get_or boxes n d) (from.each n (omega arith) lt d)))
-      | inr c ↦ (let same : i ≡ n = omega arith in
+    | inr c ↦ (let same : i ≡ n = omega arith in
         subst (λ m. IsLocal items order (set boxes i made) (get_or (set boxes i made) m d) (node_at nodes m)) same
         (subst (λ b. IsLocal items order (set boxes i made) b (node_at nodes i)) (sym the_same) (after i (omega arith) small made local)))
-    ]
+  ]
     where
       the_other : n ≢ i → get_or (set boxes i made) n d ≡ get_or boxes n d
       the_other ne = rw get_or-set_other
+
       the_same : get_or (set boxes i made) i d ≡ made
       the_same = let lt' : i < length boxes = omega arith in rw get_or-set_same
 
@@ -65,10 +66,10 @@ up-append n m (x ∷ xs) ys e a b = (a.0, up-append (n + 1) m xs ys (omega (arit
 up-spell : (at first : ℕ) (p : Plan) → AreUp at (spell at first p)
 up-spell at first (Few count) = (tt, tt)
 up-spell at first (Both l r) = (
-    (omega arith, omega arith),
-    up-append (at + 1) ((at + 1) + size l) (spell (at + 1) first l) (spell ((at + 1) + size l) (first + places_of l) r)
+  (omega arith, omega arith),
+  up-append (at + 1) ((at + 1) + size l) (spell (at + 1) first l) (spell ((at + 1) + size l) (first + places_of l) r)
       (omega (arith, length-spell (at + 1) first l)) (up-spell (at + 1) first l) (up-spell ((at + 1) + size l) (first + places_of l) r),
-  )
+)
 
 up-look : (n : ℕ) (xs : List Node) (i : ℕ) → AreUp n xs → i < length xs → Up (n + i) (node_at xs i)
 up-look n [] i up small = absurd (omega arith)
@@ -76,10 +77,12 @@ up-look n (x ∷ xs) zero up small = let same : n ≡ n + zero = omega arith in 
 up-look n (x ∷ xs) (suc i) up small = let same : (n + 1) + i ≡ n + suc i = omega arith in subst (λ k. Up k (node_at xs i)) same (up-look (n + 1) xs i up.1 (omega arith))
 
 pub spell-rises : (nodes : List Node) (p : Plan) → nodes ≡ spell 0 0 p → AreRising nodes
-spell-rises nodes p is = record { each = λ n l r small at.
-    let up = up-look 0 nodes n (subst (AreUp 0) (sym is) (up-spell 0 0 p)) small in
-    let same : 0 + n ≡ n = omega arith in
-    subst (λ k. Up k (Inner l r)) same (subst (Up (0 + n)) at up) }
+spell-rises nodes p is = record {
+  each = λ n l r small at.
+      let up = up-look 0 nodes n (subst (AreUp 0) (sym is) (up-spell 0 0 p)) small in
+      let same : 0 + n ≡ n = omega arith in
+      subst (λ k. Up k (Inner l r)) same (subst (Up (0 + n)) at up);
+}
 
 pub none-rises : (nodes : List Node) → nodes ≡ [] → AreRising nodes
 none-rises nodes is = record { each = λ n l r small at. absurd (omega (arith, ap length is)) }

@@ -1,16 +1,15 @@
 -- Trees by halves: how many places and levels they have, and that each leaf has 1 to 4 places.
-use Rattle.std.proofs.Common.{◌≡◌, ◌∙◌, ◌+◌, ◌-◌, ◌*◌, ◌/◌, ◌^◌, ◌<◌, ◌≤◌, ◌⊎◌, inl, inr, ℕ, zero, suc, Bool, true, false, cond, refl, sym, ap, subst, arith}
-use Rattle.std.specs.Prelude.{nat_le, if◌then◌else◌, max}
+use Rattle.std.proofs.Common.{◌≡◌, ◌∙◌, ◌+◌, ◌-◌, ◌*◌, ◌/◌, ◌^◌, ◌<◌, ◌≤◌, ◌⊎◌, inl, inr, ℕ, zero, suc, true, false, refl, sym, ap, subst, arith}
+use Rattle.std.specs.Prelude.{nat_le, if◌then◌else◌}
 use Rattle.std.proofs.lemmas.Bool.Decides.{nat_tests}
 use Rattle.std.proofs.Math.Nat.{pow-suc, pow-zero}
-use Rattle.ray_tree.specs.Shapes.{places, levels, AreHalves}
+use Rattle.ray_tree.specs.Shapes.{levels, AreHalves}
 use Rattle.ray_tree.specs.Plans.{Plan, Few, Both, size, places_of, label, AreSmall, halves}
 use Rattle.ray_tree.proofs.Spelled.{places-label}
 
 pub halves_none : (count : ℕ) → halves zero count ≡ Few count
 unfolding halves
 halves_none count = refl
-
 
 pub halves_few : (height count : ℕ) → count ≤ 4 → halves (suc height) count ≡ Few count
 unfolding halves
@@ -47,16 +46,17 @@ of_both height count a b l r half sum many p q = record {
   small = (p.small, q.small);
   sized = let s = p.sized in let t = q.sized in omega arith;
   low = λ at first.
-    let s = p.low (at + 1) first in
-    let t = q.low ((at + 1) + size l) (first + places_of l) in
-    omega arith;
+      let s = p.low (at + 1) first in
+      let t = q.low ((at + 1) + size l) (first + places_of l) in
+      omega arith;
   even = λ at first.
-    let e = places-label (at + 1) first l ∙ p.full in
-    let f = places-label ((at + 1) + size l) (first + places_of l) r ∙ q.full in
-    (omega (arith, e, f),
-     e ∙ half ∙ ap (λ n. (n + 1) / 2) (omega (arith, e, f)),
-     p.even (at + 1) first,
-     q.even ((at + 1) + size l) (first + places_of l));
+      let e = places-label (at + 1) first l ∙ p.full in
+      let f = places-label ((at + 1) + size l) (first + places_of l) r ∙ q.full in (
+        omega (arith, e, f),
+        e ∙ half ∙ ap (λ n. (n + 1) / 2) (omega (arith, e, f)),
+        p.even (at + 1) first,
+        q.even ((at + 1) + size l) (first + places_of l),
+      );
 }
 
 decided : (count : ℕ) → (count ≤ 4) ⊎ (4 < count)
@@ -69,12 +69,12 @@ decided count = by (count - 4) count refl
 pub halved : (height count : ℕ) → 0 < count → count ≤ 4 * 2 ^ height → Halved height count (halves height count)
 halved zero count some le = subst (Halved zero count) (sym (halves_none count)) (of_few zero count some (omega (arith, pow-zero 2)))
 halved (suc h) count some le = elim (decided count) [
-    inl few ↦ subst (Halved (suc h) count) (sym (halves_few h count few)) (of_few (suc h) count some few)
-    | inr many ↦
+  | inl few ↦ subst (Halved (suc h) count) (sym (halves_few h count few)) (of_few (suc h) count some few)
+  | inr many ↦
       (let twice = pow-suc 2 h in
-       subst (Halved (suc h) count) (sym (halves_more h count many))
-       (of_both h count ((count + 1) / 2) (count - (count + 1) / 2) (halves h ((count + 1) / 2)) (halves h (count - (count + 1) / 2))
-         refl (omega arith) many
-         (halved h ((count + 1) / 2) (omega arith) (omega (arith, twice)))
-         (halved h (count - (count + 1) / 2) (omega arith) (omega (arith, twice)))))
-  ]
+      subst (Halved (suc h) count) (sym (halves_more h count many))
+      (of_both h count ((count + 1) / 2) (count - (count + 1) / 2) (halves h ((count + 1) / 2)) (halves h (count - (count + 1) / 2))
+      refl (omega arith) many
+      (halved h ((count + 1) / 2) (omega arith) (omega (arith, twice)))
+      (halved h (count - (count + 1) / 2) (omega arith) (omega (arith, twice)))))
+]

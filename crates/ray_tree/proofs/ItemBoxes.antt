@@ -1,7 +1,6 @@
 -- The boxes of a list of items, one item after the other, and when the box of a node is so.
-use Rattle.std.proofs.Common.{◌≡◌, ◌∙◌, ◌+◌, ◌<◌, ◌≤◌, ◌↔◌, ◌++◌, ℕ, Bool, Option, Some, List, [], ◌∷◌, length, take, drop, get_or, refl, sym, ap, subst, arith, append_assoc}
+use Rattle.std.proofs.Common.{◌≡◌, ◌∙◌, ◌+◌, ◌<◌, ◌↔◌, ◌++◌, ℕ, Bool, Option, Some, List, [], ◌∷◌, length, take, get_or, refl, sym, ap, subst, append_assoc}
 use Rattle.std.specs.Prelude.{IsTrue}
-use Rattle.std.specs.Bool.{Decides}
 use Rattle.std.specs.Option.{option_to_list}
 use Rattle.std.proofs.lemmas.List.{take_more, get_or_default}
 use Rattle.ray_geom.specs.Boxes.{BoxValue}
@@ -51,9 +50,9 @@ pub is_local : (items : List (Option BoxValue)) (order : List ℕ) (boxes : List
     → n < length boxes → box ≡ get_or boxes n box → IsLocal items order boxes made (node_at nodes n) → r ≡ box_eq box made
     → IsTrue r ↔ IsLocalAt items order boxes nodes n
 is_local items order boxes nodes n box made r small is local e = (
-    λ h d.
+  λ h d.
       let same = (box_eq-identical box made).0 (subst IsTrue e h) in
       subst (λ b. IsLocal items order boxes b (node_at nodes n)) (sym same ∙ is ∙ get_or_default boxes n box d small) local,
-    λ h. subst IsTrue (sym e) ((box_eq-identical box made).1 (same_local items order boxes box made (node_at nodes n)
+  λ h. subst IsTrue (sym e) ((box_eq-identical box made).1 (same_local items order boxes box made (node_at nodes n)
       (subst (λ b. IsLocal items order boxes b (node_at nodes n)) (sym is) (h box)) local)),
-  )
+)

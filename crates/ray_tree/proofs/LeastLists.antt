@@ -1,9 +1,9 @@
 -- Least boxes of lists of boxes.
-use Rattle.std.proofs.Common.{◌≡◌, ◌++◌, List, [], ◌∷◌, refl, sym, subst, arith}
+use Rattle.std.proofs.Common.{◌≡◌, ◌++◌, List, [], ◌∷◌}
 use Rattle.std.specs.List.{All}
 use Rattle.std.proofs.lemmas.List.Elements.{All-nil, All-cons, All-head, All-tail, All-append, All-weaker}
 use Rattle.ray_geom.specs.Boxes.{BoxValue, IsPart}
-use Rattle.ray_geom.specs.LeastBoxes.{HoldsBoxes, HoldsBoth, IsLeast, union_of}
+use Rattle.ray_geom.specs.LeastBoxes.{HoldsBoxes, IsLeast, union_of}
 use Rattle.ray_geom.proofs.LeastBoxes.{IsLeast-union, IsPart-chain, IsPart-itself}
 use Rattle.ray_prune.proofs.Unions.{IsLeast-only}
 
@@ -22,8 +22,8 @@ least_append xs ys a b p q =
     let u = union_of a b in
     record {
       holds = All-append (λ x. IsPart x u) xs ys
-        (All-weaker (λ x. IsPart x a) (λ x. IsPart x u) (λ x h. IsPart-chain x a u h both.holds.first) xs p.holds)
-        (All-weaker (λ x. IsPart x b) (λ x. IsPart x u) (λ x h. IsPart-chain x b u h both.holds.second) ys q.holds);
+          (All-weaker (λ x. IsPart x a) (λ x. IsPart x u) (λ x h. IsPart-chain x a u h both.holds.first) xs p.holds)
+          (All-weaker (λ x. IsPart x b) (λ x. IsPart x u) (λ x h. IsPart-chain x b u h both.holds.second) ys q.holds);
       least = λ other h. both.least other (record {
         first = p.least other (All-first (λ x. IsPart x other) xs ys h);
         second = q.least other (All-second (λ x. IsPart x other) xs ys h);

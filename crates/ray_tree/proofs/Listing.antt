@@ -1,7 +1,7 @@
 -- The leaves below an inner node, from the left.
-use Rattle.std.proofs.Common.{◌≡◌, ◌∙◌, ◌+◌, ◌-◌, ◌<◌, ◌++◌, ℕ, zero, suc, List, length, refl, sym, ap, ap₂, arith, append_assoc}
+use Rattle.std.proofs.Common.{◌≡◌, ◌∙◌, ◌-◌, ◌<◌, ◌++◌, ℕ, zero, suc, List, sym, ap, ap₂, arith, append_assoc}
 use Rattle.ray_tree.specs.declared.node.Node.{Node}
-use Rattle.ray_tree.specs.declared.node.Node.TheVariants.{Leaf, Inner}
+use Rattle.ray_tree.specs.declared.node.Node.TheVariants.{Inner}
 use Rattle.ray_tree.specs.Shapes.{node_at, grow, shape_in, tips}
 use Rattle.ray_tree.proofs.Under.{shape_suc}
 

@@ -1,12 +1,11 @@
 -- Each box is the least box of the items from its node down exactly where each is so node by node.
-use Rattle.std.proofs.Common.{◌≡◌, ◌∙◌, ◌+◌, ◌<◌, ◌≤◌, ℕ, zero, suc, Option, List, [], ◌∷◌, length, get_or, refl, sym, ap, subst, arith}
-use Rattle.std.proofs.lemmas.List.{get_or_default}
+use Rattle.std.proofs.Common.{◌≡◌, ◌∙◌, ◌+◌, ◌<◌, ℕ, zero, suc, Option, List, length, refl, sym, ap, subst, arith}
 use Rattle.ray_geom.specs.Boxes.{BoxValue}
 use Rattle.ray_geom.specs.LeastBoxes.{HoldsBoxes, IsLeast, union_of}
 use Rattle.ray_tree.specs.declared.node.Node.{Node}
 use Rattle.ray_tree.specs.declared.node.Node.TheVariants.{Leaf, Inner}
-use Rattle.ray_tree.specs.Shapes.{Shape, Gone, Tip, Fork, node_at, grow, shape_in, gone}
-use Rattle.ray_tree.specs.Trees.{TreeValue, shape_at, box_at, boxes_in, boxes_below, IsShape, TreeOver}
+use Rattle.ray_tree.specs.Shapes.{Fork, node_at, grow, shape_in, gone}
+use Rattle.ray_tree.specs.Trees.{TreeValue, shape_at, box_at, boxes_below, IsShape, TreeOver}
 use Rattle.ray_tree.specs.Local.{IsLocal, AreLocal, AreFit, IsFit, HasItems}
 use Rattle.ray_tree.proofs.Under.{shape_suc, shape_zero}
 use Rattle.ray_tree.proofs.NodeLaws.{whole_at, at_leaf, at_inner}
@@ -38,7 +37,7 @@ module _ (tree : TreeValue) (items : List (Option BoxValue)) (shape : IsShape tr
       let lefts = boxes_below items tree.order (shape_at tree l) in
       let rights = boxes_below items tree.order (shape_at tree r) in
       let union : IsLeast (HoldsBoxes (boxes_below items tree.order (Fork n (shape_at tree l) (shape_at tree r)))) (union_of (box_at tree d l) (box_at tree d r)) =
-        least_append lefts rights (box_at tree d l) (box_at tree d r) (deeper l at.left (omega (arith, sum))) (deeper r at.right (omega (arith, sum))) in
+      least_append lefts rights (box_at tree d l) (box_at tree d r) (deeper l at.left (omega (arith, sum))) (deeper r at.right (omega (arith, sum))) in
       subst (λ s. IsLeast (HoldsBoxes (boxes_below items tree.order s)) (box_at tree d n)) (sym at.shape)
       (subst (λ b. IsLeast (HoldsBoxes (boxes_below items tree.order (Fork n (shape_at tree l) (shape_at tree r)))) b) (sym (local d)) union)
 
@@ -75,8 +74,10 @@ pub over_has : (tree : TreeValue) (items : List (Option BoxValue)) → TreeOver 
 over_has tree items over = has_items tree.order items over.active_once
 
 pub over_local : (tree : TreeValue) (items : List (Option BoxValue)) → TreeOver tree items → AreLocalIn tree items
-over_local tree items over = record { each = λ n small d.
-    local_case tree items over.shape d n (node_at tree.nodes n) refl small (λ e c lt. over.least c e lt) }
+over_local tree items over = record {
+  each = λ n small d.
+      local_case tree items over.shape d n (node_at tree.nodes n) refl small (λ e c lt. over.least c e lt);
+}
 
 -- what the nodes of a tree name is there
 fit_case : (tree : TreeValue) → IsShape tree → (n : ℕ) (node : Node) → node_at tree.nodes n ≡ node → n < length tree.nodes → IsFit (length tree.order) (length tree.nodes) node

@@ -1,5 +1,5 @@
 -- What is known of the nodes of a tree by halves over so many places.
-use Rattle.std.proofs.Common.{◌≡◌, ◌∙◌, ◌+◌, ◌*◌, ◌^◌, ◌<◌, ◌≤◌, ℕ, zero, suc, List, [], ◌∷◌, length, map, replicate, refl, sym, ap, subst, arith}
+use Rattle.std.proofs.Common.{◌≡◌, ◌∙◌, ◌^◌, ◌≤◌, ℕ, zero, suc, List, [], length, replicate, sym, ap, subst, arith}
 use Rattle.std.proofs.lemmas.Bool.Decides.{nat_tests}
 use Rattle.std.proofs.lemmas.Simd.{length-replicate}
 use Rattle.std.specs.Prelude.{pos, is_some, Option}
@@ -7,13 +7,13 @@ use Rattle.std.proofs.lemmas.List.Sums.{count_by-le-length}
 use Rattle.ray_geom.specs.Vector.{vec3}
 use Rattle.ray_geom.specs.Boxes.{BoxValue, box_value}
 use Rattle.ray_tree.specs.declared.node.Node.{Node}
-use Rattle.ray_tree.specs.Shapes.{Shape, Gone, shape_in, inside, gone, visits, holds, AreFew, levels, AreHalves}
+use Rattle.ray_tree.specs.Shapes.{Gone, shape_in, inside, visits, holds, AreFew, levels, AreHalves}
 use Rattle.ray_tree.specs.Trees.{tree_value, times, active, IsShape}
 use Rattle.ray_tree.specs.Local.{AreFit}
-use Rattle.ray_tree.specs.Plans.{Plan, spell, halves, median_nodes, AreRising}
+use Rattle.ray_tree.specs.Plans.{halves, median_nodes, AreRising}
 use Rattle.ray_tree.proofs.Under.{shape_zero}
 use Rattle.ray_tree.proofs.Spelled.{shape_of_spell, shape_of_plan}
-use Rattle.ray_tree.proofs.Halved.{Halved, halved}
+use Rattle.ray_tree.proofs.Halved.{halved}
 use Rattle.ray_tree.proofs.Filled.{spell-rises, none-rises}
 use Rattle.ray_tree.proofs.Locals.{are_fit}
 use Rattle.ray_tree.proofs.Counting.{has_items, at_most_active}

@@ -1,9 +1,8 @@
 -- The laws of a tree at one node.
-use Rattle.std.proofs.Common.{◌≡◌, ◌∙◌, ◌+◌, ◌-◌, ◌<◌, ◌≤◌, ℕ, zero, suc, List, [], length, refl, sym, ap, subst, arith}
+use Rattle.std.proofs.Common.{◌≡◌, ◌∙◌, ◌+◌, ◌-◌, ◌<◌, ◌≤◌, ℕ, length, sym, ap, subst, arith}
 use Rattle.std.proofs.lemmas.Bool.Decides.{nat_tests}
-use Rattle.ray_tree.specs.declared.node.Node.{Node}
 use Rattle.ray_tree.specs.declared.node.Node.TheVariants.{Leaf, Inner}
-use Rattle.ray_tree.specs.Shapes.{Shape, Gone, Tip, Fork, node_at, grow, shape_in, inside, gone, visits, holds, AreFew}
+use Rattle.ray_tree.specs.Shapes.{Tip, Fork, node_at, grow, inside, gone, visits, holds, AreFew}
 use Rattle.ray_tree.specs.Trees.{TreeValue, shape_at, IsShape}
 use Rattle.ray_tree.proofs.Under.{Part, found, stable, one_more, shape_suc, visits_itself}
 

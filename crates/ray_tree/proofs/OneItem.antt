@@ -1,11 +1,11 @@
 -- The tree over one item, of a leaf alone.
-use Rattle.std.proofs.Common.{◌≡◌, ◌<◌, ◌≤◌, ℕ, zero, suc, Option, Some, List, [], ◌∷◌, length, refl, arith}
+use Rattle.std.proofs.Common.{◌<◌, ◌≤◌, ℕ, zero, suc, Option, Some, List, [], ◌∷◌, refl, arith}
 use Rattle.std.proofs.lemmas.Bool.Decides.{nat_tests}
 use Rattle.std.proofs.lemmas.List.Elements.{All-nil, All-cons}
 use Rattle.ray_geom.specs.Boxes.{BoxValue}
 use Rattle.ray_tree.specs.declared.node.Node.{Node}
 use Rattle.ray_tree.specs.declared.node.Node.TheVariants.{Leaf}
-use Rattle.ray_tree.specs.Trees.{tree_value, times, IsShape, TreeOver}
+use Rattle.ray_tree.specs.Trees.{tree_value, TreeOver}
 use Rattle.ray_tree.specs.Local.{IsActive, IsLocalAt}
 use Rattle.ray_tree.specs.Plans.{Few}
 use Rattle.ray_tree.proofs.Spelled.{shape_of_plan}

@@ -1,11 +1,11 @@
 -- One step of planting the nodes of a tree by halves.
-use Rattle.std.proofs.Common.{◌≡◌, ◌∙◌, ◌+◌, ◌-◌, ◌*◌, ◌/◌, ◌^◌, ◌<◌, ◌≤◌, ◌++◌, ℕ, zero, suc, List, [], ◌∷◌, length, set, refl, sym, ap, ap₂, subst, arith, append_assoc, length-append}
+use Rattle.std.proofs.Common.{◌≡◌, ◌∙◌, ◌+◌, ◌-◌, ◌*◌, ◌/◌, ◌^◌, ◌<◌, ◌≤◌, ◌++◌, ℕ, zero, suc, List, [], ◌∷◌, length, set, refl, sym, ap, ap₂, arith, append_assoc, length-append}
 use Rattle.std.proofs.Math.Nat.{pow-suc, pow-zero}
 use Rattle.ray_tree.specs.declared.node.Node.{Node}
-use Rattle.ray_tree.specs.declared.node.Node.TheVariants.{Leaf, Inner}
+use Rattle.ray_tree.specs.declared.node.Node.TheVariants.{Inner}
 use Rattle.ray_tree.specs.Plans.{Plan, Few, Both, size, places_of, spell, halves}
 use Rattle.ray_tree.proofs.Spelled.{length-spell}
-use Rattle.ray_tree.proofs.Halved.{Halved, halved, halves_none, halves_few, halves_more}
+use Rattle.ray_tree.proofs.Halved.{halved, halves_none, halves_few, halves_more}
 
 pub few_halves : (h count : ℕ) → count ≤ 4 → halves h count ≡ Few count
 few_halves zero count few = halves_none count
@@ -39,7 +39,7 @@ planted_both n0 n1 n2 n3 x first half l r a b c full =
     let rs = spell ((length n0 + 1) + size l) (first + places_of l) r in
     let left : n2 ≡ (n0 ++ (x ∷ [])) ++ ls = b ∙ ap₂ (λ u v. u ++ v) a (ap (λ k. spell k first l) one) in
     let all : n3 ≡ n0 ++ (x ∷ (ls ++ rs)) =
-      c ∙ ap₂ (λ u v. u ++ v) left (λ i. spell (two i) (first + sym full i) r) ∙ regrouped n0 x ls rs in
+    c ∙ ap₂ (λ u v. u ++ v) left (λ i. spell (two i) (first + sym full i) r) ∙ regrouped n0 x ls rs in
     (λ i. set (all i) (length n0) (Inner (length n0 + 1) (two i)))
     ∙ set_middle n0 x (Inner (length n0 + 1) ((length n0 + 1) + size l)) (ls ++ rs)
 
@@ -57,6 +57,6 @@ planted n0 n1 n2 n3 x at right first count (suc h) e a b f c many low =
     let full = (halved h half (omega arith) (omega (arith, pow-suc 2 h))).full in
     (λ i. set n3 (e i) (Inner (e i + 1) (f i)))
     ∙ planted_both n0 n1 n2 n3 x first half l r a
-      (b ∙ ap (λ k. n1 ++ spell (length n1) first (halves k half)) same)
-      (c ∙ ap (λ k. n2 ++ spell (length n2) (first + half) (halves k (count - half))) same) full
+    (b ∙ ap (λ k. n1 ++ spell (length n1) first (halves k half)) same)
+    (c ∙ ap (λ k. n2 ++ spell (length n2) (first + half) (halves k (count - half))) same) full
     ∙ ap (λ p. n0 ++ spell (length n0) first p) (sym (halves_more h count many))

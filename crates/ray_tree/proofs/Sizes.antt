@@ -1,12 +1,12 @@
 -- How many nodes, leaves and places a tree has.
-use Rattle.std.proofs.Common.{◌≡◌, ◌∙◌, ◌+◌, ◌-◌, ◌*◌, ◌<◌, ◌≤◌, ◌++◌, ℕ, zero, suc, Option, List, [], ◌∷◌, length, refl, sym, ap, subst, arith, length-append}
+use Rattle.std.proofs.Common.{◌≡◌, ◌∙◌, ◌+◌, ◌-◌, ◌*◌, ◌<◌, ◌≤◌, ℕ, zero, suc, Option, List, length, refl, sym, ap, arith, length-append}
 use Rattle.std.specs.Prelude.{is_some}
 use Rattle.std.proofs.lemmas.Bool.Decides.{nat_tests}
 use Rattle.std.proofs.lemmas.List.Sums.{count_by-le-length}
 use Rattle.ray_geom.specs.Boxes.{BoxValue}
 use Rattle.ray_tree.specs.declared.node.Node.{Node}
 use Rattle.ray_tree.specs.Shapes.{Shape, Gone, Tip, Fork, shape_in, inside, gone, visits, holds, AreFew, places, tips}
-use Rattle.ray_tree.specs.Trees.{TreeValue, shape_at, leaves_of, active_of, IsShape, TreeOver}
+use Rattle.ray_tree.specs.Trees.{TreeValue, shape_at, leaves_of, IsShape, TreeOver}
 use Rattle.ray_tree.proofs.Under.{at_itself, shape_zero}
 use Rattle.ray_tree.proofs.Counting.{total, total-sum, total-same, total-inside}
 use Rattle.ray_tree.proofs.Locals.{over_has}
@@ -32,10 +32,14 @@ visits-total many (Tip node first count) ends within =
     total-inside many node 1 (omega arith)
 visits-total many (Fork node l r) ends within =
     let small : node < many = within node (some_here (inside node node 1) (visits node l) (visits node r) (omega (arith, at_itself node))) in
-    omega (arith, total-sum many (λ m. inside m node 1) (λ m. visits m l + visits m r), total-sum many (λ m. visits m l) (λ m. visits m r),
+    omega (
+      arith,
+      total-sum many (λ m. inside m node 1) (λ m. visits m l + visits m r),
+      total-sum many (λ m. visits m l) (λ m. visits m r),
       total-inside many node 1 (omega arith),
       visits-total many l (omega (arith, ends)) (λ m h. within m (some_left (inside m node 1) (visits m l) (visits m r) h)),
-      visits-total many r (omega (arith, ends)) (λ m h. within m (some_right (inside m node 1) (visits m l) (visits m r) h)))
+      visits-total many r (omega (arith, ends)) (λ m h. within m (some_right (inside m node 1) (visits m l) (visits m r) h)),
+    )
 
 last_held : (first count : ℕ) → 0 < count → 0 < inside (first + (count - 1)) first count
 last_held first count h = grind (arith, nat_tests)
@@ -51,9 +55,12 @@ holds-total many (Tip node first count) few within =
     let small : first + (count - 1) < many = within (first + (count - 1)) (last_held first count some) in
     total-inside many first count (omega arith)
 holds-total many (Fork node l r) few within =
-    omega (arith, total-sum many (λ x. holds x l) (λ x. holds x r),
+    omega (
+      arith,
+      total-sum many (λ x. holds x l) (λ x. holds x r),
       holds-total many l few.0 (λ x h. within x (omega (arith, h))),
-      holds-total many r few.1 (λ x h. within x (omega (arith, h))))
+      holds-total many r few.1 (λ x h. within x (omega (arith, h))),
+    )
 
 tips-few : (s : Shape) → length (tips s) ≤ size_of s
 tips-few Gone = omega arith

@@ -4,8 +4,8 @@ use Rattle.std.proofs.lemmas.Bool.Decides.{nat_tests}
 use Rattle.ray_geom.specs.Boxes.{BoxValue}
 use Rattle.ray_tree.specs.declared.node.Node.{Node}
 use Rattle.ray_tree.specs.declared.node.Node.TheVariants.{Leaf, Inner}
-use Rattle.ray_tree.specs.Shapes.{Shape, Gone, Tip, Fork, node_at, grow, shape_in, inside, gone, visits, holds, AreFew, places}
-use Rattle.ray_tree.specs.Trees.{TreeValue, tree_value, shape_at, IsShape, times}
+use Rattle.ray_tree.specs.Shapes.{Fork, node_at, grow, shape_in, inside, gone, visits, holds, AreFew, places}
+use Rattle.ray_tree.specs.Trees.{tree_value, IsShape, times}
 use Rattle.ray_tree.specs.Plans.{Plan, Few, Both, size, places_of, spell, label, AreSmall}
 use Rattle.ray_tree.proofs.Under.{shape_suc}
 
@@ -16,8 +16,12 @@ size-some (Both l r) = omega arith
 pub length-spell : (at first : ℕ) (p : Plan) → length (spell at first p) ≡ size p
 length-spell at first (Few count) = refl
 length-spell at first (Both l r) =
-    omega (arith, length-append (spell (at + 1) first l) (spell ((at + 1) + size l) (first + places_of l) r), length-spell (at + 1) first l,
-      length-spell ((at + 1) + size l) (first + places_of l) r)
+    omega (
+      arith,
+      length-append (spell (at + 1) first l) (spell ((at + 1) + size l) (first + places_of l) r),
+      length-spell (at + 1) first l,
+      length-spell ((at + 1) + size l) (first + places_of l) r,
+    )
 
 middle : {X : Type 0} (before : List X) (x : X) (after : List X) (d : X) → get_or (before ++ (x ∷ after)) (length before) d ≡ x
 middle [] x after d = refl
@@ -44,10 +48,10 @@ spelled (Both l r) before after ns at first (suc k) e is le =
     shape_suc k ns at
     ∙ ap (grow (shape_in k ns) at) (node_middle before x ((ls ++ rs) ++ after) ns at e is)
     ∙ ap₂ (λ a b. Fork at a b)
-      (spelled l (before ++ (x ∷ [])) (rs ++ after) ns (at + 1) first k
-        (omega (arith, length-append before (x ∷ []), e)) (is ∙ regroup_left before x ls rs after) (omega arith))
-      (spelled r (before ++ (x ∷ ls)) after ns ((at + 1) + size l) (first + places_of l) k
-        (omega (arith, length-append before (x ∷ ls), length-spell (at + 1) first l, e)) (is ∙ regroup_right before x ls rs after) (omega arith))
+    (spelled l (before ++ (x ∷ [])) (rs ++ after) ns (at + 1) first k
+    (omega (arith, length-append before (x ∷ []), e)) (is ∙ regroup_left before x ls rs after) (omega arith))
+    (spelled r (before ++ (x ∷ ls)) after ns ((at + 1) + size l) (first + places_of l) k
+    (omega (arith, length-append before (x ∷ ls), length-spell (at + 1) first l, e)) (is ∙ regroup_right before x ls rs after) (omega arith))
 
 pub gone-label : (at first : ℕ) (p : Plan) → gone (label at first p) ≡ 0
 gone-label at first (Few count) = refl
@@ -59,8 +63,13 @@ joined n a b c = grind (arith, nat_tests)
 pub visits-label : (n at first : ℕ) (p : Plan) → visits n (label at first p) ≡ inside n at (size p)
 visits-label n at first (Few count) = refl
 visits-label n at first (Both l r) =
-    omega (arith, visits-label n (at + 1) first l, visits-label n ((at + 1) + size l) (first + places_of l) r,
-      joined n (at + 1) (size l) (size r), joined n at 1 (size l + size r))
+    omega (
+      arith,
+      visits-label n (at + 1) first l,
+      visits-label n ((at + 1) + size l) (first + places_of l) r,
+      joined n (at + 1) (size l) (size r),
+      joined n at 1 (size l + size r),
+    )
 
 pub holds-label : (x at first : ℕ) (p : Plan) → holds x (label at first p) ≡ inside x first (places_of p)
 holds-label x at first (Few count) = refl

@@ -1,9 +1,9 @@
 -- What is from a node down, where that node stands below another.
-use Rattle.std.proofs.Common.{◌≡◌, ◌∙◌, ◌+◌, ◌-◌, ◌<◌, ◌≤◌, ◌⊎◌, inl, inr, ℕ, zero, suc, List, [], refl, sym, ap, subst, arith}
+use Rattle.std.proofs.Common.{◌≡◌, ◌∙◌, ◌+◌, ◌-◌, ◌<◌, ◌≤◌, ◌⊎◌, inl, inr, ℕ, zero, suc, List, refl, sym, ap, subst, arith}
 use Rattle.std.proofs.lemmas.Bool.Decides.{nat_tests}
 use Rattle.ray_tree.specs.declared.node.Node.{Node}
 use Rattle.ray_tree.specs.declared.node.Node.TheVariants.{Leaf, Inner}
-use Rattle.ray_tree.specs.Shapes.{Shape, Gone, Tip, Fork, node_at, grow, shape_in, inside, gone, visits, holds, AreFew}
+use Rattle.ray_tree.specs.Shapes.{Shape, Gone, Fork, node_at, grow, shape_in, inside, gone, visits, holds, AreFew}
 
 -- what is from a node down, one level after the other
 pub shape_suc : (k : ℕ) (nodes : List Node) (n : ℕ) → shape_in (suc k) nodes n ≡ grow (shape_in k nodes) n (node_at nodes n)
@@ -75,12 +75,12 @@ grown : (nodes : List Node) (k m n : ℕ) (node : Node)
 grown nodes k m n (Leaf first count) deeper itself ends seen = itself (here n m seen)
 grown nodes k m n (Inner left right) deeper itself ends seen =
     elim (one_of (inside n m 1) (visits n (shape_in k nodes left)) (visits n (shape_in k nodes right)) seen) [
-      inl a ↦ itself (here n m a)
+      | inl a ↦ itself (here n m a)
       | inr b ↦ elim b [
-        inl l ↦ of_left nodes k n m (shape_in k nodes left) (shape_in k nodes right)
-          (deeper left (no_sum (gone (shape_in k nodes left)) (gone (shape_in k nodes right)) ends) l)
+        | inl l ↦ of_left nodes k n m (shape_in k nodes left) (shape_in k nodes right)
+            (deeper left (no_sum (gone (shape_in k nodes left)) (gone (shape_in k nodes right)) ends) l)
         | inr r ↦ of_right nodes k n m (shape_in k nodes left) (shape_in k nodes right)
-          (deeper right (no_sum_right (gone (shape_in k nodes left)) (gone (shape_in k nodes right)) ends) r)
+            (deeper right (no_sum_right (gone (shape_in k nodes left)) (gone (shape_in k nodes right)) ends) r)
       ]
     ]
 
@@ -90,9 +90,9 @@ found nodes zero m n ends seen = absurd (let e = sym (ap gone (shape_zero nodes 
 found nodes (suc k) m n ends seen =
     subst (Part nodes (suc k) n) (sym (shape_suc k nodes m))
     (grown nodes k m n (node_at nodes m) (λ c. found nodes k c n)
-      (λ e. subst (Part nodes (suc k) n) (shape_suc k nodes m) (whole_part nodes (suc k) m n ends e))
-      (subst (λ s. gone s ≡ 0) (shape_suc k nodes m) ends)
-      (subst (λ s. 0 < visits n s) (shape_suc k nodes m) seen))
+    (λ e. subst (Part nodes (suc k) n) (shape_suc k nodes m) (whole_part nodes (suc k) m n ends e))
+    (subst (λ s. gone s ≡ 0) (shape_suc k nodes m) ends)
+    (subst (λ s. 0 < visits n s) (shape_suc k nodes m) seen))
 
 -- one level more changes nothing where no way down was too long
 same_grown : (nodes : List Node) (k n : ℕ) (node : Node)
@@ -101,8 +101,8 @@ same_grown : (nodes : List Node) (k n : ℕ) (node : Node)
 same_grown nodes k n (Leaf first count) deeper ends = refl
 same_grown nodes k n (Inner left right) deeper ends =
     λ i. Fork n
-      (deeper left (no_sum (gone (shape_in k nodes left)) (gone (shape_in k nodes right)) ends) i)
-      (deeper right (no_sum_right (gone (shape_in k nodes left)) (gone (shape_in k nodes right)) ends) i)
+    (deeper left (no_sum (gone (shape_in k nodes left)) (gone (shape_in k nodes right)) ends) i)
+    (deeper right (no_sum_right (gone (shape_in k nodes left)) (gone (shape_in k nodes right)) ends) i)
 
 pub one_more : (nodes : List Node) (k n : ℕ) → gone (shape_in k nodes n) ≡ 0 → shape_in (suc k) nodes n ≡ shape_in k nodes n
 one_more nodes zero n ends = absurd (let e = sym (ap gone (shape_zero nodes n)) ∙ ends in omega (arith, e))

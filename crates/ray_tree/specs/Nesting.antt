@@ -17,7 +17,7 @@ pub record AreNested (tree : TreeValue) : Type 0 where
 -- the box of an item is in the box of each node above it, the leaf where it stands being one of these
 pub record AreAround (tree : TreeValue) (items : List (Option BoxValue)) : Type 0 where
   pub each : (n at : ℕ) (d box : BoxValue) → n < length tree.nodes → 0 < holds at (shape_at tree n) →
-    item_box items (item_at tree at) ≡ Some box → IsPart box (box_at tree d n)
+      item_box items (item_at tree at) ≡ Some box → IsPart box (box_at tree d n)
 
 -- how often an item stands in the leaves from a node down
 abbrev pub stands : List ℕ → ℕ → Shape → ℕ

@@ -1,6 +1,6 @@
 -- Trees over items, some of them inactive: each active item stands in one leaf, and each box is the
 -- least box of the items below it. (Own.)
-use Rattle.std.specs.Prelude.{◌≡◌, ◌<◌, ◌≤◌, ◌==◌, ◌++◌, ℕ, if◌then◌else◌, Option, Some, None, is_some, List, [], ◌∷◌, length, take, drop, slice_index_or, count_by}
+use Rattle.std.specs.Prelude.{◌≡◌, ◌<◌, ◌≤◌, ◌==◌, ◌++◌, ℕ, if◌then◌else◌, Option, None, is_some, List, [], ◌∷◌, length, take, drop, slice_index_or, count_by}
 use Rattle.std.specs.Option.{option_to_list}
 use Rattle.ray_geom.specs.Boxes.{BoxValue}
 use Rattle.ray_geom.specs.LeastBoxes.{HoldsBoxes, IsLeast}
@@ -80,4 +80,4 @@ pub record TreeOver (tree : TreeValue) (items : List (Option BoxValue)) : Type 0
   pub shape : IsShape tree
   pub active_once : (p : ℕ) → times p tree.order ≡ active items p
   pub least : (n : ℕ) (d : BoxValue) → n < length tree.nodes →
-    IsLeast (HoldsBoxes (boxes_below items tree.order (shape_at tree n))) (box_at tree d n)
+      IsLeast (HoldsBoxes (boxes_below items tree.order (shape_at tree n))) (box_at tree d n)

@@ -40,7 +40,11 @@ fn select(entries: &mut [Entry], many: usize, axis: usize, cuts: u32)
     ensures { IsPermutation entries.old entries.new }
 {
     if cuts == 0 {
-        entries.sort_unstable_by_key(|e: &Entry| -> i32 requires { axis < 3 } { e.middle[axis] });
+        entries.sort_unstable_by_key(
+            |e: &Entry| -> i32
+                requires { axis < 3 }
+            { e.middle[axis] },
+        );
         return;
     }
     if entries.len() < 2 {

@@ -9,14 +9,12 @@ use ray_geom::Box3;
 pub fn nesting_law(_tree: &Tree, _items: &[Option<Box3>])
     ensures nodes { TreeOver _tree.now _items.now → AreNested _tree.now }
     ensures items { TreeOver _tree.now _items.now → AreAround _tree.now _items.now }
-{
-}
+{}
 
 /// In a tree over items each active item stands in one leaf, and nothing else does.
 pub fn leaf_law(_tree: &Tree, _items: &[Option<Box3>])
     ensures { TreeOver _tree.now _items.now → AreApart _tree.now _items.now }
-{
-}
+{}
 
 /// A way down a tree has at most as many nodes as there are.
 pub fn level_law(tree: &Tree)

@@ -43,12 +43,7 @@ fn least_in(items: &[Option<Box3>], order: &[u32], first: usize, count: usize) -
 }
 
 // The box of a node, by those of its children where it isn't a leaf.
-pub(crate) fn box_by(
-    items: &[Option<Box3>],
-    order: &[u32],
-    boxes: &[Bounds],
-    node: Node,
-) -> Bounds
+pub(crate) fn box_by(items: &[Option<Box3>], order: &[u32], boxes: &[Bounds], node: Node) -> Bounds
     requires active { All (IsActive items.now) order.now }
     requires fit { IsFit (length order.now) (length boxes.now) node }
     ensures { IsLocal items.now order.now boxes.now result node }

@@ -1,4 +1,21 @@
-//! Box trees over items, some of them inactive.
+//! Binary box trees over items, some of them inactive: a leaf has 1 to 4 items, and the box of each
+//! node is the least box of the items below it.
+//!
+//! [`Tree`] is the one type. Contracts see it as its nodes, their boxes, and the items' numbers in
+//! the order of their places. The layers above use `TreeOver` of `specs/Trees`, which says what a
+//! tree over items is:
+//! - [`build_median`] gives one, by halves;
+//! - [`Tree::of_parts`] takes one in parts, and so do other builders;
+//! - [`Tree::is_tree_over`] is true exactly of one, and takes no memory;
+//! - [`nesting_law`], [`leaf_law`] and [`level_law`] say how its nodes stand to each other and to
+//!   the items.
+//!
+//! What hangs on the nodes alone is `IsShape`, which [`Tree::shape`] gives of every tree, and
+//! `shape_at` of `specs/Trees` is what is from a node down; `proofs/NodeLaws` has its laws at one
+//! node. Want of memory is the only error.
+//!
+//! It stands on `ray_geom`, on `ray_contents` for points in 12 bytes, and on `ray_prune` for a
+//! lemma.
 #![tactic(auto)]
 
 mod activity;

@@ -96,11 +96,7 @@ impl Tree {
     pub fn root(&self) -> Option<u32>
         ensures { SomeIff result (0 < length self.now.nodes) 0 }
     {
-        if self.nodes.len() == 0 {
-            None
-        } else {
-            Some(0)
-        }
+        if self.nodes.len() == 0 { None } else { Some(0) }
     }
 
     /// The node of a number.

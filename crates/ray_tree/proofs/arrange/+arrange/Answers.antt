@@ -1,4 +1,4 @@
-use Rattle.std.proofs.Common.{◌≡◌, ◌++◌, sym, subst}
+use Rattle.std.proofs.Common.{◌++◌, sym, subst}
 use Rattle.std.specs.List.Sorted.{IsPermutation}
 use Rattle.std.proofs.lemmas.List.Sorted.{IsPermutation-trans, IsPermutation-append}
 use Rattle.ray_tree.proofs.arrange.+arrange.Goals as goal
@@ -10,4 +10,4 @@ returns t c =
     let whole = c.select.new.entries in
     IsPermutation-trans c.args.entries.now whole (c.arrange.new.entries ++ c.arrange-2.new.entries) c.select.ensures
     (subst (λ l. IsPermutation l (c.arrange.new.entries ++ c.arrange-2.new.entries)) (sym c.split_at_mut-left.ensures.value)
-      (IsPermutation-append left c.arrange.new.entries right c.arrange-2.new.entries c.arrange.ensures c.arrange-2.ensures))
+    (IsPermutation-append left c.arrange.new.entries right c.arrange-2.new.entries c.arrange.ensures c.arrange-2.ensures))

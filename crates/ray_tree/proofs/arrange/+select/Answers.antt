@@ -1,4 +1,4 @@
-use Rattle.std.proofs.Common.{◌≡◌, ◌++◌, sym, subst}
+use Rattle.std.proofs.Common.{◌++◌, sym, subst}
 use Rattle.std.specs.List.Sorted.{IsPermutation}
 use Rattle.std.proofs.lemmas.List.Sorted.{IsPermutation-trans, IsPermutation-append_right, IsPermutation-append_left}
 use Rattle.ray_tree.proofs.arrange.+select.Goals as goal
@@ -9,7 +9,7 @@ returns-then-many-cut t c =
     let back = c.split_at_mut-front.result.1.now in
     IsPermutation-trans c.args.entries.now c.split_once-cut.new.entries (front ++ c.select.new.entries) c.split_once-cut.ensures.same
     (subst (λ l. IsPermutation l (front ++ c.select.new.entries)) (sym c.split_at_mut-front.ensures.value)
-      (IsPermutation-append_right front back c.select.new.entries c.select.ensures))
+    (IsPermutation-append_right front back c.select.new.entries c.select.ensures))
 
 pub returns-then-not-cut : goal.returns-then-not-cut
 returns-then-not-cut t c =
@@ -17,4 +17,4 @@ returns-then-not-cut t c =
     let back = c.split_at_mut-front.result.1.now in
     IsPermutation-trans c.args.entries.now c.split_once-cut.new.entries (c.select-then-not-cut.new.entries ++ back) c.split_once-cut.ensures.same
     (subst (λ l. IsPermutation l (c.select-then-not-cut.new.entries ++ back)) (sym c.split_at_mut-front.ensures.value)
-      (IsPermutation-append_left back front c.select-then-not-cut.new.entries c.select-then-not-cut.ensures))
+    (IsPermutation-append_left back front c.select-then-not-cut.new.entries c.select-then-not-cut.ensures))

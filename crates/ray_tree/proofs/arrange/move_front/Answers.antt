@@ -4,6 +4,6 @@ use Rattle.ray_tree.proofs.arrange.move_front.Goals as goal
 
 pub loop-i-preserved : goal.loop-i-preserved
 loop-i-preserved c = (
-    IsPermutation-trans c.args.entries.now c.loop-i.entries c.swap.new.self c.loop-i.invariant.0 c.swap.ensures.permutation,
-    omega (arith, c.loop-i.invariant.1),
-  )
+  IsPermutation-trans c.args.entries.now c.loop-i.entries c.swap.new.self c.loop-i.invariant.0 c.swap.ensures.permutation,
+  omega (arith, c.loop-i.invariant.1),
+)

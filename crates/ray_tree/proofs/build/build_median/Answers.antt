@@ -1,4 +1,4 @@
-use Rattle.std.proofs.Common.{rules, ◌≡◌, ◌∙◌, ◌≤◌, ◌*◌, length, sym, ap, subst, arith}
+use Rattle.std.proofs.Common.{rules, ◌≡◌, ◌∙◌, ◌≤◌, length, sym, ap, subst, arith}
 use Rattle.ray_tree.specs.Shapes.{levels, AreHalves}
 use Rattle.ray_tree.specs.Trees.{TreeOver, tree_value, shape_at}
 use Rattle.ray_tree.specs.Local.{AreFit, AreLocal}
@@ -23,14 +23,14 @@ boxes_over-requires-clause-fit c =
     let m = median_of order items nodes c.len.result c.in_ok-order.ensures c.requires len c.in_ok-nodes.ensures in
     let fit : AreFit (length order) nodes = median-fit nodes (length order) order m (λ i. length order) (once-most order items c.in_ok-order.ensures) in
     subst (λ l. AreFit (length l) c.deref-2.result.now) (sym c.deref.ensures.value)
-      (subst (AreFit (length order)) (sym c.deref-2.ensures.value) fit)
+    (subst (AreFit (length order)) (sym c.deref-2.ensures.value) fit)
 
 pub boxes_over-requires-clause-rising : goal.boxes_over-requires-clause-rising
 boxes_over-requires-clause-rising c =
     let order = c.in_ok-order.order.items in
     let len : c.len.result ≡ length order = search rules in
     subst AreRising (sym c.deref-2.ensures.value)
-      (median_of order c.args.items.now c.in_ok-nodes.nodes.items c.len.result c.in_ok-order.ensures c.requires len c.in_ok-nodes.ensures).rising
+    (median_of order c.args.items.now c.in_ok-nodes.nodes.items c.len.result c.in_ok-order.ensures c.requires len c.in_ok-nodes.ensures).rising
 
 pub kept-requires-clause-shape : goal.kept-requires-clause-shape
 kept-requires-clause-shape c =
@@ -40,7 +40,7 @@ kept-requires-clause-shape c =
     let len : c.len.result ≡ length order = search rules in
     let m = median_of order items nodes c.len.result c.in_ok-order.ensures c.requires len c.in_ok-nodes.ensures in
     m.shape c.in_ok-boxes.boxes.items order (λ i. length order) (c.in_ok-boxes.ensures.boxed ∙ ap length c.deref-2.ensures.value)
-      (once-most order items c.in_ok-order.ensures)
+    (once-most order items c.in_ok-order.ensures)
 
 pub kept-requires-clause-few : goal.kept-requires-clause-few
 kept-requires-clause-few c =
@@ -57,18 +57,18 @@ returns-clause-over c =
     let len : c.len.result ≡ length order = search rules in
     let m = median_of order items nodes c.len.result c.in_ok-order.ensures c.requires len c.in_ok-nodes.ensures in
     let shape = m.shape boxes order (λ i. length order) (c.in_ok-boxes.ensures.boxed ∙ ap length c.deref-2.ensures.value)
-      (once-most order items c.in_ok-order.ensures) in
+    (once-most order items c.in_ok-order.ensures) in
     let local = subst (λ l. AreLocal items l boxes nodes) c.deref.ensures.value
-      (subst (AreLocal items c.deref.result.now boxes) c.deref-2.ensures.value c.in_ok-boxes.ensures.local) in
+    (subst (AreLocal items c.deref.result.now boxes) c.deref-2.ensures.value c.in_ok-boxes.ensures.local) in
     subst (λ t. TreeOver t items) (sym c.in_ok-tree.ensures)
-      (tree_over (tree_value nodes boxes order) items shape (has_items order items c.in_ok-order.ensures) local)
+    (tree_over (tree_value nodes boxes order) items shape (has_items order items c.in_ok-order.ensures) local)
 
 pub returns-clause-halves : goal.returns-clause-halves
 returns-clause-halves c =
     let order = c.in_ok-order.order.items in
     let len : c.len.result ≡ length order = search rules in
     subst (λ t. AreHalves (shape_at t 0)) (sym c.in_ok-tree.ensures)
-      (median_of order c.args.items.now c.in_ok-nodes.nodes.items c.len.result c.in_ok-order.ensures c.requires len c.in_ok-nodes.ensures).even
+    (median_of order c.args.items.now c.in_ok-nodes.nodes.items c.len.result c.in_ok-order.ensures c.requires len c.in_ok-nodes.ensures).even
 
 pub returns-clause-low : goal.returns-clause-low
 returns-clause-low c =

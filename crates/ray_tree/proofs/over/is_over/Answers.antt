@@ -1,4 +1,4 @@
-use Rattle.std.proofs.Common.{rules, ◌≡◌, false, true, sym, ◌∙◌}
+use Rattle.std.proofs.Common.{sym, ◌∙◌}
 use Rattle.ray_tree.specs.Trees.{tree_value}
 use Rattle.ray_tree.proofs.Locals.{over_has, over_local, tree_over, are_fit}
 use Rattle.ray_tree.proofs.over.is_over.Goals as goal
@@ -16,6 +16,7 @@ are_least-requires-clause-fit c = are_fit (tree_value c.args.nodes.now c.args.bo
 
 pub returns : goal.returns
 returns c =
-    let tree = tree_value c.args.nodes.now c.args.boxes.now c.args.order.now in
-    (λ h. tree_over tree c.args.items.now c.requires (c.has_items.ensures.0 c.if-not-has_items.false) (c.are_least.ensures.0 h),
-     λ over. c.are_least.ensures.1 (over_local tree c.args.items.now over))
+    let tree = tree_value c.args.nodes.now c.args.boxes.now c.args.order.now in (
+      λ h. tree_over tree c.args.items.now c.requires (c.has_items.ensures.0 c.if-not-has_items.false) (c.are_least.ensures.0 h),
+      λ over. c.are_least.ensures.1 (over_local tree c.args.items.now over),
+    )

@@ -1,5 +1,5 @@
-use Rattle.std.proofs.Common.{rules, ◌≡◌, ◌∙◌, ◌+◌, ◌++◌, ℕ, length, sym, ap, arith}
-use Rattle.ray_tree.specs.Plans.{spell, halves}
+use Rattle.std.proofs.Common.{rules, ◌≡◌, ◌∙◌, ◌+◌, ◌++◌, length, sym, ap, arith}
+use Rattle.ray_tree.specs.Plans.{spell}
 use Rattle.ray_tree.proofs.Planting.{tall, few_halves, planted}
 use Rattle.ray_tree.proofs.plant.+plant.Goals as goal
 

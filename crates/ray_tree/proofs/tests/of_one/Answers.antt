@@ -1,4 +1,4 @@
-use Rattle.std.proofs.Common.{◌≡◌, ◌∙◌, ◌++◌, ◌∷◌, [], Some, ap, sym, subst}
+use Rattle.std.proofs.Common.{◌∙◌, ◌++◌, ◌∷◌, [], Some, ap, sym, subst}
 use Rattle.ray_tree.specs.declared.node.Node.TheVariants.{Leaf}
 use Rattle.ray_tree.specs.Trees.{TreeOver, tree_value}
 use Rattle.ray_tree.proofs.OneItem.{one_tree}

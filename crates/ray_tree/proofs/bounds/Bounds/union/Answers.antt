@@ -1,6 +1,6 @@
 use Rattle.std.proofs.Common.{rules, ◌≡◌, subst}
 use Rattle.ray_geom.specs.Boxes.{IsBox, box_value}
-use Rattle.ray_geom.specs.LeastBoxes.{union_of, lesser_of, greater_of}
+use Rattle.ray_geom.specs.LeastBoxes.{lesser_of, greater_of}
 use Rattle.ray_geom.proofs.LeastBoxes.{IsBox-union}
 use Rattle.ray_tree.proofs.bounds.Bounds.union.Goals as goal
 

@@ -1,4 +1,4 @@
-use Rattle.std.proofs.Common.{◌≡◌, ◌∙◌, sym, subst}
+use Rattle.std.proofs.Common.{◌∙◌, sym, subst}
 use Rattle.std.specs.Prelude.{IsTrue, ◌↔◌}
 use Rattle.ray_tree.specs.Trees.{TreeOver, IsShape, tree_value}
 use Rattle.ray_tree.proofs.tree.Tree.is_tree_over.Goals as goal

@@ -9,8 +9,8 @@ invariant_of-result c =
     let tree = tree_value c.args.nodes.items c.args.boxes.items c.args.order.items in
     let levels : c.len-levels.result ≡ length c.args.nodes.items = search rules in
     let listed : c.list_leaves.new.leaves.items ≡ leaves_of tree =
-      c.in_ok-list_leaves.ensures
-      ∙ (λ i. c.new-leaves.ensures.items i ++ tips (shape_in (levels i) (c.deref.ensures.value i) 0)) in
+    c.in_ok-list_leaves.ensures
+    ∙ (λ i. c.new-leaves.ensures.items i ++ tips (shape_in (levels i) (c.deref.ensures.value i) 0)) in
     record {
       shape = c.requires.shape;
       listed = listed;
