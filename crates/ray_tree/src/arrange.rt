@@ -113,9 +113,13 @@ fn pivot_of(entries: &[Entry], axis: usize) -> i32
 fn widest(entries: &[Entry]) -> usize
     ensures { result < 3 }
 {
-    let x = spread(entries, 0);
-    let y = spread(entries, 1);
-    let z = spread(entries, 2);
+    let (mut lo, mut hi) = ([i32::MAX; 3], [i32::MIN; 3]);
+    for entry in entries {
+        let [x, y, z] = entry.middle;
+        lo = [lo[0].min(x), lo[1].min(y), lo[2].min(z)];
+        hi = [hi[0].max(x), hi[1].max(y), hi[2].max(z)];
+    }
+    let (x, y, z) = (way(lo[0], hi[0]), way(lo[1], hi[1]), way(lo[2], hi[2]));
     if x >= y && x >= z {
         0
     } else if y >= z {
@@ -123,19 +127,6 @@ fn widest(entries: &[Entry]) -> usize
     } else {
         2
     }
-}
-
-// How far apart they are along one axis.
-fn spread(entries: &[Entry], axis: usize) -> i64
-    requires { axis < 3 }
-{
-    let mut lo = i32::MAX;
-    let mut hi = i32::MIN;
-    for entry in entries {
-        lo = lo.min(entry.middle[axis]);
-        hi = hi.max(entry.middle[axis]);
-    }
-    way(lo, hi)
 }
 
 // The way from a number to another.
