@@ -15,3 +15,4 @@ pub mod Median
 pub mod Nested
 pub mod Tips
 pub mod OneItem
+pub mod Rooted

@@ -1,4 +1,5 @@
-ghost use Rattle.ray_tree.specs.Trees.{TreeOver};
+ghost use Rattle.std.specs.Prelude.{◌<◌, ◌↔◌, length};
+ghost use Rattle.ray_tree.specs.Trees.{TreeOver, active_of};
 ghost use Rattle.ray_tree.specs.Nesting.{AreNested, AreAround, AreApart, IsLow};
 
 use crate::tree::Tree;
@@ -22,3 +23,8 @@ pub fn level_law(tree: &Tree)
 {
     tree.shape();
 }
+
+/// A tree over items has a root exactly where an item is active.
+pub fn root_law(_tree: &Tree, _items: &[Option<Box3>])
+    ensures { TreeOver _tree.now _items.now → (0 < length _tree.now.nodes) ↔ (0 < active_of _items.now) }
+{}

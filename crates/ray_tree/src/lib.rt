@@ -7,8 +7,8 @@
 //! - [`build_median`] gives one, by halves;
 //! - [`Tree::of_parts`] takes one in parts, and so do other builders;
 //! - [`Tree::is_tree_over`] is true exactly of one, and takes no memory;
-//! - [`nesting_law`], [`leaf_law`] and [`level_law`] say how its nodes stand to each other and to
-//!   the items.
+//! - [`nesting_law`], [`leaf_law`], [`level_law`] and [`root_law`] say how its nodes stand to each
+//!   other and to the items.
 //!
 //! What hangs on the nodes alone is `IsShape`, which [`Tree::shape`] gives of every tree, and
 //! `shape_at` of `specs/Trees` is what is from a node down; `proofs/NodeLaws` has its laws at one
@@ -35,7 +35,7 @@ mod tests;
 mod tree;
 
 pub use crate::build::build_median;
-pub use crate::laws::{leaf_law, level_law, nesting_law};
+pub use crate::laws::{leaf_law, level_law, nesting_law, root_law};
 pub use crate::node::Node;
 pub use crate::tree::Tree;
 pub use std::alloc::AllocError as NoMemory;
