@@ -1,0 +1,84 @@
+-- What is ready has an outcome.
+use Rattle.std.proofs.Common.{◌≡◌, ℕ, List, Option, Some, None, Result, Ok, Err, IsSome, refl, sym, subst}
+use Rattle.std.specs.Option.{option_map, option_map_or, option_and_then}
+use Rattle.ray_bytes.specs.declared.data_fault.DataFault.{DataFault}
+use Rattle.ray_bottom.specs.Contents as bottoms
+use Rattle.ray_bottom.specs.Builders.{BuilderValue}
+use Rattle.ray_top.specs.Contents as tops
+use Rattle.ray_cmd.specs.declared.copy_mode.CopyMode.{CopyMode}
+use Rattle.ray_cmd.specs.declared.copy_mode.CopyMode.TheVariants as copies
+use Rattle.ray_action.specs.declared.form.Form.{Form}
+use Rattle.ray_action.specs.Memory.{Contents, Memory, as_bottom, as_top}
+use Rattle.ray_action.specs.Action.{Tracing, MakeBuffer, MakeStructure, DestroyBuffer, DestroyStructure, ShowSizes, ShowBytes, UpdateBytes, FillBytes, CopyBytes, BuildBottom, UpdateBottom, BuildTop, UpdateTop, CopyStructure, TellProperty, TraceRays, Rest, Unbuilt}
+use Rattle.ray_action.specs.Outcomes.{Outcome, Fault, Gives, Breaks, Undefined, bottom_outcome, bytes_outcome, compact_copy, compacted_of, copy_outcome, hits_outcome, of_bottom, of_top, property_outcome, top_outcome, trace_outcome}
+use Rattle.ray_action.specs.Readiness.{IsCopyReady, FitsMode}
+use Rattle.ray_action.specs.Seeing.{SeenBytes, SeenStructures}
+use Rattle.ray_ready.specs.Laws.{IsDefined, ReadyIsDefined}
+use Rattle.std.specs.Prelude.{Bool, true, false, nat_lt, if◌then◌else◌}
+
+bytes : (seen : SeenBytes) → IsSome seen → IsDefined (bytes_outcome seen)
+bytes None is = absurd cc
+bytes (Some found) is = tt
+
+bottom : (info : ℕ) (built : Result BuilderValue DataFault) → IsDefined (bottom_outcome info built)
+bottom info (Ok b) = tt
+bottom info (Err fault) = tt
+
+top : (info : ℕ) (built : Result tops.TopValue DataFault) → IsDefined (top_outcome info built)
+top info (Ok t) = tt
+top info (Err fault) = tt
+
+-- what is made of something that is there
+made : {X : Type 0} (found : Option X) (make : X → Outcome) → IsSome found → ((x : X) → IsDefined (make x)) → IsDefined (option_map_or make found Undefined)
+made None make is each = absurd cc
+made (Some x) make is each = each x
+
+some : {X : Type 0} (found : Option X) (x : X) → found ≡ Some x → IsSome found
+some None x is = absurd cc
+some (Some y) x is = refl
+
+either : (b : Bool) (x y : Outcome) → IsDefined x → IsDefined y → IsDefined (if b then x else y)
+either true x y h k = h
+either false x y h k = k
+
+compact : (size : ℕ) (b : bottoms.ContentsValue) → IsDefined (compact_copy size b)
+compact size b = either (nat_lt size (compacted_of b)) _ _ tt tt
+
+copied : (mode : CopyMode) (contents : Option Contents) (dst : Option Form) → IsCopyReady contents dst → FitsMode mode contents → IsDefined (copy_outcome mode contents dst)
+copied copies.Clone contents dst ready fits = made contents (λ c. _) (some contents ready.source ready.is_it) (λ c. tt)
+copied copies.Compact contents None ready fits = let none : None ≡ Some ready.made.form = ready.made.is_it in absurd cc
+copied copies.Compact contents (Some form) ready fits =
+    made (option_and_then as_bottom contents) (compact_copy form.size) fits (compact form.size)
+
+told : (numbers : Option (List ℕ)) → IsSome numbers → IsDefined (property_outcome numbers)
+told None is = absurd cc
+told (Some numbers) is = tt
+
+hits : (found : Result (List (List ℕ)) Fault) → IsDefined (hits_outcome found)
+hits (Ok found) = tt
+hits (Err fault) = tt
+
+traced : (trace : Tracing) (uses : SeenStructures) (rays : SeenBytes) (t : Option tops.TopValue) → IsSome rays → IsSome t → IsDefined (trace_outcome trace uses rays t)
+traced trace uses None t is there = absurd cc
+traced trace uses (Some rays) None is there = absurd cc
+traced trace uses (Some rays) (Some t) is there = hits _
+
+pub defined : ReadyIsDefined
+defined (MakeBuffer id size content) memory ready = tt
+defined (MakeStructure id form) memory ready = tt
+defined (DestroyBuffer id) memory ready = tt
+defined (DestroyStructure id) memory ready = tt
+defined (ShowSizes kind counts) memory ready = tt
+defined (ShowBytes from form) memory ready = bytes _ ready
+defined (UpdateBytes to content) memory ready = tt
+defined (FillBytes to value) memory ready = tt
+defined (CopyBytes from to) memory ready = bytes _ ready
+defined (BuildBottom build flags geometries) memory ready = bottom _ _
+defined (UpdateBottom build src geometries) memory ready = made _ _ ready.0 (λ old. bottom _ _)
+defined (BuildTop build flags uses instances) memory ready = top _ _
+defined (UpdateTop build src uses instances) memory ready = made _ _ (some _ ready.0.top ready.0.is_it) (λ old. top _ _)
+defined (CopyStructure mode src dst) memory ready = copied mode _ _ ready.0 ready.1
+defined (TellProperty what structures to) memory ready = told _ ready
+defined (TraceRays trace) memory ready = traced trace _ _ _ ready.rays (some _ ready.top ready.is_it)
+defined Rest memory ready = tt
+defined Unbuilt memory ready = ready

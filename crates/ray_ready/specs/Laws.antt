@@ -1,0 +1,58 @@
+-- What holds of the readiness of actions. (Own.)
+use Rattle.std.specs.Prelude.{ℕ, ◌≡◌, ◌<◌, List, Some, slice_get, take}
+use Rattle.ray_cmd.specs.declared.command.Command.{Command}
+use Rattle.ray_rules.specs.Status.{at_first}
+use Rattle.ray_action.specs.Memory.{Memory, nothing_live}
+use Rattle.ray_action.specs.Areas.{AgreeOn}
+use Rattle.ray_action.specs.Action.{Action, areas_read}
+use Rattle.ray_action.specs.Outcomes.{Outcome, Gives, Breaks, Undefined, outcome_of}
+use Rattle.ray_action.specs.Pieces.{Numbered, actions, actions_from}
+use Rattle.ray_action.specs.Readiness.{IsReady}
+use Rattle.ray_action.specs.Running.{Unknown, run_from, action_at, memory_before}
+use Rattle.ray_ready.specs.Accepted.{IsAccepted}
+
+-- ---- what has a meaning
+
+-- an outcome is an output, or a data rule that is broken
+abbrev pub IsDefined : Outcome → Type 0
+IsDefined (Gives output) = Unit {0}
+IsDefined (Breaks fault) = Unit {0}
+IsDefined Undefined = ⊥
+
+-- an outcome is an output
+abbrev pub IsGiven : Outcome → Type 0
+IsGiven (Gives output) = Unit {0}
+IsGiven (Breaks fault) = ⊥
+IsGiven Undefined = ⊥
+
+-- an action that is ready has a meaning
+abbrev pub ReadyIsDefined : Type 0
+ReadyIsDefined = (action : Action) (memory : Memory) → IsReady action memory → IsDefined (outcome_of action memory)
+
+-- readiness is told by what the action reads
+abbrev pub ReadinessIsLocal : Type 0
+ReadinessIsLocal =
+    (action : Action) (memory other : Memory)
+    → AgreeOn (areas_read action) memory other → IsReady action memory → IsReady action other
+
+-- ---- in its turn
+
+-- each action before number p gave an output
+abbrev pub GaveBefore : List Numbered → ℕ → Type 0
+GaveBefore units p = (q : ℕ) → q < p → IsGiven (outcome_of (action_at units q) (memory_before units q))
+
+-- each action of a command that may be run, before which no data rule is broken, is ready in its turn
+abbrev pub ActionsAreReady : Type 0
+ActionsAreReady =
+    (rec : List Command) (n p : ℕ) (unit : Numbered)
+    → IsAccepted rec n → slice_get (actions rec) p ≡ Some unit → unit.command < n → GaveBefore (actions rec) p
+    → IsReady unit.action (memory_before (actions rec) p)
+
+-- the actions of the first n commands of a recording, in recording order
+abbrev pub first_actions : List Command → ℕ → List Numbered
+first_actions rec n = actions_from rec 0 at_first (take n rec)
+
+-- the run of commands that may be run has a meaning
+abbrev pub RunsAreKnown : Type 0
+RunsAreKnown =
+    (rec : List Command) (n : ℕ) → IsAccepted rec n → run_from nothing_live (first_actions rec n) ≡ Unknown → ⊥

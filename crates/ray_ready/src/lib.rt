@@ -1,0 +1,11 @@
+//! That what a recording asks for can be done: each action of the commands that keep the static
+//! rules is ready in its turn, so that it has an outcome, as long as no data rule is broken before
+//! it. So a run of such commands always comes to a text or to a refusal.
+//!
+//! It is proved by one induction over the recording. Its invariant ties the status of ray_rules to
+//! the memory of ray_action (`proofs/Ties`).
+#![tactic(auto)]
+
+mod laws;
+
+pub use crate::laws::{readiness_is_local, ready_is_defined};
