@@ -1,3 +1,5 @@
 pub mod Local
 pub mod Defined
 pub mod Maps
+pub mod Ties
+pub mod Keeping
