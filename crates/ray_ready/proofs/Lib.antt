@@ -3,3 +3,4 @@ pub mod Defined
 pub mod Maps
 pub mod Ties
 pub mod Keeping
+pub mod Filling
