@@ -4,3 +4,5 @@ pub mod Maps
 pub mod Ties
 pub mod Keeping
 pub mod Filling
+pub mod Allowed
+pub mod Ready

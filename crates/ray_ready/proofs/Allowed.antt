@@ -1,0 +1,132 @@
+-- What the rules say of an action, in relational words over the status: no other consequence of them is used.
+use Rattle.std.proofs.Common.{◌≡◌, ◌<◌, ◌≤◌, ◌+◌, ℕ, Bool, true, false, List, [], ◌∷◌, Option, Some, None, IsSome}
+use Rattle.std.specs.Option.{option_map}
+use Rattle.ray_script.specs.Scripts.{refused_at}
+use Rattle.ray_bottom.specs.Contents as bottoms
+use Rattle.ray_top.specs.Contents as tops
+use Rattle.ray_cmd.specs.declared.asked.Asked.{Asked}
+use Rattle.ray_cmd.specs.declared.asked.Asked.TheVariants as asked
+use Rattle.ray_cmd.specs.declared.command.Command.{Command}
+use Rattle.ray_cmd.specs.declared.copy_mode.CopyMode.{CopyMode}
+use Rattle.ray_cmd.specs.declared.copy_mode.CopyMode.TheVariants as copies
+use Rattle.ray_cmd.specs.declared.geometry.Geometry.{Geometry}
+use Rattle.ray_cmd.specs.declared.info.Info.{Info}
+use Rattle.ray_cmd.specs.declared.structure_kind.StructureKind.{StructureKind}
+use Rattle.ray_cmd.specs.declared.structure_kind.StructureKind.TheVariants as kinds
+use Rattle.ray_rules.specs.declared.built.Built.{Built}
+use Rattle.ray_rules.specs.declared.byte_range.ByteRange.{ByteRange}
+use Rattle.ray_rules.specs.declared.live_buffer.LiveBuffer.{LiveBuffer}
+use Rattle.ray_rules.specs.declared.live_structure.LiveStructure.{LiveStructure}
+use Rattle.ray_rules.specs.Ids.{Ids, look}
+use Rattle.ray_rules.specs.Origins.{info_of, uses_of}
+use Rattle.ray_rules.specs.Ranges.{count_of, inputs_read, primitives, size_at}
+use Rattle.ray_rules.specs.Status.{Status}
+use Rattle.ray_action.specs.Areas.{has}
+use Rattle.ray_action.specs.Action.{Action, Building, Tracing, MakeBuffer, MakeStructure, DestroyBuffer, DestroyStructure, ShowSizes, ShowBytes, UpdateBytes, FillBytes, CopyBytes, BuildBottom, UpdateBottom, BuildTop, UpdateTop, CopyStructure, TellProperty, TraceRays, Rest, Unbuilt, content_buffer}
+use Rattle.ray_action.specs.Readiness.{AreOfBottom, IsOfTop}
+use Rattle.ray_ready.proofs.Ties.{IsBuilt, IsFresh}
+
+-- a structure is live, and of a kind
+pub record IsLiveOf (kind : StructureKind) (found : Option LiveStructure) : Type 0 where
+  pub structure : LiveStructure
+  pub is_it : found ≡ Some structure
+  pub same_kind : structure.kind ≡ kind
+
+-- it is built as well
+pub record IsBuiltOf (kind : StructureKind) (found : Option LiveStructure) : Type 0 where
+  pub by : Built
+  pub built : IsBuilt found kind by
+
+-- each byte of a range is in its buffer
+abbrev pub IsWithin : Ids LiveBuffer → ByteRange → Type 0
+IsWithin buffers r = (b : ℕ) → r.from ≤ b → b < r.from + r.size → b < size_at buffers r.buffer
+
+abbrev pub IsWithinIf : Ids LiveBuffer → Option ByteRange → Type 0
+IsWithinIf buffers None = Unit {0}
+IsWithinIf buffers (Some r) = IsWithin buffers r
+
+abbrev pub AreWithin : Ids LiveBuffer → List (Option ByteRange) → Type 0
+AreWithin buffers [] = Unit {0}
+AreWithin buffers (r ∷ rs) = IsWithinIf buffers r × AreWithin buffers rs
+
+-- what a geometry reads is there, and the buffer of its content is live
+pub record IsReadable (buffers : Ids LiveBuffer) (g : Geometry) : Type 0 where
+  pub live : IsSome (look buffers (content_buffer g))
+  pub within : AreWithin buffers (inputs_read buffers g)
+
+abbrev pub AreReadable : Ids LiveBuffer → List Geometry → Type 0
+AreReadable buffers [] = Unit {0}
+AreReadable buffers (g ∷ gs) = IsReadable buffers g × AreReadable buffers gs
+
+-- ---- builds
+
+pub record MayBuildBottom (z : Status) (build : Building) (gs : List Geometry) : Type 0 where
+  pub dst : IsLiveOf kinds.Bottom (look z.structures build.dst)
+  pub buffers : z.buffers ≡ build.buffers
+  pub limits : AreOfBottom gs
+  pub readable : AreReadable build.buffers gs
+
+pub record MayBuildTop (rec : List Command) (z : Status) (build : Building) (uses : List ℕ) (instances : Geometry) : Type 0 where
+  pub dst : IsLiveOf kinds.Top (look z.structures build.dst)
+  pub buffers : z.buffers ≡ build.buffers
+  pub limits : IsOfTop instances
+  pub are_built : (u : ℕ) → has uses u ≡ true → IsBuiltOf kinds.Bottom (look z.structures u)
+  pub readable : IsReadable build.buffers instances
+
+-- a top of as many instances is there
+pub record IsSource (rec : List Command) (z : Status) (src : ℕ) (instances : Geometry) : Type 0 where
+  pub by : Built
+  pub built : IsBuilt (look z.structures src) kinds.Top by
+  pub as_many : (info : Info) → info_of rec by ≡ Some info → count_of instances ≡ primitives info.geometries
+
+-- ---- copies, properties and traces
+
+abbrev pub FitsKind : CopyMode → StructureKind → Type 0
+FitsKind copies.Clone kind = Unit {0}
+FitsKind copies.Compact kind = kind ≡ kinds.Bottom
+
+pub record MayCopy (z : Status) (mode : CopyMode) (src dst : ℕ) : Type 0 where
+  pub kind : StructureKind
+  pub source : IsBuiltOf kind (look z.structures src)
+  pub target : IsLiveOf kind (look z.structures dst)
+  pub fits : FitsKind mode kind
+
+abbrev pub MayTell : Status → Asked → ℕ → Type 0
+MayTell z asked.Compacted id = IsBuiltOf kinds.Bottom (look z.structures id)
+MayTell z asked.Size id = IsSome (look z.structures id)
+MayTell z asked.Serialized id = ⊥
+MayTell z asked.Handles id = ⊥
+
+abbrev pub MayTellAll : Status → Asked → List ℕ → Type 0
+MayTellAll z what [] = Unit {0}
+MayTellAll z what (id ∷ ids) = MayTell z what id × MayTellAll z what ids
+
+pub record MayTrace (rec : List Command) (z : Status) (trace : Tracing) : Type 0 where
+  pub rays : IsWithin z.buffers trace.rays
+  pub by : Built
+  pub top : IsBuilt (look z.structures trace.top) kinds.Top by
+  pub uses : trace.uses ≡ uses_of rec by
+  pub fresh : (u : ℕ) → has (uses_of rec by) u ≡ true → IsFresh by.stamp (look z.structures u)
+  pub script : refused_at trace.script ≡ None
+
+-- ---- every action
+
+abbrev pub IsAllowed : List Command → Status → Action → Type 0
+IsAllowed rec z (MakeBuffer id size content) = look z.buffers id ≡ None
+IsAllowed rec z (MakeStructure id form) = look z.structures id ≡ None
+IsAllowed rec z (DestroyBuffer id) = Unit {0}
+IsAllowed rec z (DestroyStructure id) = Unit {0}
+IsAllowed rec z (ShowSizes kind counts) = Unit {0}
+IsAllowed rec z (ShowBytes from form) = IsWithin z.buffers from
+IsAllowed rec z (UpdateBytes to content) = Unit {0}
+IsAllowed rec z (FillBytes to value) = Unit {0}
+IsAllowed rec z (CopyBytes from to) = IsWithin z.buffers from
+IsAllowed rec z (BuildBottom build flags gs) = MayBuildBottom z build gs × (bottoms.has_both_fast flags ≡ false)
+IsAllowed rec z (UpdateBottom build src gs) = IsBuiltOf kinds.Bottom (look z.structures src) × MayBuildBottom z build gs
+IsAllowed rec z (BuildTop build flags uses instances) = MayBuildTop rec z build uses instances × (tops.has_both_fast flags ≡ false)
+IsAllowed rec z (UpdateTop build src uses instances) = IsSource rec z src instances × MayBuildTop rec z build uses instances
+IsAllowed rec z (CopyStructure mode src dst) = MayCopy z mode src dst
+IsAllowed rec z (TellProperty what structures to) = MayTellAll z what structures
+IsAllowed rec z (TraceRays trace) = MayTrace rec z trace
+IsAllowed rec z Rest = Unit {0}
+IsAllowed rec z Unbuilt = ⊥
