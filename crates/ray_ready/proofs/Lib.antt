@@ -6,3 +6,4 @@ pub mod Keeping
 pub mod Filling
 pub mod Allowed
 pub mod Ready
+pub mod Storing
