@@ -7,3 +7,4 @@ pub mod Filling
 pub mod Allowed
 pub mod Ready
 pub mod Storing
+pub mod Building

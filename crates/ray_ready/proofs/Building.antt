@@ -1,0 +1,309 @@
+-- The stores of builds and copies of structures keep the invariant.
+use Rattle.std.proofs.Common.{◌≡◌, ◌<◌, ◌≤◌, ◌+◌, ℕ, Bool, true, false, List, [], ◌∷◌, Option, Some, None, Result, Ok, Err, IsSome, IfSome, IsSomeAnd, All, map, length, refl, sym, ◌∙◌, ap, subst, inl, inr, arith, fold}
+use Rattle.std.specs.Prelude.{if◌then◌else◌, slice_get, ◌==◌, ◌||◌, nat_lt}
+use Rattle.std.proofs.lemmas.Bool.{cases_eq, eq-eqb, ne_eqb}
+use Rattle.std.specs.Option.{option_map, option_map_or, option_and_then}
+use Rattle.ray_geom.specs.Boxes.{BoxValue}
+use Rattle.ray_bytes.specs.Views.{Row}
+use Rattle.ray_bytes.specs.declared.data_fault.DataFault.{DataFault}
+use Rattle.ray_contents.specs.Bounds.{KeepsBounds}
+use Rattle.ray_flags.specs.declared.build_flags.BuildFlags.{BuildFlags}
+use Rattle.ray_bottom.specs.Builders.{BuilderValue}
+use Rattle.ray_bottom.specs.Contents as bottoms
+use Rattle.ray_top.specs.Contents as tops
+use Rattle.ray_top.specs.Contents.{IsActive, IsInstance}
+use Rattle.ray_top.specs.Instances.{InstanceValue}
+use Rattle.ray_top.specs.InstanceReading.{bounds_in, instances_read, noted}
+use Rattle.ray_top.specs.declared.used.Used.{Used}
+use Rattle.ray_top.proofs.Limits.{AreRead, AreRead-instances_read}
+use Rattle.ray_cmd.specs.declared.command.Command.{Command}
+use Rattle.ray_cmd.specs.declared.command.Command.TheVariants as commands
+use Rattle.ray_cmd.specs.declared.copy_mode.CopyMode.{CopyMode}
+use Rattle.ray_cmd.specs.declared.copy_mode.CopyMode.TheVariants as copies
+use Rattle.ray_cmd.specs.declared.geometry.Geometry.{Geometry}
+use Rattle.ray_cmd.specs.declared.info.Info.{Info}
+use Rattle.ray_cmd.specs.declared.structure_kind.StructureKind.{StructureKind}
+use Rattle.ray_cmd.specs.declared.structure_kind.StructureKind.TheVariants as kinds
+use Rattle.ray_rules.specs.declared.built.Built.{Built}
+use Rattle.ray_rules.specs.declared.live_structure.LiveStructure.{LiveStructure}
+use Rattle.ray_rules.specs.Ids.{Ids, look}
+use Rattle.ray_rules.specs.Origins.{info_in, info_of, uses_in, uses_of}
+use Rattle.ray_rules.specs.Ranges.{count_of, primitives}
+use Rattle.ray_rules.specs.Status.{Status, built_at, built_by, copied_by, fill_in}
+use Rattle.ray_action.specs.declared.form.Form.{Form}
+use Rattle.ray_action.specs.Areas.{has}
+use Rattle.ray_action.specs.Memory.{Contents, Memory, Bottom, Top, ContentsAt, StructureAt, as_bottom, as_top, bounds_of}
+use Rattle.ray_action.specs.Action.{Action, Building, BuildBottom, UpdateBottom, BuildTop, UpdateTop, CopyStructure}
+use Rattle.ray_action.specs.Seeing.{SeenGeometry, SeenStructures, see, see_structures}
+use Rattle.ray_action.specs.Building.{all_used, used_of, top_of, top_again}
+use Rattle.ray_action.specs.Outcomes.{Output, Outcome, Holds, Gives, Breaks, Undefined, bottom_outcome, compact_copy, compacted_of, copy_outcome, of_bottom, of_top, outcome_of, top_outcome}
+use Rattle.ray_action.specs.Storing.{put}
+use Rattle.ray_ready.proofs.Ties.{Fills, IsBounded, IsBuilt, IsEarlier, IsFresh, IsTopBy, TiedContents, Ties}
+use Rattle.ray_ready.proofs.Filling.{IsFree, IsNew, none_yet}
+use Rattle.ray_ready.proofs.Storing.{filled_memory, ties_filled}
+use Rattle.ray_ready.proofs.Allowed.{IsBuiltOf, IsLiveOf, IsSource, MayBuildBottom, MayBuildTop, MayCopy}
+
+-- ---- outcomes taken apart
+
+bottom_gives : (info : ℕ) (r : Result BuilderValue DataFault) (o : Output) → bottom_outcome info r ≡ Gives o
+    → (c : bottoms.ContentsValue) × (o ≡ Holds (Bottom c))
+bottom_gives info (Ok b) o e = (b.contents, cc)
+bottom_gives info (Err fault) o e = absurd cc
+
+of_bottom_gives : (found : Option Contents) (make : bottoms.ContentsValue → Outcome) (o : Output) → of_bottom found make ≡ Gives o
+    → (c : bottoms.ContentsValue) × ((found ≡ Some (Bottom c)) × (make c ≡ Gives o))
+of_bottom_gives None make o e = absurd cc
+of_bottom_gives (Some (Bottom c)) make o e = (c, (refl, e))
+of_bottom_gives (Some (Top t)) make o e = absurd cc
+
+top_gives : (info : ℕ) (r : Result tops.TopValue DataFault) (o : Output) → top_outcome info r ≡ Gives o
+    → (t : tops.TopValue) × ((o ≡ Holds (Top t)) × (r ≡ Ok t))
+top_gives info (Ok t) o e = (t, (cc, refl))
+top_gives info (Err fault) o e = absurd cc
+
+of_top_gives : (found : Option Contents) (make : tops.TopValue → Outcome) (o : Output) → of_top found make ≡ Gives o
+    → (t : tops.TopValue) × ((found ≡ Some (Top t)) × (make t ≡ Gives o))
+of_top_gives None make o e = absurd cc
+of_top_gives (Some (Bottom c)) make o e = absurd cc
+of_top_gives (Some (Top t)) make o e = (t, (refl, e))
+
+-- a top that was read with these structures in use
+pub record IsReadTop (used : List Used) (count : ℕ) (t : tops.TopValue) : Type 0 where
+  pub same : t.used ≡ used
+  pub read : AreRead used count t.contents.instances
+
+read_top : (flags : BuildFlags) (used : List Used) (row : Row) (olds : Option (List (Option InstanceValue))) (count : ℕ) (r : Result (List (Option InstanceValue)) DataFault) (t : tops.TopValue)
+    → instances_read used row olds count ≡ r → tops.top_with flags used r ≡ Ok t → IsReadTop used count t
+read_top flags used row olds count (Ok instances) t is e =
+    let same : tops.top_value flags used instances ≡ t = cc in
+    subst (IsReadTop used count) same (record { same = refl; read = AreRead-instances_read used row olds count instances is })
+read_top flags used row olds count (Err fault) t is e = absurd cc
+
+-- ---- the structures in use
+
+noted_by : (here rest : Bool) (x y : Option (Option BoxValue)) → (if rest then x else (if here then x else y)) ≡ (if here || rest then x else y)
+noted_by true true x y = refl
+noted_by true false x y = refl
+noted_by false true x y = refl
+noted_by false false x y = refl
+
+here_same : (seen : SeenStructures) (u id : ℕ) (y : Option (Option BoxValue))
+    → (if id == u then Some (option_and_then bounds_of (seen id)) else y) ≡ (if id == u then Some (option_and_then bounds_of (seen u)) else y)
+here_same seen u id y =
+    elim (cases_eq id u) [
+      | inl same ↦ ap (λ n. if id == u then Some (option_and_then bounds_of (seen n)) else y) same
+      | inr differs ↦ ap (λ b. if b then Some (option_and_then bounds_of (seen id)) else y) (ne_eqb id u differs)
+          ∙ sym (ap (λ b. if b then Some (option_and_then bounds_of (seen u)) else y) (ne_eqb id u differs))
+    ]
+
+fold_used : (seen : SeenStructures) (u : ℕ) (ids : List ℕ) (so_far : Option (Option BoxValue))
+    → fold (noted u) so_far (all_used seen ids) ≡ (if has ids u then Some (option_and_then bounds_of (seen u)) else so_far)
+fold_used seen u [] so_far = refl
+fold_used seen u (id ∷ ids) so_far =
+    fold_used seen u ids (noted u so_far (used_of seen id))
+    ∙ (ap (λ y. if has ids u then Some (option_and_then bounds_of (seen u)) else y) (here_same seen u id so_far)
+    ∙ noted_by (id == u) (has ids u) (Some (option_and_then bounds_of (seen u))) so_far)
+
+used_bounds : (seen : SeenStructures) (u : ℕ) (ids : List ℕ) → bounds_in (all_used seen ids) u ≡ (if has ids u then Some (option_and_then bounds_of (seen u)) else None)
+unfolding bounds_in
+used_bounds seen u ids = fold_used seen u ids None
+
+named_by : (b : Bool) (x y : Option BoxValue) → (if b then Some x else None) ≡ Some y → (b ≡ true) × (x ≡ y)
+named_by true x y e = (refl, cc)
+named_by false x y e = absurd cc
+
+-- what stands beside an id: it is named, and these are its bounds
+used_is : (seen : SeenStructures) (u : ℕ) (ids : List ℕ) (x : Option BoxValue) → bounds_in (all_used seen ids) u ≡ Some x
+    → (has ids u ≡ true) × (option_and_then bounds_of (seen u) ≡ x)
+used_is seen u ids x e = named_by (has ids u) (option_and_then bounds_of (seen u)) x (sym (used_bounds seen u ids) ∙ e)
+
+-- ---- the info by which something is built
+
+built_now : ℕ → ℕ → Built
+built_now i k = record { stamp = i; info = k; written = i }
+
+info_found : (rec : List Command) (i k : ℕ) (infos : List Info) (info : Info) → slice_get rec i ≡ Some (commands.Build infos) → slice_get infos k ≡ Some info
+    → info_of rec (record { stamp = i; info = k; written = i }) ≡ Some info
+info_found rec i k infos info c is = ap (option_and_then (info_in k)) c ∙ is
+
+uses_found : (rec : List Command) (i k : ℕ) (infos : List Info) (info : Info) → slice_get rec i ≡ Some (commands.Build infos) → slice_get infos k ≡ Some info
+    → uses_of rec (record { stamp = i; info = k; written = i }) ≡ info.uses
+uses_found rec i k infos info c is =
+    ap (λ found. option_map_or (uses_in k) found []) c ∙ ap (λ found. option_map_or (λ (x : Info). x.uses) found []) is
+
+first_order : (i k : ℕ) → IsEarlier i (k + 1) (record { stamp = i; info = k; written = i })
+first_order i k = record { written = omega arith; stamp = omega arith; info = λ same. omega arith }
+
+-- ---- bottoms
+
+no_top : (c : bottoms.ContentsValue) (t : tops.TopValue) → Bottom c ≡ Top t → ⊥
+no_top c t e = absurd cc
+
+pub bottom_stored : (rec : List Command) (i k : ℕ) (z : Status) (m : Memory) (dst : ℕ) (c : bottoms.ContentsValue) → IsLiveOf kinds.Bottom (look z.structures dst)
+    → IsFree rec i z.structures dst → Ties rec i k z m → Ties rec i (k + 1) (fill_in dst (built_by i k) z) (filled_memory dst (Bottom c) m)
+bottom_stored rec i k z m dst c live free ties =
+    let b : Built = record { stamp = i; info = k; written = i } in
+    let fills : Fills rec live.structure.kind b (Some (Bottom c)) = subst (λ kind. Fills rec kind b (Some (Bottom c))) (sym live.same_kind) refl in
+    ties_filled rec i k (k + 1) z m dst live.structure b (Bottom c) live.is_it (omega arith) free (record {
+      order = first_order i k;
+      written = refl;
+      fills = fills;
+      bounds = λ t u x top is in_use fresh. absurd (no_top c t is);
+    }) ties
+
+-- ---- tops
+
+-- a structure that is seen has the bounds that are seen
+seen_bounds : (b : Bool) (found : Option Contents) (x : Option BoxValue) → b ≡ true → IsSome (option_and_then as_bottom found)
+    → option_and_then bounds_of (if b then found else None) ≡ x → IsBounded x found
+seen_bounds false found x named is e = absurd cc
+seen_bounds true None x named is e = absurd cc
+seen_bounds true (Some (Bottom c)) x named is e = record { bottom = c; is_it = refl; bounds = sym e }
+seen_bounds true (Some (Top t)) x named is e = absurd cc
+
+some_and : {X : Type 0} (found : Option X) (P : X → Type 0) → IsSomeAnd found P → IsSome found
+some_and None P is = absurd is
+some_and (Some x) P is = refl
+
+active_in : (used : List Used) (i : Option InstanceValue) → IfSome i (IsActive used) → IfSome i (λ (v : InstanceValue). IsSome (bounds_in used v.id))
+active_in used None is = tt
+active_in used (Some v) is = some_and (bounds_in used v.id) (KeepsBounds v.matrix) is.kept
+
+active_as : (used others : List Used) (i : Option InstanceValue) → used ≡ others → IsInstance used i
+    → IfSome i (λ (v : InstanceValue). IsSome (bounds_in others v.id))
+active_as used others i same is = subst (λ us. IfSome i (λ (v : InstanceValue). IsSome (bounds_in us v.id))) same (active_in used i is.limits)
+
+pub top_stored : (rec : List Command) (i k : ℕ) (z : Status) (m : Memory) (infos : List Info) (info : Info) (instances : Geometry) (t : tops.TopValue)
+    → slice_get rec i ≡ Some (commands.Build infos) → slice_get infos k ≡ Some info → info.geometries ≡ instances ∷ []
+    → IsLiveOf kinds.Top (look z.structures info.dst) → ((u : ℕ) → has info.uses u ≡ true → IsBuiltOf kinds.Bottom (look z.structures u))
+    → IsFree rec i z.structures info.dst → IsReadTop (all_used (see_structures m info.uses) info.uses) (count_of instances) t → Ties rec i k z m
+    → Ties rec i (k + 1) (fill_in info.dst (built_by i k) z) (filled_memory info.dst (Top t) m)
+top_stored rec i k z m infos info instances t command is geometries live are_built free read ties =
+    let seen : SeenStructures = see_structures m info.uses in
+    let used : List Used = all_used seen info.uses in
+    let b : Built = record { stamp = i; info = k; written = i } in
+    let by : IsTopBy rec b (Some (Top t)) = record {
+      top = t;
+      is_it = refl;
+      in_use = λ u x there.
+          ap (λ ids. has ids u) (uses_found rec i k infos info command is)
+          ∙ (used_is seen u info.uses x (ap (λ us. bounds_in us u) (sym read.same) ∙ there)).0;
+      active = λ n d less. active_as used t.used _ (sym read.same) (read.read.each n d less);
+      by = info;
+      info = info_found rec i k infos info command is;
+      count = read.read.as_many ∙ (omega arith ∙ sym (ap primitives geometries));
+    } in
+    let fills : Fills rec live.structure.kind b (Some (Top t)) = subst (λ kind. Fills rec kind b (Some (Top t))) (sym live.same_kind) by in
+    ties_filled rec i k (k + 1) z m info.dst live.structure b (Top t) live.is_it (omega arith) free (record {
+      order = first_order i k;
+      written = refl;
+      fills = fills;
+      bounds = λ s u x top same in_use fresh.
+          let equal : t ≡ s = cc in
+          let found = used_is seen u info.uses x (ap (λ us. bounds_in us u) (sym read.same ∙ ap (λ (y : tops.TopValue). y.used) equal) ∙ in_use) in
+          let bottom = are_built u found.0 in
+          seen_bounds (has info.uses u) (m (ContentsAt u)) x found.0 (ties.contents.held u kinds.Bottom bottom.by bottom.built) found.1;
+    }) ties
+
+-- ---- copies
+
+compact_gives : (b : Bool) (x o : Output) (fault : Outcome) → (if b then fault else Gives x) ≡ Gives o → ((p : Output) → fault ≡ Gives p → ⊥) → x ≡ o
+compact_gives true x o fault e never = absurd (never o e)
+compact_gives false x o fault e never = cc
+
+copy_gives : (mode : CopyMode) (found : Option Contents) (dst : Option Form) (o : Output) → copy_outcome mode found dst ≡ Gives o
+    → (c : Contents) × ((found ≡ Some c) × (o ≡ Holds c))
+copy_gives copies.Clone None dst o e = absurd cc
+copy_gives copies.Clone (Some c) dst o e = (c, (refl, cc))
+copy_gives copies.Compact found None o e = absurd cc
+copy_gives copies.Compact found (Some form) o e =
+    let is = of_bottom_gives found (compact_copy form.size) o e in
+    (Bottom is.0, (is.1.0, sym (compact_gives (nat_lt form.size (compacted_of is.0)) (Holds (Bottom is.0)) o _ is.1.1 (λ p f. absurd cc))))
+
+copied_fills : (rec : List Command) (i : ℕ) (kind : StructureKind) (b : Built) (found : Option Contents) → Fills rec kind b found
+    → Fills rec kind (record { stamp = b.stamp; info = b.info; written = i }) found
+copied_fills rec i kinds.Bottom b found fills = fills
+copied_fills rec i kinds.Top b found fills = record {
+  top = fills.top;
+  is_it = fills.is_it;
+  in_use = fills.in_use;
+  active = fills.active;
+  by = fills.by;
+  info = fills.info;
+  count = fills.count;
+}
+
+source_by : (found : Option LiveStructure) (kind : StructureKind) (b : Built) → IsBuilt found kind b → option_and_then (λ (s : LiveStructure). s.built) found ≡ Some b
+source_by found kind b is = ap (option_and_then (λ (s : LiveStructure). s.built)) is.is_it ∙ is.built
+
+pub copy_stored : (rec : List Command) (i : ℕ) (z : Status) (m : Memory) (mode : CopyMode) (src dst : ℕ) (c : Contents) → MayCopy z mode src dst
+    → m (ContentsAt src) ≡ Some c → Ties rec i 0 z m → Ties rec i 0 (fill_in dst (copied_by i (built_at z src)) z) (filled_memory dst c m)
+copy_stored rec i z m mode src dst c may is ties =
+    let b : Built = may.source.by in
+    let p : Built = record { stamp = b.stamp; info = b.info; written = i } in
+    let order = ties.contents.order src may.kind b may.source.built in
+    let stamp : b.stamp ≤ b.written = order.stamp in
+    let last : b.written ≤ i = order.written in
+    let live = may.target in
+    let held : Fills rec may.kind p (Some c) = subst (Fills rec may.kind p) is (copied_fills rec i may.kind b (m (ContentsAt src)) (ties.contents.held src may.kind b may.source.built)) in
+    let filled : Ties rec i 0 (fill_in dst (Some p) z) (filled_memory dst c m) = ties_filled rec i 0 0 z m dst live.structure p c live.is_it (omega arith)
+    (none_yet rec i dst z.structures (λ q. m (ContentsAt q)) ties.contents)
+    (record {
+      order = record { written = omega arith; stamp = omega (arith, stamp, last); info = order.info };
+      written = refl;
+      fills = subst (λ kind. Fills rec kind p (Some c)) (sym live.same_kind) held;
+      bounds = λ t u x top same in_use fresh.
+          ties.contents.bounds src b t u x (subst (λ kind. IsBuilt (look z.structures src) kind b) (sym live.same_kind ∙ top) may.source.built)
+          (is ∙ ap Some same) in_use fresh;
+    }) ties in
+    subst (λ built. Ties rec i 0 (fill_in dst built z) (filled_memory dst c m)) (sym (ap (copied_by i) (source_by (look z.structures src) may.kind b may.source.built))) filled
+
+-- ---- by outcome
+
+pub bottom_built : (rec : List Command) (i k : ℕ) (z : Status) (m : Memory) (build : Building) (flags : BuildFlags) (gs : List Geometry) (o : Output)
+    → MayBuildBottom z build gs → IsFree rec i z.structures build.dst → outcome_of (BuildBottom build flags gs) m ≡ Gives o → Ties rec i k z m
+    → Ties rec i (k + 1) (fill_in build.dst (built_by i k) z) (put (BuildBottom build flags gs) (Gives o) m)
+bottom_built rec i k z m build flags gs o may free e ties =
+    let gives = bottom_gives build.info _ o e in
+    subst (λ p. Ties rec i (k + 1) (fill_in build.dst (built_by i k) z) (put (BuildBottom build flags gs) (Gives p) m)) (sym gives.1)
+    (bottom_stored rec i k z m build.dst gives.0 may.dst free ties)
+
+pub bottom_updated : (rec : List Command) (i k : ℕ) (z : Status) (m : Memory) (build : Building) (src : ℕ) (gs : List Geometry) (o : Output)
+    → MayBuildBottom z build gs → IsFree rec i z.structures build.dst → outcome_of (UpdateBottom build src gs) m ≡ Gives o → Ties rec i k z m
+    → Ties rec i (k + 1) (fill_in build.dst (built_by i k) z) (put (UpdateBottom build src gs) (Gives o) m)
+bottom_updated rec i k z m build src gs o may free e ties =
+    let source = of_bottom_gives (m (ContentsAt src)) _ o e in
+    let gives = bottom_gives build.info _ o source.1.1 in
+    subst (λ p. Ties rec i (k + 1) (fill_in build.dst (built_by i k) z) (put (UpdateBottom build src gs) (Gives p) m)) (sym gives.1)
+    (bottom_stored rec i k z m build.dst gives.0 may.dst free ties)
+
+pub top_built : (rec : List Command) (i k : ℕ) (z : Status) (m : Memory) (infos : List Info) (info : Info) (build : Building) (flags : BuildFlags) (instances : Geometry) (o : Output)
+    → slice_get rec i ≡ Some (commands.Build infos) → slice_get infos k ≡ Some info → info.geometries ≡ instances ∷ [] → build.dst ≡ info.dst
+    → MayBuildTop rec z build info.uses instances → IsFree rec i z.structures info.dst → outcome_of (BuildTop build flags info.uses instances) m ≡ Gives o → Ties rec i k z m
+    → Ties rec i (k + 1) (fill_in info.dst (built_by i k) z) (put (BuildTop build flags info.uses instances) (Gives o) m)
+top_built rec i k z m infos info build flags instances o command is geometries dst may free e ties =
+    let gives = top_gives build.info _ o e in
+    let read = read_top flags _ _ None (count_of instances) _ gives.0 refl gives.1.1 in
+    subst (λ p. Ties rec i (k + 1) (fill_in info.dst (built_by i k) z) (put (BuildTop build flags info.uses instances) (Gives p) m)) (sym gives.1.0)
+    (subst (λ d. Ties rec i (k + 1) (fill_in info.dst (built_by i k) z) (filled_memory d (Top gives.0) m)) (sym dst)
+    (top_stored rec i k z m infos info instances gives.0 command is geometries (subst (λ d. IsLiveOf kinds.Top (look z.structures d)) dst may.dst) may.are_built free read ties))
+
+pub top_updated : (rec : List Command) (i k : ℕ) (z : Status) (m : Memory) (infos : List Info) (info : Info) (build : Building) (src : ℕ) (instances : Geometry) (o : Output)
+    → slice_get rec i ≡ Some (commands.Build infos) → slice_get infos k ≡ Some info → info.geometries ≡ instances ∷ [] → build.dst ≡ info.dst
+    → MayBuildTop rec z build info.uses instances → IsFree rec i z.structures info.dst → outcome_of (UpdateTop build src info.uses instances) m ≡ Gives o → Ties rec i k z m
+    → Ties rec i (k + 1) (fill_in info.dst (built_by i k) z) (put (UpdateTop build src info.uses instances) (Gives o) m)
+top_updated rec i k z m infos info build src instances o command is geometries dst may free e ties =
+    let source = of_top_gives (m (ContentsAt src)) _ o e in
+    let gives = top_gives build.info _ o source.1.1 in
+    let read = read_top source.0.contents.flags _ _ (Some source.0.contents.instances) (count_of instances) _ gives.0 refl gives.1.1 in
+    subst (λ p. Ties rec i (k + 1) (fill_in info.dst (built_by i k) z) (put (UpdateTop build src info.uses instances) (Gives p) m)) (sym gives.1.0)
+    (subst (λ d. Ties rec i (k + 1) (fill_in info.dst (built_by i k) z) (filled_memory d (Top gives.0) m)) (sym dst)
+    (top_stored rec i k z m infos info instances gives.0 command is geometries (subst (λ d. IsLiveOf kinds.Top (look z.structures d)) dst may.dst) may.are_built free read ties))
+
+pub structure_copied : (rec : List Command) (i : ℕ) (z : Status) (m : Memory) (mode : CopyMode) (src dst : ℕ) (o : Output) → MayCopy z mode src dst
+    → outcome_of (CopyStructure mode src dst) m ≡ Gives o → Ties rec i 0 z m
+    → Ties rec i 0 (fill_in dst (copied_by i (built_at z src)) z) (put (CopyStructure mode src dst) (Gives o) m)
+structure_copied rec i z m mode src dst o may e ties =
+    let gives = copy_gives mode (m (ContentsAt src)) (m (StructureAt dst)) o e in
+    subst (λ p. Ties rec i 0 (fill_in dst (copied_by i (built_at z src)) z) (put (CopyStructure mode src dst) (Gives p) m)) (sym gives.1.1)
+    (copy_stored rec i z m mode src dst gives.0 may gives.1.0 ties)
