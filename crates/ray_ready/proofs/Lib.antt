@@ -8,3 +8,5 @@ pub mod Allowed
 pub mod Ready
 pub mod Storing
 pub mod Building
+pub mod Leading
+pub mod Infos
