@@ -10,3 +10,4 @@ pub mod Storing
 pub mod Building
 pub mod Leading
 pub mod Infos
+pub mod Kept
