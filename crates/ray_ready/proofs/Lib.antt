@@ -11,3 +11,4 @@ pub mod Building
 pub mod Leading
 pub mod Infos
 pub mod Kept
+pub mod InfoRules
