@@ -12,3 +12,4 @@ pub mod Leading
 pub mod Infos
 pub mod Kept
 pub mod InfoRules
+pub mod Commands
