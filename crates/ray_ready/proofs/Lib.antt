@@ -13,3 +13,4 @@ pub mod Infos
 pub mod Kept
 pub mod InfoRules
 pub mod Commands
+pub mod Recording

@@ -1,4 +1,10 @@
-ghost use Rattle.ray_ready.specs.Laws.{ReadinessIsLocal, ReadyIsDefined};
+ghost use Rattle.ray_ready.specs.Laws.{ActionsAreReady, ReadinessIsLocal, ReadyIsDefined, RunsAreKnown};
+
+/// A law: each action of a command that may be run is ready in its turn, as long as every action
+/// before it gave an output. It does nothing. Own.
+pub fn actions_are_ready()
+    ensures { ActionsAreReady }
+{}
 
 /// A law: an action that is ready in a memory gives an output there, or breaks a data rule. It does
 /// nothing. Own.
@@ -10,4 +16,10 @@ pub fn ready_is_defined()
 /// It does nothing. Own.
 pub fn readiness_is_local()
     ensures { ReadinessIsLocal }
+{}
+
+/// A law: the run of the first commands of a recording, where they may be run, comes to a text or
+/// to a refusal. It does nothing. Own.
+pub fn runs_are_known()
+    ensures { RunsAreKnown }
 {}

@@ -8,4 +8,4 @@
 
 mod laws;
 
-pub use crate::laws::{readiness_is_local, ready_is_defined};
+pub use crate::laws::{actions_are_ready, readiness_is_local, ready_is_defined, runs_are_known};
