@@ -1,8 +1,8 @@
 -- The stores of builds and copies of structures keep the invariant.
-use Rattle.std.proofs.Common.{◌≡◌, ◌<◌, ◌≤◌, ◌+◌, ℕ, Bool, true, false, List, [], ◌∷◌, Option, Some, None, Result, Ok, Err, IsSome, IfSome, IsSomeAnd, All, map, length, refl, sym, ◌∙◌, ap, subst, inl, inr, arith, fold}
+use Rattle.std.proofs.Common.{◌≡◌, ◌≤◌, ◌+◌, ℕ, Bool, true, false, List, [], ◌∷◌, Option, Some, None, Result, Ok, Err, IsSome, IfSome, IsSomeAnd, refl, sym, ◌∙◌, ap, subst, inl, inr, arith, fold}
 use Rattle.std.specs.Prelude.{if◌then◌else◌, slice_get, ◌==◌, ◌||◌, nat_lt}
-use Rattle.std.proofs.lemmas.Bool.{cases_eq, eq-eqb, ne_eqb}
-use Rattle.std.specs.Option.{option_map, option_map_or, option_and_then}
+use Rattle.std.proofs.lemmas.Bool.{cases_eq, ne_eqb}
+use Rattle.std.specs.Option.{option_map_or, option_and_then}
 use Rattle.ray_geom.specs.Boxes.{BoxValue}
 use Rattle.ray_bytes.specs.Views.{Row}
 use Rattle.ray_bytes.specs.declared.data_fault.DataFault.{DataFault}
@@ -26,22 +26,22 @@ use Rattle.ray_cmd.specs.declared.structure_kind.StructureKind.{StructureKind}
 use Rattle.ray_cmd.specs.declared.structure_kind.StructureKind.TheVariants as kinds
 use Rattle.ray_rules.specs.declared.built.Built.{Built}
 use Rattle.ray_rules.specs.declared.live_structure.LiveStructure.{LiveStructure}
-use Rattle.ray_rules.specs.Ids.{Ids, look}
+use Rattle.ray_rules.specs.Ids.{look}
 use Rattle.ray_rules.specs.Origins.{info_in, info_of, uses_in, uses_of}
 use Rattle.ray_rules.specs.Ranges.{count_of, primitives}
 use Rattle.ray_rules.specs.Status.{Status, built_at, built_by, copied_by, fill_in}
 use Rattle.ray_action.specs.declared.form.Form.{Form}
 use Rattle.ray_action.specs.Areas.{has}
-use Rattle.ray_action.specs.Memory.{Contents, Memory, Bottom, Top, ContentsAt, StructureAt, as_bottom, as_top, bounds_of}
-use Rattle.ray_action.specs.Action.{Action, Building, BuildBottom, UpdateBottom, BuildTop, UpdateTop, CopyStructure}
-use Rattle.ray_action.specs.Seeing.{SeenGeometry, SeenStructures, see, see_structures}
-use Rattle.ray_action.specs.Building.{all_used, used_of, top_of, top_again}
-use Rattle.ray_action.specs.Outcomes.{Output, Outcome, Holds, Gives, Breaks, Undefined, bottom_outcome, compact_copy, compacted_of, copy_outcome, of_bottom, of_top, outcome_of, top_outcome}
+use Rattle.ray_action.specs.Memory.{Contents, Memory, Bottom, Top, ContentsAt, StructureAt, as_bottom, bounds_of}
+use Rattle.ray_action.specs.Action.{Building, BuildBottom, UpdateBottom, BuildTop, UpdateTop, CopyStructure}
+use Rattle.ray_action.specs.Seeing.{SeenStructures, see_structures}
+use Rattle.ray_action.specs.Building.{all_used, used_of}
+use Rattle.ray_action.specs.Outcomes.{Output, Outcome, Holds, Gives, bottom_outcome, compact_copy, compacted_of, copy_outcome, of_bottom, of_top, outcome_of, top_outcome}
 use Rattle.ray_action.specs.Storing.{put}
-use Rattle.ray_ready.proofs.Ties.{Fills, IsBounded, IsBuilt, IsEarlier, IsFresh, IsTopBy, TiedContents, Ties}
-use Rattle.ray_ready.proofs.Filling.{IsFree, IsNew, none_yet}
+use Rattle.ray_ready.proofs.Ties.{Fills, IsBounded, IsBuilt, IsEarlier, IsTopBy, Ties}
+use Rattle.ray_ready.proofs.Filling.{IsFree, none_yet}
 use Rattle.ray_ready.proofs.Storing.{filled_memory, ties_filled}
-use Rattle.ray_ready.proofs.Allowed.{IsBuiltOf, IsLiveOf, IsSource, MayBuildBottom, MayBuildTop, MayCopy}
+use Rattle.ray_ready.proofs.Allowed.{IsBuiltOf, IsLiveOf, MayBuildBottom, MayBuildTop, MayCopy}
 
 -- ---- outcomes taken apart
 

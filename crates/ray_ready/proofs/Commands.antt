@@ -1,8 +1,8 @@
 -- The actions of each command that may be run are ready in their turn, and keep the invariant.
-use Rattle.std.proofs.Common.{◌≡◌, ◌+◌, ◌*◌, ◌-◌, ◌<◌, ◌≤◌, ℕ, suc, Bool, true, false, List, [], ◌∷◌, Option, Some, None, IsSome, refl, sym, ◌∙◌, ap, subst, arith, length, map, min}
+use Rattle.std.proofs.Common.{◌≡◌, ◌+◌, ◌*◌, ◌-◌, ◌<◌, ◌≤◌, ℕ, Bool, true, false, List, [], ◌∷◌, Option, Some, None, IsSome, refl, sym, ◌∙◌, ap, subst, arith, length, map, min}
 use Rattle.std.proofs.lemmas.Bool.Decides.{nat_tests}
-use Rattle.std.specs.Prelude.{◌||◌, ◌&&◌, ◌==◌, not, nat_lt, is_some, slice_get, unwrap_or}
-use Rattle.std.specs.List.{list_all, list_any, range_with_len}
+use Rattle.std.specs.Prelude.{◌||◌, ◌&&◌, ◌==◌, nat_lt, slice_get, unwrap_or}
+use Rattle.std.specs.List.{list_any, range_with_len}
 use Rattle.std.specs.Option.{option_map, option_map_or, option_and_then}
 use Rattle.ray_flags.specs.declared.ray_flags.RayFlags.{RayFlags}
 use Rattle.ray_flags.specs.declared.usage.Usage.{Usage}
@@ -14,13 +14,11 @@ use Rattle.ray_cmd.specs.declared.command.Command.{Command}
 use Rattle.ray_cmd.specs.declared.command.Command.TheVariants as commands
 use Rattle.ray_cmd.specs.declared.copy_mode.CopyMode.{CopyMode}
 use Rattle.ray_cmd.specs.declared.copy_mode.CopyMode.TheVariants as copies
-use Rattle.ray_cmd.specs.declared.info.Info.{Info}
 use Rattle.ray_cmd.specs.declared.place.Place.TheVariants.{Part}
 use Rattle.ray_cmd.specs.declared.region.Region.{Region}
 use Rattle.ray_cmd.specs.declared.spot.Spot.{Spot}
 use Rattle.ray_cmd.specs.declared.structure_kind.StructureKind.{StructureKind}
 use Rattle.ray_cmd.specs.declared.structure_kind.StructureKind.TheVariants as kinds
-use Rattle.ray_cmd.specs.declared.thing.Thing.{Thing}
 use Rattle.ray_cmd.specs.declared.thing.Thing.TheVariants as things
 use Rattle.ray_rules.specs.declared.built.Built.{Built}
 use Rattle.ray_rules.specs.declared.live_structure.LiveStructure.{LiveStructure}
@@ -40,15 +38,13 @@ use Rattle.ray_rules.specs.Spans.{reaches_out, region_reaches_out, v4}
 use Rattle.ray_rules.specs.Status.{Status, after_infos, built_at, copied_by, fill_in}
 use Rattle.ray_rules.specs.Status as status
 use Rattle.ray_rules.specs.Structures.{differ_in_kind, is_bottom, is_bottom_at, is_top, is_top_at, v19}
-use Rattle.ray_action.specs.Areas.{has}
 use Rattle.ray_action.specs.Memory.{Memory}
-use Rattle.ray_action.specs.Action.{Action, MakeBuffer, MakeStructure, DestroyBuffer, DestroyStructure, ShowSizes, ShowBytes, UpdateBytes, FillBytes, CopyStructure, TellProperty, Rest}
-use Rattle.ray_action.specs.Outcomes.{Output, Gives, outcome_of}
-use Rattle.ray_action.specs.Pieces.{actions_of, can_tell, destroyed, host_action, is_built_form, property_action, rays_action, region_action, trace_pieces}
-use Rattle.ray_ready.specs.Accepted.{MayRun, has_its_source, have_their_sources}
-use Rattle.ray_ready.proofs.Ties.{IsBuilt, IsFresh, Ties, form_of}
+use Rattle.ray_action.specs.Action.{Action, MakeBuffer, MakeStructure, DestroyBuffer, DestroyStructure, ShowSizes, ShowBytes, UpdateBytes, FillBytes, CopyStructure, Rest}
+use Rattle.ray_action.specs.Pieces.{actions_of, can_tell, host_action, is_built_form, property_action, rays_action, region_action, trace_pieces}
+use Rattle.ray_ready.specs.Accepted.{MayRun}
+use Rattle.ray_ready.proofs.Ties.{Ties, form_of}
 use Rattle.ray_ready.proofs.Storing.{ties_created, ties_destroyed, ties_gone, ties_later, ties_made}
-use Rattle.ray_ready.proofs.Allowed.{FitsKind, IsBuiltOf, IsLiveOf, IsWithin, MayCopy, MayTell, MayTellAll, MayTrace}
+use Rattle.ray_ready.proofs.Allowed.{FitsKind, IsBuiltOf, IsLiveOf, MayCopy, MayTellAll, MayTrace}
 use Rattle.ray_ready.proofs.Ready.{allowed_ready}
 use Rattle.ray_ready.proofs.Building.{structure_copied}
 use Rattle.ray_ready.proofs.Leading.{AreOfBytes, Leads, bytes_lead, leads_to, one_leads}
@@ -80,7 +76,7 @@ regions_allowed rec z src dst [] pass = tt
 regions_allowed rec z src dst (r ∷ regions) pass = (
   (
     within z.buffers (range src r.src_offset r.size)
-    (neither_first (reaches_out z src r.src_offset r.size) (reaches_out z dst r.dst_offset r.size) pass.0),
+        (neither_first (reaches_out z src r.src_offset r.size) (reaches_out z dst r.dst_offset r.size) pass.0),
     tt,
   ),
   regions_allowed rec z src dst regions pass.1,
@@ -147,8 +143,8 @@ tell_all : (z : Status) (what : Asked) (ids : List ℕ) → can_tell what ≡ tr
 tell_all z what [] can live kind built = tt
 tell_all z asked.Compacted (id ∷ ids) can live kind built = (
   built_of kinds.Bottom (look z.structures id)
-  (bottom_of (look z.structures id) (is_there (look z.structures id) live.0) (neither_first (is_top_at z id) (list_any (is_top_at z) ids) kind))
-  (is_there (built_at z id) built.0),
+      (bottom_of (look z.structures id) (is_there (look z.structures id) live.0) (neither_first (is_top_at z id) (list_any (is_top_at z) ids) kind))
+      (is_there (built_at z id) built.0),
   tell_all z asked.Compacted ids can live.1 (neither_second (is_top_at z id) (list_any (is_top_at z) ids) kind) built.1,
 )
 tell_all z asked.Size (id ∷ ids) can live kind built = (is_there (look z.structures id) live.0, tell_all z asked.Size ids can live.1 kind built.1)

@@ -1,6 +1,6 @@
 -- What is ready has an outcome.
-use Rattle.std.proofs.Common.{◌≡◌, ℕ, List, Option, Some, None, Result, Ok, Err, IsSome, refl, sym, subst}
-use Rattle.std.specs.Option.{option_map, option_map_or, option_and_then}
+use Rattle.std.proofs.Common.{◌≡◌, ℕ, List, Option, Some, None, Result, Ok, Err, IsSome, refl}
+use Rattle.std.specs.Option.{option_map_or, option_and_then}
 use Rattle.ray_bytes.specs.declared.data_fault.DataFault.{DataFault}
 use Rattle.ray_bottom.specs.Contents as bottoms
 use Rattle.ray_bottom.specs.Builders.{BuilderValue}
@@ -8,9 +8,9 @@ use Rattle.ray_top.specs.Contents as tops
 use Rattle.ray_cmd.specs.declared.copy_mode.CopyMode.{CopyMode}
 use Rattle.ray_cmd.specs.declared.copy_mode.CopyMode.TheVariants as copies
 use Rattle.ray_action.specs.declared.form.Form.{Form}
-use Rattle.ray_action.specs.Memory.{Contents, Memory, as_bottom, as_top}
+use Rattle.ray_action.specs.Memory.{Contents, as_bottom}
 use Rattle.ray_action.specs.Action.{Tracing, MakeBuffer, MakeStructure, DestroyBuffer, DestroyStructure, ShowSizes, ShowBytes, UpdateBytes, FillBytes, CopyBytes, BuildBottom, UpdateBottom, BuildTop, UpdateTop, CopyStructure, TellProperty, TraceRays, Rest, Unbuilt}
-use Rattle.ray_action.specs.Outcomes.{Outcome, Fault, Gives, Breaks, Undefined, bottom_outcome, bytes_outcome, compact_copy, compacted_of, copy_outcome, hits_outcome, of_bottom, of_top, property_outcome, top_outcome, trace_outcome}
+use Rattle.ray_action.specs.Outcomes.{Outcome, Fault, Undefined, bottom_outcome, bytes_outcome, compact_copy, compacted_of, copy_outcome, hits_outcome, property_outcome, top_outcome, trace_outcome}
 use Rattle.ray_action.specs.Readiness.{IsCopyReady, FitsMode}
 use Rattle.ray_action.specs.Seeing.{SeenBytes, SeenStructures}
 use Rattle.ray_ready.specs.Laws.{IsDefined, ReadyIsDefined}

@@ -1,5 +1,5 @@
 -- What leaves a status and a memory tied once a structure is filled.
-use Rattle.std.proofs.Common.{◌≡◌, ◌<◌, ◌≤◌, ◌+◌, ℕ, Bool, true, false, List, Option, Some, None, IsSome, refl, sym, ◌∙◌, ap, subst, inl, inr, arith}
+use Rattle.std.proofs.Common.{◌≡◌, ◌<◌, ◌≤◌, ◌+◌, ℕ, true, false, List, Option, Some, sym, ◌∙◌, ap, subst, inl, inr, arith}
 use Rattle.std.specs.Prelude.{◌==◌, if◌then◌else◌}
 use Rattle.std.proofs.lemmas.Bool.{cases_eq}
 use Rattle.ray_geom.specs.Boxes.{BoxValue}
@@ -14,7 +14,7 @@ use Rattle.ray_rules.specs.Ids.{Ids, look, with_id}
 use Rattle.ray_rules.specs.Origins.{uses_of}
 use Rattle.ray_rules.specs.Status.{structure_built}
 use Rattle.ray_action.specs.Areas.{has}
-use Rattle.ray_action.specs.Memory.{Contents, Bottom, Top}
+use Rattle.ray_action.specs.Memory.{Contents, Top}
 use Rattle.ray_ready.proofs.Maps.{Rise, here, there}
 use Rattle.ray_ready.proofs.Ties.{IsBuilt, IsFresh, IsEarlier, IsTopBy, Fills, IsBounded, TiedContents}
 use Rattle.ray_ready.proofs.Keeping.{Changes, comes}

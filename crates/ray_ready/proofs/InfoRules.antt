@@ -1,7 +1,7 @@
 -- What the rules say of the infos of a build.
-use Rattle.std.proofs.Common.{◌≡◌, ◌+◌, ◌<◌, ◌≤◌, ◌^◌, ℕ, suc, Bool, true, false, List, [], ◌∷◌, Option, Some, None, IsSome, refl, sym, ◌∙◌, ap, subst, arith, length}
+use Rattle.std.proofs.Common.{◌≡◌, ◌+◌, ◌≤◌, ℕ, suc, Bool, true, false, List, [], ◌∷◌, Option, Some, None, IsSome, refl, sym, ◌∙◌, ap, subst, arith, length}
 use Rattle.std.proofs.lemmas.Bool.Decides.{nat_tests}
-use Rattle.std.specs.Prelude.{◌||◌, ◌&&◌, ◌==◌, not, nat_lt, is_some}
+use Rattle.std.specs.Prelude.{◌||◌, ◌&&◌, ◌==◌, not, nat_lt}
 use Rattle.std.specs.List.{list_all, list_any, zip}
 use Rattle.std.specs.Option.{option_map_or, option_and_then, option_or}
 use Rattle.ray_cmd.specs.Infos.{source_fits}
@@ -17,10 +17,9 @@ use Rattle.ray_cmd.specs.declared.structure_kind.StructureKind.{StructureKind}
 use Rattle.ray_cmd.specs.declared.structure_kind.StructureKind.TheVariants as kinds
 use Rattle.ray_rules.specs.declared.built.Built.{Built}
 use Rattle.ray_rules.specs.declared.live_structure.LiveStructure.{LiveStructure}
-use Rattle.ray_rules.specs.Conflicts.{v16}
 use Rattle.ray_rules.specs.Ids.{look}
 use Rattle.ray_rules.specs.Names.{lacks_buffer, lacks_input, lacks_named, lacks_source, lacks_structure, v1}
-use Rattle.ray_rules.specs.Origins.{info_of, is_deserialized}
+use Rattle.ray_rules.specs.Origins.{info_of}
 use Rattle.ray_rules.specs.Places.{first_part, part_at}
 use Rattle.ray_rules.specs.Ranges.{count_of, primitives}
 use Rattle.ray_rules.specs.Shapes.{are_of_bottom, are_of_top, are_too_many, is_instances, is_misshapen, is_too_large, is_wrong_info, prefers_both, updates_wrongly, uses_wrongly, v7, v8, v9, v10}
@@ -29,11 +28,9 @@ use Rattle.ray_rules.specs.Spans.{info_reaches_out, input_reaches_out, v4}
 use Rattle.ray_rules.specs.Status.{Status, built_at}
 use Rattle.ray_rules.specs.Structures.{differ_in_kind, is_bottom_at, is_top_at}
 use Rattle.ray_action.specs.Areas.{has}
-use Rattle.ray_action.specs.Action.{Building}
 use Rattle.ray_action.specs.Pieces.{bottom_action, building, info_action, info_action_by, info_action_on, top_action, top_action_of}
-use Rattle.ray_ready.specs.Accepted.{has_its_source, have_their_sources}
-use Rattle.ray_ready.proofs.Ties.{IsBuilt}
-use Rattle.ray_ready.proofs.Allowed.{AreReadable, IsAllowed, IsBuiltOf, IsLiveOf, IsSource, MayBuildBottom, MayBuildTop}
+use Rattle.ray_ready.specs.Accepted.{has_its_source}
+use Rattle.ray_ready.proofs.Allowed.{AreReadable, IsAllowed, IsBuiltOf, IsLiveOf, MayBuildBottom, MayBuildTop}
 use Rattle.ray_ready.proofs.Kept.{Fail, Keeps, both_first, both_second, bottom_of, built_of, fails_at, is_so, is_there, neither_first, neither_second, no_part, none_any, not_second, readable, says_bottom, says_top, top_of}
 use Rattle.ray_ready.proofs.Infos.{AreAllowedFrom}
 
@@ -101,6 +98,7 @@ bottom_source rec z dst src live named kind source =
     flipped : (a b : Bool) → b ≡ true → (a && b) ≡ false → a ≡ false
     flipped true b is e = absurd cc
     flipped false b is e = refl
+
     has_source : (o : Option Built) → is_no_source rec o ≡ false → IsSome o
     has_source None e = absurd cc
     has_source (Some b) e = refl
@@ -116,6 +114,7 @@ top_source rec z dst src live named kind source =
     flipped : (a b : Bool) → b ≡ true → (a && b) ≡ false → a ≡ false
     flipped true b is e = absurd cc
     flipped false b is e = refl
+
     has_source : (o : Option Built) → is_no_source rec o ≡ false → IsSome o
     has_source None e = absurd cc
     has_source (Some b) e = refl

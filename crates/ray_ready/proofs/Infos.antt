@@ -1,5 +1,5 @@
 -- The infos of a build, which are apart, keep the invariant one after the other.
-use Rattle.std.proofs.Common.{◌≡◌, ◌<◌, ◌≤◌, ◌+◌, ◌++◌, ℕ, zero, suc, Bool, true, false, List, [], ◌∷◌, Option, Some, None, refl, sym, ◌∙◌, ap, subst, inl, inr, arith}
+use Rattle.std.proofs.Common.{◌≡◌, ◌<◌, ◌+◌, ◌++◌, ℕ, suc, Bool, true, false, List, [], ◌∷◌, Option, Some, None, refl, sym, ◌∙◌, ap, subst, inl, inr, arith}
 use Rattle.std.specs.Prelude.{if◌then◌else◌, slice_get, ◌==◌, ◌||◌}
 use Rattle.std.specs.List.{list_any}
 use Rattle.std.specs.Option.{option_map, option_map_or}
@@ -16,7 +16,7 @@ use Rattle.ray_cmd.specs.declared.structure_kind.StructureKind.TheVariants as ki
 use Rattle.ray_rules.specs.declared.built.Built.{Built}
 use Rattle.ray_rules.specs.declared.live_structure.LiveStructure.{LiveStructure}
 use Rattle.ray_rules.specs.Conflicts.{conflict, first_conflict, is_source, reads_structure}
-use Rattle.ray_rules.specs.Ids.{Ids, look, with_id}
+use Rattle.ray_rules.specs.Ids.{look}
 use Rattle.ray_rules.specs.Origins.{uses_in, uses_of}
 use Rattle.ray_rules.specs.Ranges.{meets, scratch_range}
 use Rattle.ray_rules.specs.Status.{Status, after_infos, built_by, fill_in, structure_built, with_built}

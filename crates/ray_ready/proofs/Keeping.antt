@@ -1,11 +1,8 @@
 -- What leaves a status and a memory tied.
-use Rattle.std.proofs.Common.{◌≡◌, ◌<◌, ◌≤◌, ℕ, Bool, true, false, List, Option, Some, None, IsSome, refl, sym, ◌∙◌, ap, subst, inl, inr, arith, le_antisymm, le_trans}
+use Rattle.std.proofs.Common.{◌≡◌, ◌<◌, ℕ, List, Option, Some, None, IsSome, sym, ◌∙◌, ap, subst, inl, inr}
 use Rattle.std.specs.Prelude.{◌==◌, if◌then◌else◌}
 use Rattle.std.specs.Option.{option_map, option_map_or}
 use Rattle.std.proofs.lemmas.Bool.{cases_eq}
-use Rattle.ray_geom.specs.Boxes.{BoxValue}
-use Rattle.ray_top.specs.Contents as tops
-use Rattle.ray_top.specs.InstanceReading.{bounds_in}
 use Rattle.ray_cmd.specs.declared.command.Command.{Command}
 use Rattle.ray_cmd.specs.declared.structure_kind.StructureKind.{StructureKind}
 use Rattle.ray_cmd.specs.declared.structure_kind.StructureKind.TheVariants as kinds
@@ -13,14 +10,11 @@ use Rattle.ray_rules.specs.declared.built.Built.{Built}
 use Rattle.ray_rules.specs.declared.live_buffer.LiveBuffer.{LiveBuffer}
 use Rattle.ray_rules.specs.declared.live_structure.LiveStructure.{LiveStructure}
 use Rattle.ray_rules.specs.Ids.{Ids, look, with_id, without_id}
-use Rattle.ray_rules.specs.Origins.{uses_of}
-use Rattle.ray_rules.specs.Ranges.{size_at}
 use Rattle.ray_rules.specs.Status.{structure_built}
 use Rattle.ray_action.specs.declared.form.Form.{Form}
-use Rattle.ray_action.specs.Areas.{has}
-use Rattle.ray_action.specs.Memory.{Contents, Bottom, Top}
+use Rattle.ray_action.specs.Memory.{Contents}
 use Rattle.ray_ready.proofs.Maps.{Rise, look_with, look_without, rise_with, rise_without, here, there}
-use Rattle.ray_ready.proofs.Ties.{IsBuilt, IsFresh, IsEarlier, IsTopBy, Fills, IsBounded, size_of, form_of, TiedBuffers, TiedForms, TiedContents}
+use Rattle.ray_ready.proofs.Ties.{IsBuilt, IsFresh, Fills, IsBounded, size_of, form_of, TiedBuffers, TiedForms, TiedContents}
 
 -- ---- one entry comes or goes
 
@@ -118,13 +112,13 @@ contents_unbuilt rec i k id new es fs contents change unbuilt tied = record {
   bounds = λ q b t u x built is in_use fresh. elim (cases_eq q id) [
     | inl same ↦ absurd (unbuilt kinds.Top b (subst (λ f. IsBuilt f kinds.Top b) (change.at q same) built))
     | inr differs ↦ elim (cases_eq u id) [
-        | inl same ↦
-            let now : IsFresh b.stamp new = subst (IsFresh b.stamp) (change.at u same) fresh in
-            absurd (unbuilt kinds.Bottom now.by now.built)
-        | inr apart ↦
-            subst (IsBounded x) (sym (there u id None (contents u) apart))
-            (tied.bounds q b t u x (subst (λ f. IsBuilt f kinds.Top b) (change.other q differs) built)
-            (sym (there q id None (contents q) differs) ∙ is) in_use (subst (IsFresh b.stamp) (change.other u apart) fresh))
+      | inl same ↦
+          let now : IsFresh b.stamp new = subst (IsFresh b.stamp) (change.at u same) fresh in
+          absurd (unbuilt kinds.Bottom now.by now.built)
+      | inr apart ↦
+          subst (IsBounded x) (sym (there u id None (contents u) apart))
+          (tied.bounds q b t u x (subst (λ f. IsBuilt f kinds.Top b) (change.other q differs) built)
+          (sym (there q id None (contents q) differs) ∙ is) in_use (subst (IsFresh b.stamp) (change.other u apart) fresh))
     ]
   ];
 }

@@ -1,5 +1,5 @@
 -- What follows from a rule that is kept, in the words of its test.
-use Rattle.std.proofs.Common.{◌≡◌, ◌+◌, ◌*◌, ◌-◌, ◌<◌, ◌≤◌, ℕ, zero, suc, Bool, true, false, List, [], ◌∷◌, Option, Some, None, IsSome, refl, sym, ◌∙◌, ap, subst, inl, inr, arith, min, length}
+use Rattle.std.proofs.Common.{◌≡◌, ◌+◌, ◌≤◌, ℕ, Bool, true, false, List, [], ◌∷◌, Option, Some, None, IsSome, refl, sym, ◌∙◌, ap, subst, inl, inr, arith}
 use Rattle.std.proofs.lemmas.Bool.{cases_eq}
 use Rattle.std.proofs.lemmas.Bool.Decides.{nat_tests}
 use Rattle.std.specs.Prelude.{◌||◌, ◌&&◌, ◌==◌, not, if◌then◌else◌, nat_lt, option_map, is_some}
@@ -30,8 +30,8 @@ use Rattle.ray_rules.specs.Status.{Status}
 use Rattle.ray_rules.specs.Structures.{is_bottom, is_top, v19}
 use Rattle.ray_action.specs.Areas.{has}
 use Rattle.ray_action.specs.Action.{content_buffer}
-use Rattle.ray_ready.proofs.Ties.{IsBuilt, IsFresh}
-use Rattle.ray_ready.proofs.Allowed.{AreReadable, AreWithin, IsBuiltOf, IsLiveOf, IsReadable, IsWithin, IsWithinIf}
+use Rattle.ray_ready.proofs.Ties.{IsFresh}
+use Rattle.ray_ready.proofs.Allowed.{AreReadable, AreWithin, IsBuiltOf, IsLiveOf, IsWithin, IsWithinIf}
 
 -- ---- the rows that are used
 

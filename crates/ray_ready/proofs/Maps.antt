@@ -1,5 +1,5 @@
 -- What stands under each id once one comes or goes, in a list of entries whose ids rise.
-use Rattle.std.proofs.Common.{◌≡◌, ◌<◌, ◌≤◌, ℕ, Bool, true, false, [], ◌∷◌, Option, Some, None, refl, sym, ◌∙◌, ap, subst, inl, inr, cond, arith}
+use Rattle.std.proofs.Common.{◌≡◌, ◌<◌, ◌≤◌, ℕ, [], ◌∷◌, Some, None, refl, sym, ◌∙◌, ap, subst, inl, inr, cond, arith}
 use Rattle.std.specs.Prelude.{◌==◌, if◌then◌else◌}
 use Rattle.std.specs.BTreeMap.{is_at}
 use Rattle.std.specs.Ordering.{nat_cmp, MatchOrdering, match_ordering}
@@ -99,25 +99,25 @@ go_later : {X : Type 0} (id : ℕ) (e : ℕ × X) (es : Ids X) → (e.0 ≡ id �
 go_later id e es differs = cond-false (is_at (nat_cmp id) e.0) _ _ (at_key id e.0 ∙ ne_eqb e.0 id differs)
 
 pub look_without : {X : Type 0} (id : ℕ) (es : Ids X) (q : ℕ) → Rise es → look (without_id id es) q ≡ (if q == id then None else look es q)
-look_without id [] q rise = elim (cases_eq q id) [ | inl same ↦ sym (here q id _ _ same) | inr differs ↦ sym (there q id _ _ differs) ]
+look_without id [] q rise = elim (cases_eq q id) [ inl same ↦ sym (here q id _ _ same) | inr differs ↦ sym (there q id _ _ differs) ]
 look_without id (e ∷ es) q rise =
     elim (cases_eq e.0 id) [
       | inl first ↦
           ap (λ names. look names q) (go_first id e es first)
           ∙ elim (cases_eq q id) [
-              | inl same ↦ rise.0 q (omega (arith, first, same)) ∙ sym (here q id _ _ same)
-              | inr differs ↦
-                  sym (look_later q e es (λ is. differs (sym is ∙ first))) ∙ sym (there q id _ _ differs)
+            | inl same ↦ rise.0 q (omega (arith, first, same)) ∙ sym (here q id _ _ same)
+            | inr differs ↦
+                sym (look_later q e es (λ is. differs (sym is ∙ first))) ∙ sym (there q id _ _ differs)
           ]
       | inr later ↦
           ap (λ names. look names q) (go_later id e es later)
           ∙ elim (cases_eq q id) [
-              | inl same ↦
-                  look_later q e (without_id id es) (λ is. later (is ∙ same))
-                  ∙ (look_without id es q rise.1 ∙ (here q id _ _ same ∙ sym (here q id _ _ same)))
-              | inr differs ↦
-                  look_both q e e (without_id id es) es refl (look_without id es q rise.1 ∙ there q id _ _ differs)
-                  ∙ sym (there q id _ _ differs)
+            | inl same ↦
+                look_later q e (without_id id es) (λ is. later (is ∙ same))
+                ∙ (look_without id es q rise.1 ∙ (here q id _ _ same ∙ sym (here q id _ _ same)))
+            | inr differs ↦
+                look_both q e e (without_id id es) es refl (look_without id es q rise.1 ∙ there q id _ _ differs)
+                ∙ sym (there q id _ _ differs)
           ]
     ]
 

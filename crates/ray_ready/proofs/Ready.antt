@@ -1,10 +1,9 @@
 -- What is allowed is ready, where the status and the memory are tied.
-use Rattle.std.proofs.Common.{◌≡◌, ◌<◌, ◌≤◌, ◌+◌, ℕ, zero, suc, Bool, true, false, List, [], ◌∷◌, Option, Some, None, IsSome, IfSome, All, map, length, refl, sym, ◌∙◌, ap, subst, arith}
-use Rattle.std.specs.Prelude.{if◌then◌else◌, is_some}
+use Rattle.std.proofs.Common.{◌≡◌, ◌<◌, ◌≤◌, ◌+◌, ℕ, zero, suc, true, List, [], ◌∷◌, Option, Some, None, IsSome, IfSome, All, map, refl, sym, ◌∙◌, ap, subst, arith}
+use Rattle.std.specs.Prelude.{if◌then◌else◌}
 use Rattle.std.specs.Option.{option_map, option_map_or, option_and_then}
 use Rattle.std.proofs.lemmas.List.Elements.{All-nil, All-cons}
 use Rattle.ray_geom.specs.Boxes.{BoxValue}
-use Rattle.ray_bottom.specs.Contents as bottoms
 use Rattle.ray_top.specs.Contents as tops
 use Rattle.ray_top.specs.Instances.{InstanceValue}
 use Rattle.ray_top.specs.InstanceReading.{bounds_in}
@@ -23,16 +22,15 @@ use Rattle.ray_rules.specs.declared.live_buffer.LiveBuffer.{LiveBuffer}
 use Rattle.ray_rules.specs.declared.live_structure.LiveStructure.{LiveStructure}
 use Rattle.ray_rules.specs.Ids.{Ids, look}
 use Rattle.ray_rules.specs.Origins.{uses_of}
-use Rattle.ray_rules.specs.Ranges.{inputs_read, size_at}
+use Rattle.ray_rules.specs.Ranges.{inputs_read}
 use Rattle.ray_rules.specs.Status.{Status}
-use Rattle.ray_action.specs.declared.form.Form.{Form}
 use Rattle.ray_action.specs.Areas.{has}
 use Rattle.ray_action.specs.Memory.{Contents, Memory, Bottom, Top, ByteAt, BufferAt, StructureAt, ContentsAt, as_bottom, as_top, bytes_at, bytes_from, kind_of, number_before}
 use Rattle.ray_action.specs.Action.{Action, Building, Tracing, MakeBuffer, MakeStructure, DestroyBuffer, DestroyStructure, ShowSizes, ShowBytes, UpdateBytes, FillBytes, CopyBytes, BuildBottom, UpdateBottom, BuildTop, UpdateTop, CopyStructure, TellProperty, TraceRays, Rest, Unbuilt, content_buffer}
-use Rattle.ray_action.specs.Seeing.{SeenBuild, SeenBytes, SeenStructures, SeenTop, see, see_geometry, see_range, see_structure, see_structures}
+use Rattle.ray_action.specs.Seeing.{SeenBytes, see_geometry, see_range, see_structure, see_structures}
 use Rattle.ray_action.specs.Outcomes.{bottoms_in, number_of, numbers_of}
-use Rattle.ray_action.specs.Readiness.{AreBottoms, AreThere, IsBottomReady, IsCopyReady, FitsMode, IsMade, IsReady, IsThere, IsTopReady, IsTopSource, IsTraceReady}
-use Rattle.ray_ready.proofs.Ties.{Fills, IsBounded, IsBuilt, IsFresh, IsTopBy, TiedBuffers, TiedContents, TiedForms, Ties, form_of, size_of}
+use Rattle.ray_action.specs.Readiness.{AreBottoms, AreThere, IsBottomReady, FitsMode, IsMade, IsReady, IsThere, IsTopReady, IsTopSource}
+use Rattle.ray_ready.proofs.Ties.{Fills, IsBounded, IsTopBy, TiedBuffers, TiedContents, TiedForms, Ties, form_of, size_of}
 use Rattle.ray_ready.proofs.Allowed.{AreReadable, AreWithin, FitsKind, IsAllowed, IsBuiltOf, IsLiveOf, IsReadable, IsSource, IsWithin, IsWithinIf, MayBuildBottom, MayBuildTop, MayCopy, MayTell, MayTellAll, MayTrace}
 
 -- buffers that are tied to a memory

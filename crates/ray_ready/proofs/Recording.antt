@@ -76,7 +76,7 @@ before_or_not i n = decide_lt i n
     decide_lt : (i n : ℕ) → (i < n) ⊎ (n ≤ i)
     decide_lt i zero = inr (omega arith)
     decide_lt zero (suc n) = inl (omega arith)
-    decide_lt (suc i) (suc n) = elim (decide_lt i n) [ | inl less ↦ inl (omega (arith, less)) | inr more ↦ inr (omega (arith, more)) ]
+    decide_lt (suc i) (suc n) = elim (decide_lt i n) [ inl less ↦ inl (omega (arith, less)) | inr more ↦ inr (omega (arith, more)) ]
 
 all_ready : (rec : List Command) (n i : ℕ) (z : Status) (cs : List Command) (m : Memory) → IsAccepted rec n → Follow rec i cs → z ≡ status_at rec i → Ties rec i 0 z m
     → AreReadyBelow n (actions_from rec i z cs) m
@@ -91,8 +91,8 @@ all_ready rec n i z (c ∷ cs) m accepted follow same ties =
           let may : MayRun rec z c = subst (λ s. MayRun rec s c) (sym same) (accepted.each i c less is) in
           ready_through n i (actions_of rec z c) rest m (Ties rec (i + 1) 0 w) (command_leads rec i z c m is may ties)
           (λ x t.
-              all_ready rec n (i + 1) w cs x accepted (λ q k d at there. follow q (suc k) d (omega (arith, at)) there)
-              (next_status rec i z c is same) t)
+          all_ready rec n (i + 1) w cs x accepted (λ q k d at there. follow q (suc k) d (omega (arith, at)) there)
+          (next_status rec i z c is same) t)
       | inr late ↦
           late_ready n (map (numbered i) (actions_of rec z c) ++ rest) m
           (numbered_from n i (actions_of rec z c) rest late (actions_late rec n (i + 1) w cs (omega (arith, late))))

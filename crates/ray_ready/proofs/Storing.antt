@@ -1,28 +1,22 @@
 -- What the store of each action leaves of the invariant, but for those that fill a structure from bytes.
-use Rattle.std.proofs.Common.{◌≡◌, ◌<◌, ◌≤◌, ◌+◌, ℕ, Bool, true, false, List, [], ◌∷◌, Option, Some, None, IsSome, refl, sym, ◌∙◌, ap, subst, arith}
-use Rattle.std.specs.Prelude.{if◌then◌else◌, nat_lt, slice_get, unwrap_or, ◌==◌}
+use Rattle.std.proofs.Common.{◌≡◌, ◌<◌, ◌≤◌, ◌+◌, ℕ, Bool, true, false, List, Option, Some, None, IsSome, refl, sym, ◌∙◌, ap, subst, arith}
+use Rattle.std.specs.Prelude.{if◌then◌else◌, nat_lt, slice_get, unwrap_or}
 use Rattle.std.proofs.lemmas.Bool.Decides.{nat_tests}
-use Rattle.std.specs.Option.{option_map, option_and_then}
+use Rattle.std.specs.Option.{option_map}
 use Rattle.ray_flags.specs.declared.usage.Usage.{Usage}
-use Rattle.ray_geom.specs.Boxes.{BoxValue}
-use Rattle.ray_top.specs.Contents as tops
-use Rattle.ray_top.specs.InstanceReading.{bounds_in}
 use Rattle.ray_cmd.specs.declared.command.Command.{Command}
 use Rattle.ray_cmd.specs.declared.structure_kind.StructureKind.{StructureKind}
-use Rattle.ray_cmd.specs.declared.structure_kind.StructureKind.TheVariants as kinds
 use Rattle.ray_rules.specs.declared.built.Built.{Built}
-use Rattle.ray_rules.specs.declared.byte_range.ByteRange.{ByteRange}
 use Rattle.ray_rules.specs.declared.live_buffer.LiveBuffer.{LiveBuffer}
 use Rattle.ray_rules.specs.declared.live_structure.LiveStructure.{LiveStructure}
-use Rattle.ray_rules.specs.Ids.{Ids, look, with_id, without_id}
+use Rattle.ray_rules.specs.Ids.{look, with_id, without_id}
 use Rattle.ray_rules.specs.Status.{Status, fill_in, structure_built, with_buffer, with_built, with_structure}
-use Rattle.ray_action.specs.declared.form.Form.{Form}
-use Rattle.ray_action.specs.Areas.{has, is_contents_of, is_in_range}
-use Rattle.ray_action.specs.Memory.{Contents, Memory, Location, Bottom, Top, ByteAt, BufferAt, StructureAt, ContentsAt}
+use Rattle.ray_action.specs.Areas.{is_contents_of, is_in_range}
+use Rattle.ray_action.specs.Memory.{Contents, Memory, ByteAt, BufferAt, StructureAt, ContentsAt}
 use Rattle.ray_action.specs.Action.{Action, MakeBuffer, MakeStructure, DestroyBuffer, DestroyStructure, ShowSizes, ShowBytes, UpdateBytes, FillBytes, CopyBytes, BuildBottom, UpdateBottom, BuildTop, UpdateTop, CopyStructure, TellProperty, TraceRays, Rest, Unbuilt}
 use Rattle.ray_action.specs.Outcomes.{Output, Nothing, Bytes, Holds, Gives}
 use Rattle.ray_action.specs.Storing.{bytes_left, filled, holding, put, stored}
-use Rattle.ray_ready.proofs.Ties.{Fills, IsBounded, IsBuilt, IsEarlier, IsFresh, TiedBuffers, TiedContents, TiedForms, Ties, form_of, size_of}
+use Rattle.ray_ready.proofs.Ties.{IsBuilt, TiedBuffers, Ties, form_of}
 use Rattle.ray_ready.proofs.Keeping.{Changes, bytes_kept, buffers_changed, comes, contents_unbuilt, forms_changed, forms_filled, goes}
 use Rattle.ray_ready.proofs.Filling.{IsFree, IsNew, contents_filled, contents_later}
 

@@ -1,12 +1,11 @@
 -- The invariant of the induction: how the status of a recording and the memory of the device are tied.
-use Rattle.std.proofs.Common.{◌≡◌, ◌<◌, ◌≤◌, ℕ, Bool, true, List, Option, Some, None, IsSome, IfSome, All, length}
+use Rattle.std.proofs.Common.{◌≡◌, ◌<◌, ◌≤◌, ℕ, true, List, Option, Some, IsSome, IfSome, All, length}
 use Rattle.std.specs.Option.{option_map, option_and_then}
 use Rattle.ray_geom.specs.Boxes.{BoxValue}
 use Rattle.ray_bottom.specs.Contents as bottoms
 use Rattle.ray_top.specs.Contents as tops
 use Rattle.ray_top.specs.Instances.{InstanceValue}
 use Rattle.ray_top.specs.InstanceReading.{bounds_in}
-use Rattle.ray_top.specs.declared.used.Used.{Used}
 use Rattle.ray_cmd.specs.declared.command.Command.{Command}
 use Rattle.ray_cmd.specs.declared.info.Info.{Info}
 use Rattle.ray_cmd.specs.declared.structure_kind.StructureKind.{StructureKind}
