@@ -41,43 +41,8 @@ use Rattle.ray_action.specs.Storing.{put}
 use Rattle.ray_ready.proofs.Ties.{Fills, IsBounded, IsBuilt, IsEarlier, IsTopBy, Ties}
 use Rattle.ray_ready.proofs.Filling.{IsFree, none_yet}
 use Rattle.ray_ready.proofs.Storing.{filled_memory, ties_filled}
+use Rattle.ray_ready.proofs.Giving.{IsReadTop, MayGive}
 use Rattle.ray_ready.proofs.Allowed.{IsBuiltOf, IsLiveOf, MayBuildBottom, MayBuildTop, MayCopy}
-
--- ---- outcomes taken apart
-
-bottom_gives : (info : ℕ) (r : Result BuilderValue DataFault) (o : Output) → bottom_outcome info r ≡ Gives o
-    → (c : bottoms.ContentsValue) × (o ≡ Holds (Bottom c))
-bottom_gives info (Ok b) o e = (b.contents, cc)
-bottom_gives info (Err fault) o e = absurd cc
-
-of_bottom_gives : (found : Option Contents) (make : bottoms.ContentsValue → Outcome) (o : Output) → of_bottom found make ≡ Gives o
-    → (c : bottoms.ContentsValue) × ((found ≡ Some (Bottom c)) × (make c ≡ Gives o))
-of_bottom_gives None make o e = absurd cc
-of_bottom_gives (Some (Bottom c)) make o e = (c, (refl, e))
-of_bottom_gives (Some (Top t)) make o e = absurd cc
-
-top_gives : (info : ℕ) (r : Result tops.TopValue DataFault) (o : Output) → top_outcome info r ≡ Gives o
-    → (t : tops.TopValue) × ((o ≡ Holds (Top t)) × (r ≡ Ok t))
-top_gives info (Ok t) o e = (t, (cc, refl))
-top_gives info (Err fault) o e = absurd cc
-
-of_top_gives : (found : Option Contents) (make : tops.TopValue → Outcome) (o : Output) → of_top found make ≡ Gives o
-    → (t : tops.TopValue) × ((found ≡ Some (Top t)) × (make t ≡ Gives o))
-of_top_gives None make o e = absurd cc
-of_top_gives (Some (Bottom c)) make o e = absurd cc
-of_top_gives (Some (Top t)) make o e = (t, (refl, e))
-
--- a top that was read with these structures in use
-pub record IsReadTop (used : List Used) (count : ℕ) (t : tops.TopValue) : Type 0 where
-  pub same : t.used ≡ used
-  pub read : AreRead used count t.contents.instances
-
-read_top : (flags : BuildFlags) (used : List Used) (row : Row) (olds : Option (List (Option InstanceValue))) (count : ℕ) (r : Result (List (Option InstanceValue)) DataFault) (t : tops.TopValue)
-    → instances_read used row olds count ≡ r → tops.top_with flags used r ≡ Ok t → IsReadTop used count t
-read_top flags used row olds count (Ok instances) t is e =
-    let same : tops.top_value flags used instances ≡ t = cc in
-    subst (IsReadTop used count) same (record { same = refl; read = AreRead-instances_read used row olds count instances is })
-read_top flags used row olds count (Err fault) t is e = absurd cc
 
 -- ---- the structures in use
 
@@ -207,19 +172,6 @@ top_stored rec i k z m infos info instances t command is geometries live are_bui
 
 -- ---- copies
 
-compact_gives : (b : Bool) (x o : Output) (fault : Outcome) → (if b then fault else Gives x) ≡ Gives o → ((p : Output) → fault ≡ Gives p → ⊥) → x ≡ o
-compact_gives true x o fault e never = absurd (never o e)
-compact_gives false x o fault e never = cc
-
-copy_gives : (mode : CopyMode) (found : Option Contents) (dst : Option Form) (o : Output) → copy_outcome mode found dst ≡ Gives o
-    → (c : Contents) × ((found ≡ Some c) × (o ≡ Holds c))
-copy_gives copies.Clone None dst o e = absurd cc
-copy_gives copies.Clone (Some c) dst o e = (c, (refl, cc))
-copy_gives copies.Compact found None o e = absurd cc
-copy_gives copies.Compact found (Some form) o e =
-    let is = of_bottom_gives found (compact_copy form.size) o e in
-    (Bottom is.0, (is.1.0, sym (compact_gives (nat_lt form.size (compacted_of is.0)) (Holds (Bottom is.0)) o _ is.1.1 (λ p f. absurd cc))))
-
 copied_fills : (rec : List Command) (i : ℕ) (kind : StructureKind) (b : Built) (found : Option Contents) → Fills rec kind b found
     → Fills rec kind (record { stamp = b.stamp; info = b.info; written = i }) found
 copied_fills rec i kinds.Bottom b found fills = fills
@@ -258,52 +210,43 @@ copy_stored rec i z m mode src dst c may is ties =
     }) ties in
     subst (λ built. Ties rec i 0 (fill_in dst built z) (filled_memory dst c m)) (sym (ap (copied_by i) (source_by (look z.structures src) may.kind b may.source.built))) filled
 
--- ---- by outcome
+-- ---- by action
 
 pub bottom_built : (rec : List Command) (i k : ℕ) (z : Status) (m : Memory) (build : Building) (flags : BuildFlags) (gs : List Geometry) (o : Output)
-    → MayBuildBottom z build gs → IsFree rec i z.structures build.dst → outcome_of (BuildBottom build flags gs) m ≡ Gives o → Ties rec i k z m
+    → MayBuildBottom z build gs → IsFree rec i z.structures build.dst → MayGive (BuildBottom build flags gs) m o → Ties rec i k z m
     → Ties rec i (k + 1) (fill_in build.dst (built_by i k) z) (put (BuildBottom build flags gs) (Gives o) m)
-bottom_built rec i k z m build flags gs o may free e ties =
-    let gives = bottom_gives build.info _ o e in
+bottom_built rec i k z m build flags gs o may free gives ties =
     subst (λ p. Ties rec i (k + 1) (fill_in build.dst (built_by i k) z) (put (BuildBottom build flags gs) (Gives p) m)) (sym gives.1)
     (bottom_stored rec i k z m build.dst gives.0 may.dst free ties)
 
 pub bottom_updated : (rec : List Command) (i k : ℕ) (z : Status) (m : Memory) (build : Building) (src : ℕ) (gs : List Geometry) (o : Output)
-    → MayBuildBottom z build gs → IsFree rec i z.structures build.dst → outcome_of (UpdateBottom build src gs) m ≡ Gives o → Ties rec i k z m
+    → MayBuildBottom z build gs → IsFree rec i z.structures build.dst → MayGive (UpdateBottom build src gs) m o → Ties rec i k z m
     → Ties rec i (k + 1) (fill_in build.dst (built_by i k) z) (put (UpdateBottom build src gs) (Gives o) m)
-bottom_updated rec i k z m build src gs o may free e ties =
-    let source = of_bottom_gives (m (ContentsAt src)) _ o e in
-    let gives = bottom_gives build.info _ o source.1.1 in
+bottom_updated rec i k z m build src gs o may free gives ties =
     subst (λ p. Ties rec i (k + 1) (fill_in build.dst (built_by i k) z) (put (UpdateBottom build src gs) (Gives p) m)) (sym gives.1)
     (bottom_stored rec i k z m build.dst gives.0 may.dst free ties)
 
 pub top_built : (rec : List Command) (i k : ℕ) (z : Status) (m : Memory) (infos : List Info) (info : Info) (build : Building) (flags : BuildFlags) (instances : Geometry) (o : Output)
     → slice_get rec i ≡ Some (commands.Build infos) → slice_get infos k ≡ Some info → info.geometries ≡ instances ∷ [] → build.dst ≡ info.dst
-    → MayBuildTop rec z build info.uses instances → IsFree rec i z.structures info.dst → outcome_of (BuildTop build flags info.uses instances) m ≡ Gives o → Ties rec i k z m
+    → MayBuildTop rec z build info.uses instances → IsFree rec i z.structures info.dst → MayGive (BuildTop build flags info.uses instances) m o → Ties rec i k z m
     → Ties rec i (k + 1) (fill_in info.dst (built_by i k) z) (put (BuildTop build flags info.uses instances) (Gives o) m)
-top_built rec i k z m infos info build flags instances o command is geometries dst may free e ties =
-    let gives = top_gives build.info _ o e in
-    let read = read_top flags _ _ None (count_of instances) _ gives.0 refl gives.1.1 in
+top_built rec i k z m infos info build flags instances o command is geometries dst may free gives ties =
     subst (λ p. Ties rec i (k + 1) (fill_in info.dst (built_by i k) z) (put (BuildTop build flags info.uses instances) (Gives p) m)) (sym gives.1.0)
     (subst (λ d. Ties rec i (k + 1) (fill_in info.dst (built_by i k) z) (filled_memory d (Top gives.0) m)) (sym dst)
-    (top_stored rec i k z m infos info instances gives.0 command is geometries (subst (λ d. IsLiveOf kinds.Top (look z.structures d)) dst may.dst) may.are_built free read ties))
+    (top_stored rec i k z m infos info instances gives.0 command is geometries (subst (λ d. IsLiveOf kinds.Top (look z.structures d)) dst may.dst) may.are_built free gives.1.1 ties))
 
 pub top_updated : (rec : List Command) (i k : ℕ) (z : Status) (m : Memory) (infos : List Info) (info : Info) (build : Building) (src : ℕ) (instances : Geometry) (o : Output)
     → slice_get rec i ≡ Some (commands.Build infos) → slice_get infos k ≡ Some info → info.geometries ≡ instances ∷ [] → build.dst ≡ info.dst
-    → MayBuildTop rec z build info.uses instances → IsFree rec i z.structures info.dst → outcome_of (UpdateTop build src info.uses instances) m ≡ Gives o → Ties rec i k z m
+    → MayBuildTop rec z build info.uses instances → IsFree rec i z.structures info.dst → MayGive (UpdateTop build src info.uses instances) m o → Ties rec i k z m
     → Ties rec i (k + 1) (fill_in info.dst (built_by i k) z) (put (UpdateTop build src info.uses instances) (Gives o) m)
-top_updated rec i k z m infos info build src instances o command is geometries dst may free e ties =
-    let source = of_top_gives (m (ContentsAt src)) _ o e in
-    let gives = top_gives build.info _ o source.1.1 in
-    let read = read_top source.0.contents.flags _ _ (Some source.0.contents.instances) (count_of instances) _ gives.0 refl gives.1.1 in
+top_updated rec i k z m infos info build src instances o command is geometries dst may free gives ties =
     subst (λ p. Ties rec i (k + 1) (fill_in info.dst (built_by i k) z) (put (UpdateTop build src info.uses instances) (Gives p) m)) (sym gives.1.0)
     (subst (λ d. Ties rec i (k + 1) (fill_in info.dst (built_by i k) z) (filled_memory d (Top gives.0) m)) (sym dst)
-    (top_stored rec i k z m infos info instances gives.0 command is geometries (subst (λ d. IsLiveOf kinds.Top (look z.structures d)) dst may.dst) may.are_built free read ties))
+    (top_stored rec i k z m infos info instances gives.0 command is geometries (subst (λ d. IsLiveOf kinds.Top (look z.structures d)) dst may.dst) may.are_built free gives.1.1 ties))
 
 pub structure_copied : (rec : List Command) (i : ℕ) (z : Status) (m : Memory) (mode : CopyMode) (src dst : ℕ) (o : Output) → MayCopy z mode src dst
-    → outcome_of (CopyStructure mode src dst) m ≡ Gives o → Ties rec i 0 z m
+    → MayGive (CopyStructure mode src dst) m o → Ties rec i 0 z m
     → Ties rec i 0 (fill_in dst (copied_by i (built_at z src)) z) (put (CopyStructure mode src dst) (Gives o) m)
-structure_copied rec i z m mode src dst o may e ties =
-    let gives = copy_gives mode (m (ContentsAt src)) (m (StructureAt dst)) o e in
+structure_copied rec i z m mode src dst o may gives ties =
     subst (λ p. Ties rec i 0 (fill_in dst (copied_by i (built_at z src)) z) (put (CopyStructure mode src dst) (Gives p) m)) (sym gives.1.1)
     (copy_stored rec i z m mode src dst gives.0 may gives.1.0 ties)

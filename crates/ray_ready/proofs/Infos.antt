@@ -23,17 +23,18 @@ use Rattle.ray_rules.specs.Status.{Status, after_infos, built_by, fill_in, struc
 use Rattle.ray_action.specs.Areas.{has}
 use Rattle.ray_action.specs.Memory.{Memory}
 use Rattle.ray_action.specs.Action.{Action, Building}
-use Rattle.ray_action.specs.Outcomes.{Output, Gives, outcome_of}
+use Rattle.ray_action.specs.Outcomes.{Output, Gives}
 use Rattle.ray_action.specs.Pieces.{bottom_action, building, info_action, info_action_by, info_action_on, info_actions, top_action, top_action_of}
-use Rattle.ray_action.specs.Storing.{after, put}
+use Rattle.ray_action.specs.Storing.{put}
 use Rattle.ray_ready.proofs.Maps.{look_with, there}
 use Rattle.ray_ready.proofs.Ties.{IsBuilt, Ties}
 use Rattle.ray_ready.proofs.Filling.{IsFree}
 use Rattle.ray_ready.proofs.Storing.{ties_later}
 use Rattle.ray_ready.proofs.Allowed.{IsAllowed, IsBuiltOf, IsLiveOf, IsSource, MayBuildBottom, MayBuildTop}
 use Rattle.ray_ready.proofs.Ready.{allowed_ready}
+use Rattle.ray_ready.proofs.Giving.{MayGive}
 use Rattle.ray_ready.proofs.Building.{bottom_built, bottom_updated, top_built, top_updated}
-use Rattle.ray_ready.proofs.Leading.{Leads, put_same}
+use Rattle.ray_ready.proofs.Leading.{Leads}
 
 -- ---- apart
 
@@ -196,7 +197,7 @@ action_still rec d z w build info (Some s) same differs none uses may = kind_sti
 -- ---- one info
 
 bottom_action_stored : (rec : List Command) (i k : ℕ) (z : Status) (m : Memory) (build : Building) (info : Info) (mode : BuildMode) (src : Option ℕ) (o : Output)
-    → IsAllowed rec z (bottom_action build info mode src) → IsFree rec i z.structures build.dst → outcome_of (bottom_action build info mode src) m ≡ Gives o → Ties rec i k z m
+    → IsAllowed rec z (bottom_action build info mode src) → IsFree rec i z.structures build.dst → MayGive (bottom_action build info mode src) m o → Ties rec i k z m
     → Ties rec i (k + 1) (fill_in build.dst (built_by i k) z) (put (bottom_action build info mode src) (Gives o) m)
 bottom_action_stored rec i k z m build info modes.Build src o may free e ties = bottom_built rec i k z m build info.flags info.geometries o may.0 free e ties
 bottom_action_stored rec i k z m build info modes.Update (Some src) o may free e ties = bottom_updated rec i k z m build src info.geometries o may.1 free e ties
@@ -209,7 +210,7 @@ record IsInfo (rec : List Command) (i k : ℕ) (infos : List Info) (info : Info)
 
 top_action_stored : (rec : List Command) (i k : ℕ) (z z0 : Status) (m : Memory) (infos : List Info) (info : Info) (instances : Geometry) (mode : BuildMode) (src : Option ℕ) (o : Output)
     → IsInfo rec i k infos info → info.geometries ≡ instances ∷ [] → IsAllowed rec z (top_action_of (building z0 k info) info instances mode src)
-    → IsFree rec i z.structures info.dst → outcome_of (top_action_of (building z0 k info) info instances mode src) m ≡ Gives o → Ties rec i k z m
+    → IsFree rec i z.structures info.dst → MayGive (top_action_of (building z0 k info) info instances mode src) m o → Ties rec i k z m
     → Ties rec i (k + 1) (fill_in info.dst (built_by i k) z) (put (top_action_of (building z0 k info) info instances mode src) (Gives o) m)
 top_action_stored rec i k z z0 m infos info instances modes.Build src o is gs may free e ties =
     top_built rec i k z m infos info (building z0 k info) info.flags instances o is.command is.is_it gs refl may.0 free e ties
@@ -219,7 +220,7 @@ top_action_stored rec i k z z0 m infos info instances modes.Update None o is gs 
 
 tops_stored : (rec : List Command) (i k : ℕ) (z z0 : Status) (m : Memory) (infos : List Info) (info : Info) (gs : List Geometry) (o : Output)
     → IsInfo rec i k infos info → info.geometries ≡ gs → IsAllowed rec z (top_action (building z0 k info) info gs)
-    → IsFree rec i z.structures info.dst → outcome_of (top_action (building z0 k info) info gs) m ≡ Gives o → Ties rec i k z m
+    → IsFree rec i z.structures info.dst → MayGive (top_action (building z0 k info) info gs) m o → Ties rec i k z m
     → Ties rec i (k + 1) (fill_in info.dst (built_by i k) z) (put (top_action (building z0 k info) info gs) (Gives o) m)
 tops_stored rec i k z z0 m infos info [] o is same may free e ties = absurd may
 tops_stored rec i k z z0 m infos info (g ∷ []) o is same may free e ties =
@@ -228,7 +229,7 @@ tops_stored rec i k z z0 m infos info (g ∷ (h ∷ gs)) o is same may free e ti
 
 kind_stored : (rec : List Command) (i k : ℕ) (z z0 : Status) (m : Memory) (infos : List Info) (info : Info) (kind : StructureKind) (o : Output)
     → IsInfo rec i k infos info → IsAllowed rec z (info_action_by (building z0 k info) info kind)
-    → IsFree rec i z.structures info.dst → outcome_of (info_action_by (building z0 k info) info kind) m ≡ Gives o → Ties rec i k z m
+    → IsFree rec i z.structures info.dst → MayGive (info_action_by (building z0 k info) info kind) m o → Ties rec i k z m
     → Ties rec i (k + 1) (fill_in info.dst (built_by i k) z) (put (info_action_by (building z0 k info) info kind) (Gives o) m)
 kind_stored rec i k z z0 m infos info kinds.Bottom o is may free e ties =
     bottom_action_stored rec i k z m (building z0 k info) info info.mode info.src o may free e ties
@@ -237,7 +238,7 @@ kind_stored rec i k z z0 m infos info kinds.Top o is may free e ties =
 
 info_stored : (rec : List Command) (i k : ℕ) (z z0 : Status) (m : Memory) (infos : List Info) (info : Info) (found : Option LiveStructure) (o : Output)
     → IsInfo rec i k infos info → IsAllowed rec z (info_action_on (building z0 k info) info found)
-    → IsFree rec i z.structures info.dst → outcome_of (info_action_on (building z0 k info) info found) m ≡ Gives o → Ties rec i k z m
+    → IsFree rec i z.structures info.dst → MayGive (info_action_on (building z0 k info) info found) m o → Ties rec i k z m
     → Ties rec i (k + 1) (fill_in info.dst (built_by i k) z) (put (info_action_on (building z0 k info) info found) (Gives o) m)
 info_stored rec i k z z0 m infos info None o is may free e ties = absurd may
 info_stored rec i k z z0 m infos info (Some s) o is may free e ties = kind_stored rec i k z z0 m infos info s.kind o is may free e ties
@@ -293,7 +294,7 @@ infos_lead rec i k z z0 m all (info ∷ infos) command at are apart none ties =
     let w : Status = fill_in info.dst (built_by i k) z in (
       allowed_ready rec i k z m a ties are.0,
       λ o e.
-          infos_lead rec i (k + 1) w z0 (after a m) all infos command
+          infos_lead rec i (k + 1) w z0 (put a (Gives o) m) all infos command
           (λ n j x same is. at n (suc j) x (omega (arith, same)) is)
           (all_still rec z w z0 (k + 1) info infos (same_but info.dst (built_by i k) z (look z.structures info.dst)) apart.0 are.1) apart.1
           (λ j x less there. elim (cases_eq j k) [
@@ -302,8 +303,7 @@ infos_lead rec i k z z0 m all (info ∷ infos) command at are apart none ties =
                 subst (λ y. RefersToNone y infos) equal (backwards info infos apart.0)
             | inr differs ↦ (none j x (below_next j k less differs) there).1
           ])
-          (put_same a m o (Ties rec i (k + 1) w) e
-          (info_stored rec i k z z0 m all info (look z0.structures info.dst) o (record { command = command; is_it = is }) are.0 free e ties)),
+          (info_stored rec i k z z0 m all info (look z0.structures info.dst) o (record { command = command; is_it = is }) are.0 free e ties),
     )
   where
     some_same : (x y : Info) → Some x ≡ Some y → x ≡ y

@@ -7,6 +7,7 @@ pub mod Filling
 pub mod Allowed
 pub mod Ready
 pub mod Storing
+pub mod Giving
 pub mod Building
 pub mod Leading
 pub mod Infos

@@ -14,11 +14,12 @@ use Rattle.ray_action.specs.Outcomes.{Output, Outcome, Gives, Breaks, Undefined,
 use Rattle.ray_action.specs.Pieces.{Numbered, actions, actions_from, actions_of, numbered}
 use Rattle.ray_action.specs.Readiness.{IsReady}
 use Rattle.ray_action.specs.Running.{Run, Text, Refused, Unknown, action_at, memory_before, run_from, then_run, with_text}
-use Rattle.ray_action.specs.Storing.{after}
+use Rattle.ray_action.specs.Storing.{after, put}
 use Rattle.ray_action.specs.Text.{text_of}
 use Rattle.ray_ready.specs.Accepted.{IsAccepted, MayRun}
 use Rattle.ray_ready.specs.Laws.{ActionsAreReady, GaveBefore, IsDefined, IsGiven, RunsAreKnown, first_actions}
 use Rattle.ray_ready.proofs.Ties.{IsBuilt, Ties}
+use Rattle.ray_ready.proofs.Giving.{gives_may}
 use Rattle.ray_ready.proofs.Leading.{AreReadyBelow, ready_through}
 use Rattle.ray_ready.proofs.Commands.{command_leads}
 use Rattle.ray_ready.proofs.Defined.{defined}
@@ -51,7 +52,7 @@ actions_late rec n i z (c ∷ cs) late =
 late_ready : (n : ℕ) (us : List Numbered) (m : Memory) → AreFrom n us → AreReadyBelow n us m
 late_ready n [] m late = tt
 late_ready n (u ∷ us) m late =
-    (λ less. let more : n ≤ u.command = late.0 in absurd (omega (arith, less, more)), λ o e. late_ready n us (after u.action m) late.1)
+    (λ less. let more : n ≤ u.command = late.0 in absurd (omega (arith, less, more)), λ o may. late_ready n us (put u.action (Gives o) m) late.1)
 
 numbered_below : (n i : ℕ) (acts : List Action) (us : List Numbered) → i < n → AreBelow n us → AreBelow n (map (numbered i) acts ++ us)
 numbered_below n i [] us less rest = rest
@@ -89,7 +90,7 @@ all_ready rec n i z (c ∷ cs) m accepted follow same ties =
       | inl less ↦
           let is : slice_get rec i ≡ Some c = follow i 0 c (omega arith) refl in
           let may : MayRun rec z c = subst (λ s. MayRun rec s c) (sym same) (accepted.each i c less is) in
-          ready_through n i (actions_of rec z c) rest m (Ties rec (i + 1) 0 w) (command_leads rec i z c m is may ties)
+          ready_through n i (actions_of rec z c) rest m (Ties rec (i + 1) 0 w) less (command_leads rec i z c m is may ties)
           (λ x t.
           all_ready rec n (i + 1) w cs x accepted (λ q k d at there. follow q (suc k) d (omega (arith, at)) there)
           (next_status rec i z c is same) t)
@@ -145,12 +146,16 @@ given_is (Gives o) is = (o, refl)
 given_is (Breaks fault) is = absurd is
 given_is Undefined is = absurd is
 
+stored_next : (n : ℕ) (us : List Numbered) (a : Action) (m : Memory) (o : Output) → outcome_of a m ≡ Gives o → AreReadyBelow n us (put a (Gives o) m)
+    → AreReadyBelow n us (after a m)
+stored_next n us a m o e is = subst (AreReadyBelow n us) (sym (ap (λ x. put a x m) e)) is
+
 ready_next : (n : ℕ) (left : List Numbered) (m : Memory) (a : Action) → option_map_or (λ (u : Numbered). u.action) (head_of left) Rest ≡ a → IsGiven (outcome_of a m)
     → AreReadyBelow n left m → AreReadyBelow n (tail_of left) (after a m)
 ready_next n [] m a same given ready = tt
 ready_next n (u ∷ us) m a same given ready =
     let is = given_is (outcome_of u.action m) (subst (λ b. IsGiven (outcome_of b m)) (sym same) given) in
-    subst (λ b. AreReadyBelow n us (after b m)) same (ready.1 is.0 is.1)
+    subst (λ b. AreReadyBelow n us (after b m)) same (stored_next n us u.action m is.0 is.1 (ready.1 is.0 (λ less. gives_may u.action m is.0 is.1)))
 
 ready_from : (n : ℕ) (us : List Numbered) (p : ℕ) → AreReadyBelow n us nothing_live → GaveBefore us p → AreReadyBelow n (left_at us p) (memory_before us p)
 ready_from n us zero ready gave = ready
@@ -190,7 +195,7 @@ run_known : (n : ℕ) (us : List Numbered) (m : Memory) → AreReadyBelow n us m
 run_known n [] m ready below e = absurd cc
 run_known n (u ∷ us) m ready below e =
     then_known u (outcome_of u.action m) (run_from (after u.action m) us) (defined u.action m (ready.0 below.0))
-    (λ o is. run_known n us (after u.action m) (ready.1 o is) below.1) e
+    (λ o is. run_known n us (after u.action m) (stored_next n us u.action m o is (ready.1 o (λ less. gives_may u.action m o is))) below.1) e
 
 taken : (n : ℕ) (rec : List Command) (k : ℕ) (c : Command) → slice_get (take n rec) k ≡ Some c → slice_get rec k ≡ Some c
 taken zero rec k c is = absurd cc
