@@ -15,3 +15,4 @@ pub mod Kept
 pub mod InfoRules
 pub mod Commands
 pub mod Recording
+pub mod Sources

@@ -27,7 +27,7 @@ use Rattle.ray_ready.proofs.Defined.{defined}
 -- ---- commands that are left
 
 -- these are the commands of a recording from number i on
-abbrev Follow : List Command → ℕ → List Command → Type 0
+abbrev pub Follow : List Command → ℕ → List Command → Type 0
 Follow rec i cs = (n k : ℕ) (c : Command) → n ≡ i + k → slice_get cs k ≡ Some c → slice_get rec n ≡ Some c
 
 abbrev AreFrom : ℕ → List Numbered → Type 0
@@ -79,7 +79,7 @@ before_or_not i n = decide_lt i n
     decide_lt zero (suc n) = inl (omega arith)
     decide_lt (suc i) (suc n) = elim (decide_lt i n) [ inl less ↦ inl (omega (arith, less)) | inr more ↦ inr (omega (arith, more)) ]
 
-all_ready : (rec : List Command) (n i : ℕ) (z : Status) (cs : List Command) (m : Memory) → IsAccepted rec n → Follow rec i cs → z ≡ status_at rec i → Ties rec i 0 z m
+pub all_ready : (rec : List Command) (n i : ℕ) (z : Status) (cs : List Command) (m : Memory) → IsAccepted rec n → Follow rec i cs → z ≡ status_at rec i → Ties rec i 0 z m
     → AreReadyBelow n (actions_from rec i z cs) m
 unfolding actions_from
 all_ready rec n i z [] m accepted follow same ties = tt
@@ -102,7 +102,7 @@ all_ready rec n i z (c ∷ cs) m accepted follow same ties =
 none_built : (kind : StructureKind) (b : Built) → IsBuilt None kind b → ⊥
 none_built kind b built = let none : None ≡ Some built.structure = built.is_it in absurd cc
 
-at_beginning : (rec : List Command) → Ties rec 0 0 at_first nothing_live
+pub at_beginning : (rec : List Command) → Ties rec 0 0 at_first nothing_live
 at_beginning rec = record {
   buffers = record { rise = tt; size = λ id. refl; there = λ id at below. absurd (omega (arith, below)) };
   forms = record { rise = tt; form = λ id. refl };
@@ -115,16 +115,16 @@ at_beginning rec = record {
 
 -- ---- by number
 
-abbrev head_of : List Numbered → Option Numbered
+abbrev pub head_of : List Numbered → Option Numbered
 head_of [] = None
 head_of (u ∷ us) = Some u
 
-abbrev tail_of : List Numbered → List Numbered
+abbrev pub tail_of : List Numbered → List Numbered
 tail_of [] = []
 tail_of (u ∷ us) = us
 
 -- the actions from number p on
-abbrev left_at : List Numbered → ℕ → List Numbered
+abbrev pub left_at : List Numbered → ℕ → List Numbered
 left_at us zero = us
 left_at us (suc p) = tail_of (left_at us p)
 
@@ -136,7 +136,7 @@ left_none : (p : ℕ) → left_at [] p ≡ []
 left_none zero = refl
 left_none (suc p) = ap tail_of (left_none p)
 
-head_is : (us : List Numbered) (p : ℕ) → slice_get us p ≡ head_of (left_at us p)
+pub head_is : (us : List Numbered) (p : ℕ) → slice_get us p ≡ head_of (left_at us p)
 head_is [] p = sym (ap head_of (left_none p))
 head_is (u ∷ us) zero = refl
 head_is (u ∷ us) (suc p) = head_is us p ∙ sym (ap head_of (left_later u us p))
@@ -164,13 +164,13 @@ ready_from n us (suc p) ready gave =
     (sym (ap (λ found. option_map_or (λ (u : Numbered). u.action) found Rest) (head_is us p))) (gave p (omega arith))
     (ready_from n us p ready (λ q less. gave q (omega (arith, less))))
 
-the_first : (n : ℕ) (left : List Numbered) (m : Memory) (unit : Numbered) → head_of left ≡ Some unit → unit.command < n → AreReadyBelow n left m → IsReady unit.action m
+pub the_first : (n : ℕ) (left : List Numbered) (m : Memory) (unit : Numbered) → head_of left ≡ Some unit → unit.command < n → AreReadyBelow n left m → IsReady unit.action m
 the_first n [] m unit is less ready = absurd cc
 the_first n (u ∷ us) m unit is less ready =
     let same : u ≡ unit = cc in
     subst (λ (v : Numbered). IsReady v.action m) same (ready.0 (subst (λ (v : Numbered). v.command < n) (sym same) less))
 
-itself : (rec : List Command) → Follow rec 0 rec
+pub itself : (rec : List Command) → Follow rec 0 rec
 itself rec n k c same is = subst (λ q. slice_get rec q ≡ Some c) (sym (same ∙ omega arith)) is
 
 pub are_ready : ActionsAreReady

@@ -1,14 +1,15 @@
 -- What holds of the readiness of actions. (Own.)
-use Rattle.std.specs.Prelude.{ℕ, ◌≡◌, ◌<◌, List, Some, slice_get, take}
+use Rattle.std.specs.Prelude.{ℕ, ◌≡◌, ◌<◌, ◌≤◌, List, Some, Bool, true, slice_get, take}
 use Rattle.ray_cmd.specs.declared.command.Command.{Command}
 use Rattle.ray_rules.specs.Status.{at_first}
-use Rattle.ray_action.specs.Memory.{Memory, nothing_live}
-use Rattle.ray_action.specs.Areas.{AgreeOn}
+use Rattle.ray_action.specs.Memory.{Location, Memory, nothing_live}
+use Rattle.ray_action.specs.Areas.{AgreeOn, cover}
 use Rattle.ray_action.specs.Action.{Action, areas_read}
 use Rattle.ray_action.specs.Outcomes.{Outcome, Gives, Breaks, Undefined, outcome_of}
 use Rattle.ray_action.specs.Pieces.{Numbered, actions, actions_from}
 use Rattle.ray_action.specs.Readiness.{IsReady}
 use Rattle.ray_action.specs.Running.{Unknown, run_from, action_at, memory_before}
+use Rattle.ray_action.specs.Storing.{writes}
 use Rattle.ray_ready.specs.Accepted.{IsAccepted}
 
 -- ---- what has a meaning
@@ -46,6 +47,23 @@ abbrev pub ActionsAreReady : Type 0
 ActionsAreReady =
     (rec : List Command) (n p : ℕ) (unit : Numbered)
     → IsAccepted rec n → slice_get (actions rec) p ≡ Some unit → unit.command < n → GaveBefore (actions rec) p
+    → IsReady unit.action (memory_before (actions rec) p)
+
+-- some actions up to number p: with each of them those before it that write what it reads are among them,
+-- and each of them before p gave an output
+pub record AreSources (units : List Numbered) (among : ℕ → Bool) (p : ℕ) : Type 0 where
+  pub closed :
+      (q r : ℕ) (l : Location) → q < r → r ≤ p → among r ≡ true
+      → writes (action_at units q) l ≡ true → cover (areas_read (action_at units r)) l ≡ true → among q ≡ true
+  pub gave : (q : ℕ) → q < p → among q ≡ true → IsGiven (outcome_of (action_at units q) (memory_before units q))
+
+-- for an action to be ready in its turn it is enough that those gave an output of which it reads, and those
+-- of which these read, and so on: any other may break a data rule
+abbrev pub SourcesAreEnough : Type 0
+SourcesAreEnough =
+    (rec : List Command) (n p : ℕ) (unit : Numbered) (among : ℕ → Bool)
+    → IsAccepted rec n → slice_get (actions rec) p ≡ Some unit → unit.command < n
+    → among p ≡ true → AreSources (actions rec) among p
     → IsReady unit.action (memory_before (actions rec) p)
 
 -- the actions of the first n commands of a recording, in recording order

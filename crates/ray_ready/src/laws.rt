@@ -1,9 +1,15 @@
-ghost use Rattle.ray_ready.specs.Laws.{ActionsAreReady, ReadinessIsLocal, ReadyIsDefined, RunsAreKnown};
+ghost use Rattle.ray_ready.specs.Laws.{ActionsAreReady, ReadinessIsLocal, ReadyIsDefined, RunsAreKnown, SourcesAreEnough};
 
 /// A law: each action of a command that may be run is ready in its turn, as long as every action
 /// before it gave an output. It does nothing. Own.
 pub fn actions_are_ready()
     ensures { ActionsAreReady }
+{}
+
+/// A law: the same where only those actions gave an output whose writes it reads, and those whose
+/// writes these read, and so on, while others may have broken a data rule. It does nothing. Own.
+pub fn sources_are_enough()
+    ensures { SourcesAreEnough }
 {}
 
 /// A law: an action that is ready in a memory gives an output there, or breaks a data rule. It does

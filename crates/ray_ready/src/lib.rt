@@ -8,4 +8,6 @@
 
 mod laws;
 
-pub use crate::laws::{actions_are_ready, readiness_is_local, ready_is_defined, runs_are_known};
+pub use crate::laws::{
+    actions_are_ready, readiness_is_local, ready_is_defined, runs_are_known, sources_are_enough,
+};
