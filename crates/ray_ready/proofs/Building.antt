@@ -1,25 +1,20 @@
 -- The stores of builds and copies of structures keep the invariant.
-use Rattle.std.proofs.Common.{◌≡◌, ◌≤◌, ◌+◌, ℕ, Bool, true, false, List, [], ◌∷◌, Option, Some, None, Result, Ok, Err, IsSome, IfSome, IsSomeAnd, refl, sym, ◌∙◌, ap, subst, inl, inr, arith, fold}
-use Rattle.std.specs.Prelude.{if◌then◌else◌, slice_get, ◌==◌, ◌||◌, nat_lt}
+use Rattle.std.proofs.Common.{◌≡◌, ◌≤◌, ◌+◌, ℕ, Bool, true, false, List, [], ◌∷◌, Option, Some, None, IsSome, IfSome, IsSomeAnd, refl, sym, ◌∙◌, ap, subst, inl, inr, arith, fold}
+use Rattle.std.specs.Prelude.{if◌then◌else◌, slice_get, ◌==◌, ◌||◌}
 use Rattle.std.proofs.lemmas.Bool.{cases_eq, ne_eqb}
 use Rattle.std.specs.Option.{option_map_or, option_and_then}
 use Rattle.ray_geom.specs.Boxes.{BoxValue}
-use Rattle.ray_bytes.specs.Views.{Row}
-use Rattle.ray_bytes.specs.declared.data_fault.DataFault.{DataFault}
 use Rattle.ray_contents.specs.Bounds.{KeepsBounds}
 use Rattle.ray_flags.specs.declared.build_flags.BuildFlags.{BuildFlags}
-use Rattle.ray_bottom.specs.Builders.{BuilderValue}
 use Rattle.ray_bottom.specs.Contents as bottoms
 use Rattle.ray_top.specs.Contents as tops
 use Rattle.ray_top.specs.Contents.{IsActive, IsInstance}
 use Rattle.ray_top.specs.Instances.{InstanceValue}
-use Rattle.ray_top.specs.InstanceReading.{bounds_in, instances_read, noted}
+use Rattle.ray_top.specs.InstanceReading.{bounds_in, noted}
 use Rattle.ray_top.specs.declared.used.Used.{Used}
-use Rattle.ray_top.proofs.Limits.{AreRead, AreRead-instances_read}
 use Rattle.ray_cmd.specs.declared.command.Command.{Command}
 use Rattle.ray_cmd.specs.declared.command.Command.TheVariants as commands
 use Rattle.ray_cmd.specs.declared.copy_mode.CopyMode.{CopyMode}
-use Rattle.ray_cmd.specs.declared.copy_mode.CopyMode.TheVariants as copies
 use Rattle.ray_cmd.specs.declared.geometry.Geometry.{Geometry}
 use Rattle.ray_cmd.specs.declared.info.Info.{Info}
 use Rattle.ray_cmd.specs.declared.structure_kind.StructureKind.{StructureKind}
@@ -30,13 +25,12 @@ use Rattle.ray_rules.specs.Ids.{look}
 use Rattle.ray_rules.specs.Origins.{info_in, info_of, uses_in, uses_of}
 use Rattle.ray_rules.specs.Ranges.{count_of, primitives}
 use Rattle.ray_rules.specs.Status.{Status, built_at, built_by, copied_by, fill_in}
-use Rattle.ray_action.specs.declared.form.Form.{Form}
 use Rattle.ray_action.specs.Areas.{has}
-use Rattle.ray_action.specs.Memory.{Contents, Memory, Bottom, Top, ContentsAt, StructureAt, as_bottom, bounds_of}
+use Rattle.ray_action.specs.Memory.{Contents, Memory, Bottom, Top, ContentsAt, as_bottom, bounds_of}
 use Rattle.ray_action.specs.Action.{Building, BuildBottom, UpdateBottom, BuildTop, UpdateTop, CopyStructure}
 use Rattle.ray_action.specs.Seeing.{SeenStructures, see_structures}
 use Rattle.ray_action.specs.Building.{all_used, used_of}
-use Rattle.ray_action.specs.Outcomes.{Output, Outcome, Holds, Gives, bottom_outcome, compact_copy, compacted_of, copy_outcome, of_bottom, of_top, outcome_of, top_outcome}
+use Rattle.ray_action.specs.Outcomes.{Output, Gives}
 use Rattle.ray_action.specs.Storing.{put}
 use Rattle.ray_ready.proofs.Ties.{Fills, IsBounded, IsBuilt, IsEarlier, IsTopBy, Ties}
 use Rattle.ray_ready.proofs.Filling.{IsFree, none_yet}

@@ -1,5 +1,5 @@
 -- Actions one after the other: each is ready, and what comes after all of them.
-use Rattle.std.proofs.Common.{◌≡◌, ◌<◌, ◌++◌, ℕ, List, [], ◌∷◌, sym, ap, subst, map}
+use Rattle.std.proofs.Common.{◌<◌, ◌++◌, ℕ, List, [], ◌∷◌, map}
 use Rattle.ray_cmd.specs.declared.command.Command.{Command}
 use Rattle.ray_rules.specs.Status.{Status}
 use Rattle.ray_action.specs.Memory.{Memory}

@@ -1,12 +1,11 @@
 -- For an action to be ready it is enough that those gave an output of which it reads. Beside the run in which
 -- what breaks a data rule stores nothing there is one in which it stores what it might have given: there each
 -- action is ready, and the two hold the same wherever such an action reads.
-use Rattle.std.proofs.Common.{◌≡◌, ◌<◌, ◌≤◌, ℕ, zero, suc, Bool, true, false, List, [], ◌∷◌, Option, Some, None, refl, sym, ◌∙◌, ap, subst, arith}
+use Rattle.std.proofs.Common.{◌≡◌, ◌<◌, ◌≤◌, ℕ, zero, suc, Bool, true, false, List, [], ◌∷◌, Some, refl, sym, ◌∙◌, ap, subst, arith}
 use Rattle.std.specs.Prelude.{if◌then◌else◌, slice_get}
 use Rattle.std.specs.Option.{option_map_or}
-use Rattle.ray_cmd.specs.declared.command.Command.{Command}
 use Rattle.ray_rules.specs.Status.{at_first}
-use Rattle.ray_action.specs.Memory.{Location, Held, Memory, nothing_live}
+use Rattle.ray_action.specs.Memory.{Location, Memory, nothing_live}
 use Rattle.ray_action.specs.Areas.{AgreeOn, cover}
 use Rattle.ray_action.specs.Action.{Action, Rest, areas_read}
 use Rattle.ray_action.specs.Outcomes.{Output, Outcome, Gives, Breaks, Undefined, outcome_of}
@@ -61,9 +60,9 @@ same_after : (a : Action) (w m : Memory) (l : Location) → w l ≡ m l → (wri
 same_after a w m l same sees =
     same_if (writes a l) (left a (Gives (whole_output a w)) l (w l)) (left a (outcome_of a m) l (m l)) (w l) (m l)
     (λ there.
-        let s = sees there in
-        let whole : Gives (whole_output a w) ≡ outcome_of a w = given_same (outcome_of a w) (stand_in a w) (subst IsGiven (sym s.0) s.1) in
-        λ i. left a ((whole ∙ s.0) i) l (same i))
+    let s = sees there in
+    let whole : Gives (whole_output a w) ≡ outcome_of a w = given_same (outcome_of a w) (stand_in a w) (subst IsGiven (sym s.0) s.1) in
+    λ i. left a ((whole ∙ s.0) i) l (same i))
     same
 
 -- what action r reads, before each action up to it, where this is so of those among the sources before it
@@ -76,10 +75,10 @@ same_to units among p r l sources within is reads agree (suc k) below =
     same_after (action_at units k) (whole_before units k) (memory_before units k) l
     (same_to units among p r l sources within is reads agree k (omega (arith, below)))
     (λ there.
-        let member : among k ≡ true = sources.closed k r l (omega (arith, below)) within is there reads in (
-          outcomes_local (action_at units k) (whole_before units k) (memory_before units k) (agree k (omega (arith, below)) member),
-          sources.gave k (omega (arith, below, within)) member,
-        ))
+    let member : among k ≡ true = sources.closed k r l (omega (arith, below)) within is there reads in (
+      outcomes_local (action_at units k) (whole_before units k) (memory_before units k) (agree k (omega (arith, below)) member),
+      sources.gave k (omega (arith, below, within)) member,
+    ))
 
 -- so it is of all those below a number
 same_below : (units : List Numbered) (among : ℕ → Bool) (p : ℕ) → AreSources units among p → (n r : ℕ) → r < n → r ≤ p → among r ≡ true
