@@ -16,3 +16,4 @@ pub mod InfoRules
 pub mod Commands
 pub mod Recording
 pub mod Sources
+pub mod Sample
