@@ -1,5 +1,6 @@
 -- What the rules say of an action, in relational words over the status: no other consequence of them is used.
 use Rattle.std.proofs.Common.{◌≡◌, ◌<◌, ◌≤◌, ◌+◌, ℕ, true, false, List, [], ◌∷◌, Option, Some, None, IsSome}
+use Rattle.ray_flags.specs.Admission.{AsksBoth}
 use Rattle.ray_script.specs.Scripts.{refused_at}
 use Rattle.ray_bottom.specs.Contents as bottoms
 use Rattle.ray_top.specs.Contents as tops
@@ -22,7 +23,7 @@ use Rattle.ray_rules.specs.Ranges.{count_of, inputs_read, primitives, size_at}
 use Rattle.ray_rules.specs.Status.{Status}
 use Rattle.ray_action.specs.Areas.{has}
 use Rattle.ray_action.specs.Action.{Action, Building, Tracing, MakeBuffer, MakeStructure, DestroyBuffer, DestroyStructure, ShowSizes, ShowBytes, UpdateBytes, FillBytes, CopyBytes, BuildBottom, UpdateBottom, BuildTop, UpdateTop, CopyStructure, TellProperty, TraceRays, Rest, Unbuilt, content_buffer}
-use Rattle.ray_action.specs.Readiness.{AreOfBottom, IsOfTop}
+use Rattle.ray_action.specs.Readiness.{AreCounts, AreOfBottom, IsOfTop}
 use Rattle.ray_ready.proofs.Ties.{IsBuilt, IsFresh}
 
 -- a structure is live, and of a kind
@@ -107,6 +108,7 @@ pub record MayTrace (rec : List Command) (z : Status) (trace : Tracing) : Type 0
   pub uses : trace.uses ≡ uses_of rec by
   pub fresh : (u : ℕ) → has (uses_of rec by) u ≡ true → IsFresh by.stamp (look z.structures u)
   pub script : refused_at trace.script ≡ None
+  pub flags : AsksBoth trace.flags → ⊥
 
 -- ---- every action
 
@@ -115,7 +117,7 @@ IsAllowed rec z (MakeBuffer id size content) = look z.buffers id ≡ None
 IsAllowed rec z (MakeStructure id form) = look z.structures id ≡ None
 IsAllowed rec z (DestroyBuffer id) = Unit {0}
 IsAllowed rec z (DestroyStructure id) = Unit {0}
-IsAllowed rec z (ShowSizes kind counts) = Unit {0}
+IsAllowed rec z (ShowSizes kind counts) = AreCounts counts
 IsAllowed rec z (ShowBytes from form) = IsWithin z.buffers from
 IsAllowed rec z (UpdateBytes to content) = Unit {0}
 IsAllowed rec z (FillBytes to value) = Unit {0}

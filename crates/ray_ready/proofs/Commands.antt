@@ -1,9 +1,11 @@
 -- The actions of each command that may be run are ready in their turn, and keep the invariant.
-use Rattle.std.proofs.Common.{◌≡◌, ◌+◌, ◌*◌, ◌-◌, ◌<◌, ◌≤◌, ℕ, Bool, true, false, List, [], ◌∷◌, Option, Some, None, IsSome, refl, sym, ◌∙◌, ap, subst, arith, length, map, min}
+use Rattle.std.proofs.Common.{◌≡◌, ◌+◌, ◌*◌, ◌^◌, ◌-◌, ◌<◌, ◌≤◌, ℕ, Bool, true, false, List, [], ◌∷◌, Option, Some, None, IsSome, refl, sym, ◌∙◌, ap, subst, arith, length, map, min}
 use Rattle.std.proofs.lemmas.Bool.Decides.{nat_tests}
-use Rattle.std.specs.Prelude.{◌||◌, ◌&&◌, ◌==◌, nat_lt, slice_get, unwrap_or}
+use Rattle.std.specs.Prelude.{◌||◌, ◌&&◌, ◌==◌, nat_lt, slice_get, sum, unwrap_or}
 use Rattle.std.specs.List.{list_any, range_with_len}
 use Rattle.std.specs.Option.{option_map, option_map_or, option_and_then}
+use Rattle.ray_flags.specs.Admission.{AsksBoth}
+use Rattle.ray_flags.specs.Flags.{ray_has, CullBackFacing, CullFrontFacing, CullNoOpaque, CullOpaque, NoOpaque, Opaque, SkipAabbs, SkipTriangles}
 use Rattle.ray_flags.specs.declared.ray_flags.RayFlags.{RayFlags}
 use Rattle.ray_flags.specs.declared.usage.Usage.{Usage}
 use Rattle.ray_script.specs.Scripts.{refused_at}
@@ -26,13 +28,13 @@ use Rattle.ray_rules.specs.declared.phase.Phase.{Phase}
 use Rattle.ray_rules.specs.declared.phase.Phase.TheVariants.{Idle, Recording, Ended}
 use Rattle.ray_rules.specs.Access.{rays_of_piece, uses_at}
 use Rattle.ray_rules.specs.Conflicts.{v16}
-use Rattle.ray_rules.specs.FlagRules.{v23}
+use Rattle.ray_rules.specs.FlagRules.{are_several, is_contradiction, v22, v23}
 use Rattle.ray_rules.specs.Ids.{is_live, look}
 use Rattle.ray_rules.specs.Names.{lacks_buffer, lacks_structure, v1}
 use Rattle.ray_rules.specs.Origins.{uses_of}
 use Rattle.ray_rules.specs.Places.{first_part}
 use Rattle.ray_rules.specs.Ranges.{range, size_at}
-use Rattle.ray_rules.specs.Shapes.{asks_wrongly, compacts_wrongly, v7}
+use Rattle.ray_rules.specs.Shapes.{are_too_many, asks_wrongly, compacts_wrongly, most_primitives, v7, v10}
 use Rattle.ray_rules.specs.Sources.{first_stale, is_stale, is_unbuilt, v17, v20, v21}
 use Rattle.ray_rules.specs.Spans.{reaches_out, region_reaches_out, v4}
 use Rattle.ray_rules.specs.Status.{Status, after_infos, built_at, copied_by, fill_in}
@@ -40,7 +42,8 @@ use Rattle.ray_rules.specs.Status as status
 use Rattle.ray_rules.specs.Structures.{differ_in_kind, is_bottom, is_bottom_at, is_top, is_top_at, v19}
 use Rattle.ray_action.specs.Memory.{Memory}
 use Rattle.ray_action.specs.Action.{Action, MakeBuffer, MakeStructure, DestroyBuffer, DestroyStructure, ShowSizes, ShowBytes, UpdateBytes, FillBytes, CopyStructure, Rest}
-use Rattle.ray_action.specs.Pieces.{actions_of, can_tell, host_action, is_built_form, property_action, rays_action, region_action, trace_pieces}
+use Rattle.ray_action.specs.Pieces.{actions_of, can_tell, cull_mask, host_action, is_built_form, property_action, rays_action, region_action, trace_pieces}
+use Rattle.ray_action.specs.Readiness.{AreCounts}
 use Rattle.ray_ready.specs.Accepted.{MayRun}
 use Rattle.ray_ready.proofs.Ties.{Ties, form_of}
 use Rattle.ray_ready.proofs.Storing.{ties_created, ties_destroyed, ties_gone, ties_later, ties_made}
@@ -178,6 +181,37 @@ unmapped : (found : Option ℕ) → option_map Part found ≡ None → found ≡
 unmapped None e = refl
 unmapped (Some k) e = absurd cc
 
+-- flags that contradict each other break a rule
+several : (a b c d : Bool) → a ≡ true → b ≡ true → are_several (a ∷ b ∷ c ∷ d ∷ []) ≡ true
+several true true true true e f = refl
+several true true true false e f = refl
+several true true false true e f = refl
+several true true false false e f = refl
+several false b c d e f = absurd cc
+several true false c d e f = absurd cc
+
+not_both : (flags : RayFlags) → AsksBoth flags → is_contradiction flags ≡ false → ⊥
+not_both flags both e =
+    let opaque = several (ray_has flags Opaque) (ray_has flags NoOpaque) (ray_has flags CullOpaque) (ray_has flags CullNoOpaque) both.0 both.1 in
+    let none = neither_first
+        (are_several (ray_has flags Opaque ∷ ray_has flags NoOpaque ∷ ray_has flags CullOpaque ∷ ray_has flags CullNoOpaque ∷ []))
+        (are_several (ray_has flags SkipTriangles ∷ ray_has flags CullBackFacing ∷ ray_has flags CullFrontFacing ∷ [])
+        || are_several (ray_has flags SkipTriangles ∷ ray_has flags SkipAabbs ∷ [])) e in
+    absurd cc
+
+-- the counts of `sizes` are those of a structure
+most : (top : Bool) (total : ℕ) → nat_lt (most_primitives top) total ≡ false → total ≤ 2 ^ 20
+most true total e = grind (arith, nat_tests)
+most false total e = grind (arith, nat_tests)
+
+counts_allowed : (z : Status) (kind : StructureKind) (counts : List ℕ) → v10 z (commands.Sizes kind counts) ≡ None → AreCounts counts
+unfolding v10
+counts_allowed z kind counts e =
+    let few = not_broken (are_too_many (is_top kind) (length counts) (sum counts)) e in
+    let first = neither_first (nat_lt 256 (length counts)) (nat_lt (most_primitives (is_top kind)) (sum counts)) few in
+    let second = neither_second (nat_lt 256 (length counts)) (nat_lt (most_primitives (is_top kind)) (sum counts)) few in
+    record { few = grind (arith, nat_tests); few_primitives = most (is_top kind) (sum counts) second }
+
 trace_allowed : (rec : List Command) (z : Status) (top : ℕ) (rays : Spot) (count : ℕ) (hits : Spot) (flags : RayFlags) (mask : ℕ) (script : List RawRule)
     → Keeps rec z (commands.Trace top rays count hits flags mask script) → (n : ℕ)
     → MayTrace rec z (record {
@@ -188,10 +222,10 @@ trace_allowed : (rec : List Command) (z : Status) (top : ℕ) (rays : Spot) (cou
       first = 64 * n;
       count = rays_of_piece count n;
       flags = flags;
-      mask = mask;
+      mask = cull_mask mask;
       script = script;
     })
-unfolding v1 v4 v7 v20 v21 v23
+unfolding v1 v4 v7 v20 v21 v22 v23
 trace_allowed rec z top rays count hits flags mask script k n =
     let named = not_broken (lacks_structure z top || (lacks_buffer z rays.buffer || lacks_buffer z hits.buffer)) k.names in
     let live = is_there (look z.structures top) (neither_first (lacks_structure z top) (lacks_buffer z rays.buffer || lacks_buffer z hits.buffer) named) in
@@ -210,6 +244,7 @@ trace_allowed rec z top rays count hits flags mask script k n =
       uses = ap (λ o. option_map_or (uses_of rec) o []) built;
       fresh = λ u used. fresh_of by.stamp (look z.structures u) (fails_at (is_stale z by.stamp) (uses_of rec by) u (no_part (is_stale z by.stamp) (uses_of rec by) fresh) used);
       script = unmapped (refused_at script) k.script;
+      flags = λ both. not_both flags both (not_broken (is_contradiction flags) k.flags);
     }
 
 pieces_allowed : (rec : List Command) (z : Status) (top : ℕ) (rays : Spot) (count : ℕ) (hits : Spot) (flags : RayFlags) (mask : ℕ) (script : List RawRule)
@@ -251,7 +286,9 @@ command_leads rec i z (commands.Destroy things.Buffer id) m is may ties =
 command_leads rec i z (commands.Destroy things.Structure id) m is may ties =
     one_leads (DestroyStructure id) m (Ties rec (i + 1) 0 (status.after i (commands.Destroy things.Structure id) z)) tt
     (λ o e. ties_later rec i 0 _ _ (ties_destroyed rec i 0 z m id o ties))
-command_leads rec i z (commands.Sizes kind counts) m is may ties = bytes_on rec i z (ShowSizes kind counts ∷ []) m ((tt, tt), tt) ties
+command_leads rec i z (commands.Sizes kind counts) m is may ties =
+    let k = keeps rec z (commands.Sizes kind counts) may.rules in
+    bytes_on rec i z (ShowSizes kind counts ∷ []) m ((counts_allowed z kind counts k.counts, tt), tt) ties
 command_leads rec i z commands.Begin m is may ties = phase_on rec i z m Recording z.pending ties
 command_leads rec i z commands.End m is may ties = phase_on rec i z m Ended z.pending ties
 command_leads rec i z commands.Submit m is may ties = phase_on rec i z m Idle true ties

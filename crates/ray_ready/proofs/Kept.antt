@@ -17,7 +17,7 @@ use Rattle.ray_rules.specs.declared.byte_range.ByteRange.{ByteRange}
 use Rattle.ray_rules.specs.declared.live_buffer.LiveBuffer.{LiveBuffer}
 use Rattle.ray_rules.specs.declared.live_structure.LiveStructure.{LiveStructure}
 use Rattle.ray_rules.specs.Conflicts.{v16}
-use Rattle.ray_rules.specs.FlagRules.{v23}
+use Rattle.ray_rules.specs.FlagRules.{v22, v23}
 use Rattle.ray_rules.specs.Ids.{Ids, look}
 use Rattle.ray_rules.specs.Names.{lacks_buffer, lacks_index, lacks_input, lacks_transform, v1}
 use Rattle.ray_rules.specs.Places.{first_part, whole}
@@ -49,6 +49,7 @@ pub record Keeps (rec : List Command) (z : Status) (c : Command) : Type 0 where
   pub copies : v19 z c ≡ None
   pub top : v20 z c ≡ None
   pub fresh : v21 rec z c ≡ None
+  pub flags : v22 c ≡ None
   pub script : v23 c ≡ None
 
 pub keeps : (rec : List Command) (z : Status) (c : Command) → AreKept (static_table rec z c) → Keeps rec z c
@@ -66,6 +67,7 @@ keeps rec z c (k1, (k2, (k3, (k4, (k5, (k6, (k7, (k8, (k9, (k10, (k11, (k12, (k1
   copies = k19;
   top = k20;
   fresh = k21;
+  flags = k22;
   script = k23;
 }
 

@@ -227,6 +227,7 @@ trace_ready rec i k z m trace ties may =
             (stands rec i k z m trace ties may by.top by.is_it by.in_use) (by.active n d less);
       };
       script = may.script;
+      flags = may.flags;
     }
 
 -- ---- every action
@@ -236,7 +237,7 @@ allowed_ready rec i k z m (MakeBuffer id size content) ties may = ties.buffers.s
 allowed_ready rec i k z m (MakeStructure id form) ties may = ties.forms.form id ∙ ap (option_map form_of) may
 allowed_ready rec i k z m (DestroyBuffer id) ties may = tt
 allowed_ready rec i k z m (DestroyStructure id) ties may = tt
-allowed_ready rec i k z m (ShowSizes kind counts) ties may = tt
+allowed_ready rec i k z m (ShowSizes kind counts) ties may = may
 allowed_ready rec i k z m (ShowBytes from form) ties may = range_there z.buffers m from ties.buffers may
 allowed_ready rec i k z m (UpdateBytes to content) ties may = tt
 allowed_ready rec i k z m (FillBytes to value) ties may = tt
