@@ -177,3 +177,35 @@ fn updates_instances(rt: HostRuntime) -> Result<(), Fail> {
     assert!(rt; empty.len() == 0 && empty.active() == 0);
     Ok(())
 }
+
+// The bytes of a record again and again.
+fn repeated(alloc: Global, words: &[i32], count: u32) -> Result<Vec<u8>, AllocError> {
+    let record = bytes_of(alloc, words)?;
+    let mut bytes = Vec::new(alloc);
+    for _ in 0..count {
+        bytes.extend_from_slice(record.as_slice())?;
+    }
+    Ok(bytes)
+}
+
+// Whether a structure of as many instances of one structure has all of them, active.
+fn has_all<R: AllocGlobal + Threads + Sync>(
+    rt: &R,
+    words: &[i32],
+    count: u16,
+) -> Result<bool, BuildFault> {
+    let count = u32::from(count) + 1;
+    let bytes = repeated(rt.alloc(), words, count)?;
+    let used = used(rt.alloc())?;
+    let view = InstanceView::new(bytes.as_slice(), 0);
+    let top = Top::build(rt, rt.alloc(), BuildFlags(1), view, count, used.as_slice())?;
+    Ok(top.len() == count && top.active() == count)
+}
+
+// The most instances that a structure may have: 65,536, all of one structure.
+#[test]
+fn holds_the_most_instances(rt: HostRuntime) -> Result<(), Fail> {
+    let words = [1, 0, 0, 0, 0, 1, 0, 0, 0, 0, 1, 0, WORD, 0, 1024, 0];
+    assert!(rt; has_all(&rt, &words, u16::MAX)?);
+    Ok(())
+}
