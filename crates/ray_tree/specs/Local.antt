@@ -1,4 +1,5 @@
--- Least boxes node by node, which no clause of a public call speaks of. (Own.)
+-- Least boxes node by node, which the proofs go by, and what is known of one node: what it names is there
+-- (`IsFit`), and a number is that of a leaf (`IsLeafAt`). (Own.)
 use Rattle.std.specs.Prelude.{◌≡◌, ◌<◌, ◌≤◌, ◌+◌, ◌^◌, ℕ, Option, List, length, slice_index_or}
 use Rattle.std.specs.List.{All}
 use Rattle.ray_geom.specs.Boxes.{BoxValue}
