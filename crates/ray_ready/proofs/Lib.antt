@@ -17,3 +17,4 @@ pub mod Commands
 pub mod Recording
 pub mod Sources
 pub mod Sample
+pub mod Unrefused

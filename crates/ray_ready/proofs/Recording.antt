@@ -67,7 +67,7 @@ actions_below rec n i z (c ∷ cs) few =
 
 -- ---- the induction
 
-next_status : (rec : List Command) (i : ℕ) (z : Status) (c : Command) → slice_get rec i ≡ Some c → z ≡ status_at rec i → status.after i c z ≡ status_at rec (i + 1)
+pub next_status : (rec : List Command) (i : ℕ) (z : Status) (c : Command) → slice_get rec i ≡ Some c → z ≡ status_at rec i → status.after i c z ≡ status_at rec (i + 1)
 next_status rec i z c is same =
     ap (status.after i c) same ∙ (sym (ap (λ found. after_if i found (status_at rec i)) is) ∙ sym (ap (status_at rec) (add-one i)))
 

@@ -1,7 +1,10 @@
 -- What holds of the readiness of actions. (Own.)
-use Rattle.std.specs.Prelude.{ℕ, ◌≡◌, ◌<◌, ◌≤◌, List, Some, Bool, true, slice_get, take}
+use Rattle.std.specs.Prelude.{ℕ, ◌≡◌, ◌<◌, ◌≤◌, List, Some, Bool, true, slice_get, take, length}
 use Rattle.ray_cmd.specs.declared.command.Command.{Command}
+use Rattle.ray_rules.specs.Hazards.{status_at}
+use Rattle.ray_rules.specs.Refusals.{AreKept, static_table}
 use Rattle.ray_rules.specs.Status.{at_first}
+use Rattle.ray_rules.specs.Verdict.{rule_refusal}
 use Rattle.ray_action.specs.Memory.{Location, Memory, nothing_live}
 use Rattle.ray_action.specs.Areas.{AgreeOn, cover}
 use Rattle.ray_action.specs.Action.{Action, areas_read}
@@ -10,7 +13,7 @@ use Rattle.ray_action.specs.Pieces.{Numbered, actions, actions_from}
 use Rattle.ray_action.specs.Readiness.{IsReady}
 use Rattle.ray_action.specs.Running.{Unknown, run_from, action_at, memory_before}
 use Rattle.ray_action.specs.Storing.{writes}
-use Rattle.ray_ready.specs.Accepted.{IsAccepted}
+use Rattle.ray_ready.specs.Accepted.{IsAccepted, refused_from}
 
 -- ---- what has a meaning
 
@@ -74,3 +77,12 @@ first_actions rec n = actions_from rec 0 at_first (take n rec)
 abbrev pub RunsAreKnown : Type 0
 RunsAreKnown =
     (rec : List Command) (n : ℕ) → IsAccepted rec n → run_from nothing_live (first_actions rec n) ≡ Unknown → ⊥
+
+-- ---- what is refused, and what isn't
+
+-- each command before the one that is refused by the rules on the recording alone keeps the static rules
+abbrev pub UnrefusedKeepRules : Type 0
+UnrefusedKeepRules =
+    (rec : List Command) (i : ℕ) (c : Command)
+    → i < refused_from (length rec) (rule_refusal rec) → slice_get rec i ≡ Some c
+    → AreKept (static_table rec (status_at rec i) c)

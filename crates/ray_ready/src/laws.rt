@@ -1,4 +1,4 @@
-ghost use Rattle.ray_ready.specs.Laws.{ActionsAreReady, ReadinessIsLocal, ReadyIsDefined, RunsAreKnown, SourcesAreEnough};
+ghost use Rattle.ray_ready.specs.Laws.{ActionsAreReady, ReadinessIsLocal, ReadyIsDefined, RunsAreKnown, SourcesAreEnough, UnrefusedKeepRules};
 
 /// A law: each action of a command that may be run is ready in its turn, as long as every action
 /// before it gave an output. It does nothing. Own.
@@ -28,4 +28,10 @@ pub fn readiness_is_local()
 /// to a refusal. It does nothing. Own.
 pub fn runs_are_known()
     ensures { RunsAreKnown }
+{}
+
+/// A law: each command before the one that is refused by the rules on the recording alone keeps the
+/// static rules, and so does each where none is refused. It does nothing. Own.
+pub fn unrefused_keep_rules()
+    ensures { UnrefusedKeepRules }
 {}
