@@ -1,11 +1,11 @@
 -- An outcome is told by what the action reads: what it sees is the same.
-use Rattle.std.proofs.Common.{ℕ, ◌≡◌, List, [], ◌∷◌, refl, ap}
+use Rattle.std.proofs.Common.{◌≡◌, [], ◌∷◌, refl, ap}
 use Rattle.std.specs.List.{flat_map}
 use Rattle.ray_action.specs.Memory.{Memory}
 use Rattle.ray_action.specs.Areas.{AgreeOn, Bytes, FormOf, ContentsOf, ContentsOfEach}
 use Rattle.ray_action.specs.Action.{Action, areas_read, geometry_areas, MakeBuffer, MakeStructure, DestroyBuffer, DestroyStructure, ShowSizes, ShowBytes, UpdateBytes, FillBytes, CopyBytes, BuildBottom, UpdateBottom, BuildTop, UpdateTop, CopyStructure, TellProperty, TraceRays, Rest, Unbuilt}
 use Rattle.ray_action.specs.Seeing.{see}
-use Rattle.ray_action.specs.Outcomes.{outcome_of, computed}
+use Rattle.ray_action.specs.Outcomes.{computed}
 use Rattle.ray_action.specs.Laws.{OutcomesAreLocal}
 use Rattle.ray_action.proofs.Reading.{agree_rest, bytes_same, size_same, form_same, contents_same, structures_same, geometry_same, geometries_same, asked_same}
 

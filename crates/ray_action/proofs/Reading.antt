@@ -1,18 +1,18 @@
 -- What is read of two memories that agree where it is read is the same.
-use Rattle.std.proofs.Common.{ℕ, zero, suc, ◌≡◌, ◌<◌, ◌≤◌, ◌+◌, ◌++◌, List, [], ◌∷◌, Option, Some, None, refl, ap, arith, add-one}
+use Rattle.std.proofs.Common.{ℕ, zero, suc, ◌≡◌, ◌<◌, ◌≤◌, ◌+◌, ◌++◌, List, [], ◌∷◌, Option, Some, None, refl, ap, arith}
 use Rattle.std.specs.Prelude.{Bool, true, false, ◌||◌, ◌&&◌, ◌==◌, map, if◌then◌else◌, nat_le, nat_lt}
 use Rattle.std.proofs.lemmas.Bool.Decides.{nat_tests}
 use Rattle.std.specs.List.{flat_map}
-use Rattle.std.specs.Option.{option_to_list, option_map}
+use Rattle.std.specs.Option.{option_to_list}
 use Rattle.ray_cmd.specs.declared.geometry.Geometry.{Geometry}
 use Rattle.ray_rules.specs.declared.byte_range.ByteRange.{ByteRange}
 use Rattle.ray_rules.specs.declared.live_buffer.LiveBuffer.{LiveBuffer}
 use Rattle.ray_rules.specs.Ids.{Ids}
 use Rattle.ray_rules.specs.Ranges.{inputs_read}
-use Rattle.ray_action.specs.Memory.{Location, ByteAt, BufferAt, StructureAt, ContentsAt, Memory, Contents, bytes_from, bytes_at, number_before}
+use Rattle.ray_action.specs.Memory.{Location, ByteAt, BufferAt, StructureAt, ContentsAt, Memory, bytes_from, bytes_at, number_before}
 use Rattle.ray_action.specs.Areas.{Area, Bytes, SizeOf, FormOf, ContentsOf, ContentsOfEach, covers, cover, has, AgreeOn}
 use Rattle.ray_action.specs.Action.{content_buffer, geometry_areas, structure_areas}
-use Rattle.ray_action.specs.Seeing.{SeenBytes, SeenGeometry, SeenStructure, SeenStructures, see_range, see_geometry, see_structure, see_structures}
+use Rattle.ray_action.specs.Seeing.{see_range, see_geometry, see_structure, see_structures}
 
 -- ---- areas, one by one
 
@@ -73,7 +73,7 @@ if_same false x y d h = refl
 pub structures_same : (ids : List ℕ) (areas : List Area) (m z : Memory) → AgreeOn (ContentsOfEach ids ∷ areas) m z → see_structures m ids ≡ see_structures z ids
 structures_same ids areas m z same =
     λ i id. if_same (has ids id) (m (ContentsAt id)) (z (ContentsAt id)) None
-        (λ e. same (ContentsAt id) (or_left (has ids id) (cover areas (ContentsAt id)) e)) i
+    (λ e. same (ContentsAt id) (or_left (has ids id) (cover areas (ContentsAt id)) e)) i
 
 -- ---- bytes
 

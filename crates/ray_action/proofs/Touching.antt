@@ -1,8 +1,8 @@
 -- An action touches what the rules say of its piece.
-use Rattle.std.proofs.Common.{ℕ, zero, suc, ◌≡◌, ◌<◌, ◌+◌, ◌*◌, ◌++◌, ◌∙◌, List, [], ◌∷◌, Option, Some, None, refl, ap, sym, subst, arith, length}
-use Rattle.std.specs.Prelude.{Bool, true, false, ◌||◌, ◌==◌, map, slice_get, option_map}
+use Rattle.std.proofs.Common.{ℕ, zero, suc, ◌≡◌, ◌+◌, ◌*◌, ◌++◌, ◌∙◌, List, [], ◌∷◌, Option, Some, None, refl, ap, sym, subst, arith, length}
+use Rattle.std.specs.Prelude.{Bool, true, false, ◌||◌, ◌==◌, map, slice_get}
 use Rattle.std.proofs.lemmas.Bool.Decides.{nat_tests}
-use Rattle.std.specs.List.{flat_map, list_any, range_with_len}
+use Rattle.std.specs.List.{flat_map, range_with_len}
 use Rattle.std.specs.Option.{option_to_list, option_map_or}
 use Rattle.std.proofs.lemmas.List.Folds.{list_any-append}
 use Rattle.ray_cmd.specs.declared.asked.Asked.{Asked}
@@ -25,15 +25,14 @@ use Rattle.ray_rules.specs.declared.byte_range.ByteRange.{ByteRange}
 use Rattle.ray_rules.specs.declared.live_buffer.LiveBuffer.{LiveBuffer}
 use Rattle.ray_rules.specs.declared.live_structure.LiveStructure.{LiveStructure}
 use Rattle.ray_rules.specs.declared.reach.Reach.TheVariants as reaches
-use Rattle.ray_rules.specs.declared.stage.Stage.{Stage}
 use Rattle.ray_rules.specs.declared.touch.Touch.{Touch}
 use Rattle.ray_rules.specs.Access.{Accesses, no_access, stage_of, accesses_of, piece_accesses, region_accesses, info_accesses, input_reads, structure_reads, structure_copy_accesses, serialize_accesses, deserialize_accesses, property_accesses, write_accesses, ray_accesses, rays_of_piece, uses_at, at_bytes, at_scratch}
 use Rattle.ray_rules.specs.Ids.{Ids, look}
 use Rattle.ray_rules.specs.Ranges.{inputs_read, range, scratch_range}
 use Rattle.ray_rules.specs.Status.{Status}
 use Rattle.ray_action.specs.Memory.{Location, ByteAt, BufferAt, StructureAt, ContentsAt}
-use Rattle.ray_action.specs.Areas.{Area, Bytes, SizeOf, FormOf, ContentsOf, ContentsOfEach, covers, cover, has, is_in_range, is_contents_of}
-use Rattle.ray_action.specs.Action.{Action, Building, areas_read, geometry_areas, structure_areas, UpdateBytes, FillBytes, CopyStructure, Unbuilt}
+use Rattle.ray_action.specs.Areas.{Area, Bytes, FormOf, ContentsOf, ContentsOfEach, covers, cover, has, is_in_range, is_contents_of}
+use Rattle.ray_action.specs.Action.{Action, Building, geometry_areas, structure_areas, UpdateBytes, FillBytes, CopyStructure, Unbuilt}
 use Rattle.ray_action.specs.Storing.{writes}
 use Rattle.ray_action.specs.Pieces.{actions_of, building, info_action, info_action_by, info_action_on, info_actions, region_action, bottom_action, top_action, top_action_of, property_action, rays_action, trace_pieces}
 use Rattle.ray_action.specs.Touching.{is_reached, touched, holds_data, TouchesWithin, ActionsTouchWithin}
@@ -186,8 +185,8 @@ bottom-within build info modes.Update (Some src) dst is = record {
       either (covers (FormOf build.dst) l) (cover (ContentsOf src ∷ geometries) l) e
       (λ form. no-form build.dst l d form)
       (λ rest. either (covers (ContentsOf src) l) (cover geometries l) rest
-          (λ source. source-part build.buffers info src l is source)
-          (λ inputs. inputs-part build.buffers info l (geometries-reached build.buffers info.geometries l d inputs)));
+      (λ source. source-part build.buffers info src l is source)
+      (λ inputs. inputs-part build.buffers info l (geometries-reached build.buffers info.geometries l d inputs)));
   writes = λ l e. writes-within build.buffers info l (subst (λ id. is_contents_of id l ≡ true) dst e);
 }
 bottom-within build info modes.Update None dst is = unbuilt-within (info_accesses build.buffers info)
@@ -207,8 +206,8 @@ top-of-within build info instances modes.Build src dst gs is = record {
       either (covers (FormOf build.dst) l) (cover (ContentsOfEach info.uses ∷ inputs) l) e
       (λ form. no-form build.dst l d form)
       (λ rest. either (covers (ContentsOfEach info.uses) l) (cover inputs l) rest
-          (λ uses. uses-part build.buffers info l (structures-reached info.uses l d uses))
-          (λ here. instances-part build.buffers info instances l gs d here));
+      (λ uses. uses-part build.buffers info l (structures-reached info.uses l d uses))
+      (λ here. instances-part build.buffers info instances l gs d here));
   writes = λ l e. writes-within build.buffers info l (subst (λ id. is_contents_of id l ≡ true) dst e);
 }
 top-of-within build info instances modes.Update (Some src) dst gs is = record {
@@ -217,10 +216,10 @@ top-of-within build info instances modes.Update (Some src) dst gs is = record {
       either (covers (FormOf build.dst) l) (cover (ContentsOf src ∷ (ContentsOfEach info.uses ∷ inputs)) l) e
       (λ form. no-form build.dst l d form)
       (λ rest. either (covers (ContentsOf src) l) (cover (ContentsOfEach info.uses ∷ inputs) l) rest
-          (λ source. source-part build.buffers info src l is source)
-          (λ later. either (covers (ContentsOfEach info.uses) l) (cover inputs l) later
-              (λ uses. uses-part build.buffers info l (structures-reached info.uses l d uses))
-              (λ here. instances-part build.buffers info instances l gs d here)));
+      (λ source. source-part build.buffers info src l is source)
+      (λ later. either (covers (ContentsOfEach info.uses) l) (cover inputs l) later
+      (λ uses. uses-part build.buffers info l (structures-reached info.uses l d uses))
+      (λ here. instances-part build.buffers info instances l gs d here)));
   writes = λ l e. writes-within build.buffers info l (subst (λ id. is_contents_of id l ≡ true) dst e);
 }
 top-of-within build info instances modes.Update None dst gs is = unbuilt-within (info_accesses build.buffers info)
@@ -298,13 +297,13 @@ rays-within rec z top rays hits count flags mask script k =
       reads = λ l d e.
           either (is_in_range at l) (cover (ContentsOf top ∷ (ContentsOfEach uses ∷ [])) l) e
           (λ here. or_right (is_contents_of top l) (touched (structure_reads uses ++ bytes) l)
-              (touched-back (structure_reads uses) bytes l (or_left (is_in_range at l) false here)))
+          (touched-back (structure_reads uses) bytes l (or_left (is_in_range at l) false here)))
           (λ rest. either (is_contents_of top l) (cover (ContentsOfEach uses ∷ []) l) rest
-              (λ structure. or_left (is_contents_of top l) (touched (structure_reads uses ++ bytes) l) structure)
-              (λ later. either (covers (ContentsOfEach uses) l) false later
-                  (λ used. or_right (is_contents_of top l) (touched (structure_reads uses ++ bytes) l)
-                      (touched-front (structure_reads uses) bytes l (structures-reached uses l d used)))
-                  (λ none. absurd cc)));
+          (λ structure. or_left (is_contents_of top l) (touched (structure_reads uses ++ bytes) l) structure)
+          (λ later. either (covers (ContentsOfEach uses) l) false later
+          (λ used. or_right (is_contents_of top l) (touched (structure_reads uses ++ bytes) l)
+          (touched-front (structure_reads uses) bytes l (structures-reached uses l d used)))
+          (λ none. absurd cc)));
       writes = λ l e. or_left (is_in_range (range hits.buffer (hits.offset + 80 * (64 * k)) (80 * rays_of_piece count k)) l) false e;
     }
 

@@ -18,7 +18,6 @@ use Rattle.ray_rules.specs.declared.live_buffer.LiveBuffer.{LiveBuffer}
 use Rattle.ray_rules.specs.Ids.{Ids}
 use Rattle.ray_rules.specs.Ranges.{inputs_read}
 use Rattle.ray_action.specs.declared.form.Form.{Form}
-
 use Rattle.ray_action.specs.Areas.{Area, Bytes, SizeOf, FormOf, ContentsOf, ContentsOfEach}
 
 -- what a build is: the number of its info, its destination, and the live buffers before its command, of

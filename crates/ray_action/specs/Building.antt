@@ -5,16 +5,13 @@
 -- that may be named, and that of indices, boxes and instances at the first; so each is read from place 0
 -- on, with no first vertex to be skipped. The range of vertices that indices name is cut at the buffer's
 -- end: what isn't whole in it isn't whole in the buffer, since no index above `max_vertex` may name one.
-use Rattle.std.specs.Prelude.{ℕ, List, [], ◌∷◌, map, Option, Some, None, Result, Ok, Err, Bool, true, false, ◌==◌}
-use Rattle.std.specs.Option.{option_map, option_map_or, option_and_then}
-use Rattle.ray_geom.specs.Boxes.{BoxValue}
+use Rattle.std.specs.Prelude.{ℕ, List, [], ◌∷◌, map, Option, Some, None, Result, Ok, Err, Bool, ◌==◌}
+use Rattle.std.specs.Option.{option_map, option_and_then}
 use Rattle.ray_flags.specs.declared.build_flags.BuildFlags.{BuildFlags}
 use Rattle.ray_bytes.specs.declared.data_fault.DataFault.{DataFault}
-use Rattle.ray_bytes.specs.declared.data_rule.DataRule.{DataRule}
 use Rattle.ray_bytes.specs.declared.format.Format.{Format}
 use Rattle.ray_bytes.specs.Views as views
 use Rattle.ray_primitives.specs.declared.triangle_info.TriangleInfo.{TriangleInfo}
-use Rattle.ray_primitives.specs.declared.box_info.BoxInfo.{BoxInfo}
 use Rattle.ray_bottom.specs.Contents as bottoms
 use Rattle.ray_bottom.specs.Builders.{BuilderValue, with_triangles, with_boxes, size_of_indices}
 use Rattle.ray_top.specs.declared.used.Used.{Used}
@@ -22,10 +19,8 @@ use Rattle.ray_top.specs.Contents as tops
 use Rattle.ray_cmd.specs.declared.geometry.Geometry.{Geometry}
 use Rattle.ray_cmd.specs.declared.geometry.Geometry.TheVariants as geometries
 use Rattle.ray_cmd.specs.declared.index.Index.{Index}
-use Rattle.ray_cmd.specs.declared.place.Place.{Place}
-use Rattle.ray_cmd.specs.declared.place.Place.TheVariants as places
 use Rattle.ray_rules.specs.Ranges.{count_of}
-use Rattle.ray_action.specs.Memory.{Contents, Bottom, Top, as_bottom, as_top, bounds_of}
+use Rattle.ray_action.specs.Memory.{bounds_of}
 use Rattle.ray_action.specs.Seeing.{SeenBytes, SeenGeometry, SeenStructures}
 
 -- ---- one geometry

@@ -1,6 +1,6 @@
 -- What an action gives, computed from what it sees. (Vulkan: the operations of each command; own: the data
 -- rules, and exact numbers.)
-use Rattle.std.specs.Prelude.{ℕ, ◌+◌, ◌*◌, List, [], ◌∷◌, map, Option, Some, None, Result, Ok, Err, Bool, length, nat_lt, if◌then◌else◌}
+use Rattle.std.specs.Prelude.{ℕ, ◌+◌, List, [], ◌∷◌, Option, Some, None, Result, Ok, Err, length, nat_lt, if◌then◌else◌}
 use Rattle.std.specs.List.{flat_map}
 use Rattle.std.specs.Option.{option_map, option_map_or, option_and_then}
 use Rattle.byteorder.specs.Endian.{little_bytes}
@@ -31,7 +31,7 @@ use Rattle.ray_cmd.specs.declared.place.Place.TheVariants.{Whole, Part, Geometry
 use Rattle.ray_action.specs.declared.form.Form.{Form}
 use Rattle.ray_action.specs.Memory.{Contents, Bottom, Top, Memory, as_bottom, as_top, number_before}
 use Rattle.ray_action.specs.Action.{Action, Tracing, MakeBuffer, MakeStructure, DestroyBuffer, DestroyStructure, ShowSizes, ShowBytes, UpdateBytes, FillBytes, CopyBytes, BuildBottom, UpdateBottom, BuildTop, UpdateTop, CopyStructure, TellProperty, TraceRays, Rest, Unbuilt}
-use Rattle.ray_action.specs.Seeing.{Seen, SeenBytes, SeenStructures, SeenStructure, SeenBuild, SeenTop, SeenTrace, see}
+use Rattle.ray_action.specs.Seeing.{Seen, SeenBytes, SeenStructures, SeenStructure, see}
 use Rattle.ray_action.specs.Building.{add_all, new_builder, update_builder, all_used, top_of, top_again}
 
 -- what an action gives: nothing besides what it is told, bytes, or the contents of a structure

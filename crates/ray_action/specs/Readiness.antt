@@ -1,10 +1,9 @@
 -- When an action is ready: what it sees is there, so that what comes of it has a meaning. It is a condition
 -- on the memory as it is, and on no history. That each action of a recording that keeps the rules is ready
 -- in its turn is a law of its own. (Own; after the valid usage of the commands in Vulkan.)
-use Rattle.std.specs.Prelude.{ℕ, ◌≡◌, ◌≤◌, ◌^◌, List, [], ◌∷◌, Option, Some, None, Bool, true, false, All, IsSome, IfSome, length, sum}
+use Rattle.std.specs.Prelude.{ℕ, ◌≡◌, ◌≤◌, ◌^◌, List, [], ◌∷◌, Option, Some, None, true, false, All, IsSome, IfSome, length, sum}
 use Rattle.std.specs.Option.{option_and_then}
 use Rattle.ray_flags.specs.Admission.{AsksBoth}
-use Rattle.ray_flags.specs.declared.build_flags.BuildFlags.{BuildFlags}
 use Rattle.ray_script.specs.Scripts.{refused_at}
 use Rattle.ray_bottom.specs.Contents as bottoms
 use Rattle.ray_top.specs.Contents as tops

@@ -1,12 +1,12 @@
 -- The run of a recording, in recording order. (Own.)
-use Rattle.std.specs.Prelude.{ℕ, zero, suc, List, [], ◌∷◌, ◌++◌, Option, Some, None, slice_get}
+use Rattle.std.specs.Prelude.{ℕ, zero, suc, List, [], ◌∷◌, ◌++◌, slice_get}
 use Rattle.std.specs.Option.{option_map_or}
 use Rattle.ray_cmd.specs.declared.command.Command.{Command}
 use Rattle.ray_cmd.specs.declared.refusal.Refusal.{Refusal}
 use Rattle.ray_cmd.specs.declared.rule.Rule.TheVariants.{X}
 use Rattle.ray_action.specs.Memory.{Memory, nothing_live}
 use Rattle.ray_action.specs.Action.{Action, Rest}
-use Rattle.ray_action.specs.Outcomes.{Fault, Output, Outcome, Gives, Breaks, Undefined, outcome_of}
+use Rattle.ray_action.specs.Outcomes.{Fault, Outcome, Gives, Breaks, Undefined, outcome_of}
 use Rattle.ray_action.specs.Pieces.{Numbered, actions}
 use Rattle.ray_action.specs.Storing.{after}
 use Rattle.ray_action.specs.Text.{text_of}

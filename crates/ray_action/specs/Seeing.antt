@@ -1,6 +1,6 @@
 -- What each action sees of the memory. It computes from that alone, so that its outcome is told by what it
 -- reads and by nothing else. (Own.)
-use Rattle.std.specs.Prelude.{ℕ, List, map, Option, Some, None, if◌then◌else◌}
+use Rattle.std.specs.Prelude.{ℕ, List, map, Option, None, if◌then◌else◌}
 use Rattle.std.specs.Option.{option_map}
 use Rattle.ray_cmd.specs.declared.geometry.Geometry.{Geometry}
 use Rattle.ray_rules.specs.declared.byte_range.ByteRange.{ByteRange}

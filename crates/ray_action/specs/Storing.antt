@@ -1,6 +1,6 @@
 -- What an action writes, and what its store leaves. (Own; after the memory that each command of Vulkan
 -- writes.)
-use Rattle.std.specs.Prelude.{ℕ, ◌+◌, ◌-◌, ◌%◌, List, Option, Some, None, Bool, true, false, ◌||◌, ◌==◌, nat_lt, if◌then◌else◌, slice_get, unwrap_or}
+use Rattle.std.specs.Prelude.{ℕ, ◌-◌, ◌%◌, List, Some, None, Bool, false, ◌==◌, nat_lt, if◌then◌else◌, slice_get, unwrap_or}
 use Rattle.std.specs.Option.{option_map}
 use Rattle.byteorder.specs.Endian.{little_bytes}
 use Rattle.ray_action.specs.declared.form.Form.{Form}

@@ -1,5 +1,5 @@
 -- The text of what is shown. (Own.)
-use Rattle.std.specs.Prelude.{ℕ, ◌+◌, ◌*◌, ◌/◌, ◌==◌, List, [], ◌∷◌, ◌++◌, map, length, take, drop, sum, codes, decimal, if◌then◌else◌}
+use Rattle.std.specs.Prelude.{ℕ, ◌*◌, ◌/◌, ◌==◌, List, [], ◌∷◌, ◌++◌, map, length, take, drop, sum, codes, decimal, if◌then◌else◌}
 use Rattle.std.specs.List.{flat_map, range_with_len}
 use Rattle.hex.specs.Hex.{encode_lower}
 use Rattle.ray_bytes.specs.declared.hit_record.HitRecord.{HitRecord}
@@ -11,7 +11,7 @@ use Rattle.ray_cmd.specs.declared.read_form.ReadForm.TheVariants as forms
 use Rattle.ray_cmd.specs.declared.structure_kind.StructureKind.{StructureKind}
 use Rattle.ray_cmd.specs.declared.structure_kind.StructureKind.TheVariants as kinds
 use Rattle.ray_action.specs.Action.{Action, MakeBuffer, MakeStructure, DestroyBuffer, DestroyStructure, ShowSizes, ShowBytes, UpdateBytes, FillBytes, CopyBytes, BuildBottom, UpdateBottom, BuildTop, UpdateTop, CopyStructure, TellProperty, TraceRays, Rest, Unbuilt}
-use Rattle.ray_action.specs.Outcomes.{Output, Nothing, Bytes, Holds, Outcome, Gives, Breaks, Undefined}
+use Rattle.ray_action.specs.Outcomes.{Output, Nothing, Bytes, Holds}
 
 -- ---- hits
 

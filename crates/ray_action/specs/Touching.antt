@@ -1,6 +1,6 @@
 -- That an action touches what the rules say of its piece: so what the rules on hazards order is ordered for
 -- actions too. (Own.)
-use Rattle.std.specs.Prelude.{ℕ, ◌≡◌, List, Option, Some, Bool, true, false, slice_get}
+use Rattle.std.specs.Prelude.{ℕ, ◌≡◌, List, Some, Bool, true, false, slice_get}
 use Rattle.std.specs.List.{list_any}
 use Rattle.ray_cmd.specs.declared.command.Command.{Command}
 use Rattle.ray_rules.specs.declared.reach.Reach.{Reach}

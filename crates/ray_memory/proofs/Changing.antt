@@ -1,8 +1,8 @@
 -- The memory of a state once something was made or destroyed, and once bytes or contents were stored.
-use Rattle.std.proofs.Common.{ℕ, ◌≡◌, ◌≢◌, ◌<◌, List, [], length, Option, Some, None, Bool, true, false, refl, ap, sym, subst, ◌∙◌, inl, inr, arith}
-use Rattle.std.specs.Prelude.{slice_get, option_map, option_and_then, unwrap_or, ◌==◌, ◌&&◌, ◌-◌, ◌%◌, nat_lt, if◌then◌else◌, Result, Ok, Err, OnOk}
+use Rattle.std.proofs.Common.{ℕ, ◌≡◌, List, [], length, Option, Some, None, Bool, true, false, refl, ap, sym, subst, ◌∙◌, inl, inr, arith}
+use Rattle.std.specs.Prelude.{slice_get, option_map, option_and_then, unwrap_or, ◌==◌, ◌&&◌, ◌-◌, nat_lt, if◌then◌else◌, Result, Ok, Err, OnOk}
 use Rattle.std.proofs.lemmas.Bool.Decides.{nat_tests}
-use Rattle.std.proofs.lemmas.Bool.{cases_Bool, cases_eq, cases_lt, cond-true, cond-false, eq-eqb, ne_eqb}
+use Rattle.std.proofs.lemmas.Bool.{cases_eq, cases_lt, cond-true, cond-false, eq-eqb, ne_eqb}
 use Rattle.std.proofs.lemmas.Option.{slice_get_past, get_or_from_slice_get}
 use Rattle.ray_cmd.specs.declared.command.Command.{Command}
 use Rattle.ray_cmd.specs.declared.command.Command.TheVariants as commands
@@ -14,7 +14,7 @@ use Rattle.ray_cmd.specs.declared.structure_kind.StructureKind.TheVariants as ki
 use Rattle.ray_rules.specs.declared.byte_range.ByteRange.{ByteRange}
 use Rattle.ray_rules.specs.Ids.{Ids, look}
 use Rattle.ray_action.specs.declared.form.Form.{Form}
-use Rattle.ray_action.specs.Memory.{Contents, Bottom, Top, Memory, Location, ByteAt, BufferAt, StructureAt, ContentsAt, nothing_live, as_top}
+use Rattle.ray_action.specs.Memory.{Bottom, Top, Memory, Location, ByteAt, BufferAt, StructureAt, ContentsAt, nothing_live, as_top}
 use Rattle.ray_action.specs.Action.{MakeBuffer, MakeStructure, DestroyBuffer, DestroyStructure}
 use Rattle.ray_action.specs.Outcomes.{Gives, Nothing}
 use Rattle.ray_action.specs.Areas.{is_in_range, is_contents_of}
@@ -139,8 +139,8 @@ memory-made_structure s n id form roomy none b same rest (ContentsAt q) =
     ∙ (read-Becomes (contents_in (contents_at q s.bottoms)) id (Some new) s.structures n.structures b q
     ∙ if-at q id (contents_in (contents_at q s.bottoms) (Some new)) old None
     (λ e. held-none form.kind (contents_at q s.bottoms)
-        (no-contents s.structures s.bottoms q (contents_at q s.bottoms) roomy
-            (ap (look s.structures) e ∙ unmade (look s.structures id) none) refl)))
+    (no-contents s.structures s.bottoms q (contents_at q s.bottoms) roomy
+    (ap (look s.structures) e ∙ unmade (look s.structures id) none) refl)))
 
 -- room stays where a structure is made, dropped or changed
 some-id : {X : Type 0} (x y : X) → Some x ≡ Some y → x ≡ y
@@ -191,7 +191,7 @@ byte-over : (to : ByteRange) (byte_for : ℕ → Option ℕ) (before after : Ids
 byte-over to byte_for before after None w e at =
     ap (byte_in at) (w.gone e)
     ∙ sym ((λ i. if is_between to at then option_map (λ byte. unwrap_or (byte_for (at - to.from)) byte) (byte_in at (e i)) else byte_in at (e i))
-      ∙ same-either (is_between to at))
+    ∙ same-either (is_between to at))
 byte-over to byte_for before after (Some bytes) w e at =
     let new = w.here bytes e in
     ap (byte_in at) new.1
@@ -205,7 +205,7 @@ byte-written to byte_for before after w buffer at =
     elim (cases_eq buffer to.buffer) [
       | inl e ↦
           subst (λ b. byte_in at (look after b)
-            ≡ (if (b == to.buffer) && is_between to at then option_map (λ byte. unwrap_or (byte_for (at - to.from)) byte) (byte_in at (look before b)) else byte_in at (look before b)))
+          ≡ (if (b == to.buffer) && is_between to at then option_map (λ byte. unwrap_or (byte_for (at - to.from)) byte) (byte_in at (look before b)) else byte_in at (look before b)))
           (sym e)
           (byte-over to byte_for before after (look before to.buffer) w refl at ∙ sym (if-true-and (to.buffer == to.buffer) (is_between to at) _ _ (eq-eqb to.buffer to.buffer refl)))
       | inr differs ↦

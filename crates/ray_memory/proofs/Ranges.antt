@@ -1,6 +1,6 @@
 -- The bytes of a range, as a part of the bytes of a buffer.
-use Rattle.std.proofs.Common.{ℕ, zero, suc, ◌≡◌, ◌≢◌, ◌<◌, ◌≤◌, ◌+◌, List, [], ◌∷◌, length, take, drop, get_or, Option, Some, None, Bool, true, false, refl, ap, sym, subst, ◌∙◌, inl, inr, arith}
-use Rattle.std.specs.Prelude.{slice_get, option_map, nat_le, if◌then◌else◌}
+use Rattle.std.proofs.Common.{ℕ, zero, suc, ◌≡◌, ◌≢◌, ◌<◌, ◌≤◌, ◌+◌, List, [], ◌∷◌, length, take, drop, get_or, Option, Some, None, refl, ap, sym, ◌∙◌, inl, inr, arith}
+use Rattle.std.specs.Prelude.{slice_get, nat_le}
 use Rattle.std.proofs.Math.Seq.{drop-cons}
 use Rattle.std.proofs.lemmas.Bool.Decides.{nat_tests}
 use Rattle.std.proofs.lemmas.Bool.{cases_lt, cond-true, cond-false}
@@ -25,7 +25,7 @@ part-more bytes from n below =
           let next : suc from ≡ from + 1 = omega arith in
           ap (number_before (Some (get_or bytes from 0))) (part-there bytes (from + 1) n (omega arith))
           ∙ sym (part-there bytes from (suc n) (omega arith)
-            ∙ ap (λ xs. Some (take (suc n) xs)) (drop-cons bytes from 0 below ∙ ap (λ j. get_or bytes from 0 ∷ drop j bytes) next))
+          ∙ ap (λ xs. Some (take (suc n) xs)) (drop-cons bytes from 0 below ∙ ap (λ j. get_or bytes from 0 ∷ drop j bytes) next))
     ]
 
 -- bytes of a buffer that is there, from a place within it or at its end

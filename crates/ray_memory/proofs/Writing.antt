@@ -1,6 +1,6 @@
 -- Bytes that are written over a range, one after the other.
-use Rattle.std.proofs.Common.{ℕ, zero, suc, ◌≡◌, ◌≢◌, ◌<◌, ◌≤◌, ◌+◌, ◌-◌, List, [], ◌∷◌, length, Option, Some, None, Bool, true, false, refl, ap, sym, subst, ◌∙◌, inl, inr, arith}
-use Rattle.std.specs.Prelude.{slice_get, option_map, unwrap_or, nat_le, nat_lt, ◌&&◌, if◌then◌else◌}
+use Rattle.std.proofs.Common.{ℕ, zero, suc, ◌≡◌, ◌≢◌, ◌<◌, ◌≤◌, ◌+◌, ◌-◌, List, [], ◌∷◌, length, Option, Some, None, true, false, refl, ap, sym, subst, ◌∙◌, inl, inr, arith}
+use Rattle.std.specs.Prelude.{slice_get, option_map, unwrap_or, if◌then◌else◌}
 use Rattle.std.proofs.Math.ListN.{set}
 use Rattle.std.proofs.lemmas.Bool.Decides.{nat_tests}
 use Rattle.std.proofs.lemmas.Bool.{cases_Bool, cases_eq, cases_lt, cond-true, cond-false}
@@ -63,8 +63,8 @@ written-more to byte_for before mid k place x is below byte w = record {
         let number : at - to.from ≡ k = omega arith in
         (subst (λ j. slice_get (set mid place x) j ≡ Some x) (sym same) (set-same mid place x (omega arith)))
         ∙ sym (over-in (first_of to (k + 1)) byte_for before at (grind (arith, nat_tests))
-          ∙ (ap (option_map (λ old. unwrap_or (byte_for (at - to.from)) old)) here.1
-          ∙ ap (λ o. Some (unwrap_or o here.0)) (ap byte_for number ∙ byte)))
+        ∙ (ap (option_map (λ old. unwrap_or (byte_for (at - to.from)) old)) here.1
+        ∙ ap (λ o. Some (unwrap_or o here.0)) (ap byte_for number ∙ byte)))
     | inr differs ↦
         set-other mid place x at differs ∙ (w.each at ∙ elim (cases_Bool (is_between (first_of to k) at)) [
           | inl inside ↦
@@ -97,12 +97,12 @@ written-all to byte_for before after n within ends w = record {
                     let none : byte_for (at - to.from) ≡ None =
                     ends (at - to.from) (grind (arith, nat_tests)) (grind (arith, nat_tests)) (grind (arith, nat_tests)) in
                     sym (over-in to byte_for before at more
-                      ∙ (ap (option_map (λ o. unwrap_or (byte_for (at - to.from)) o)) old.1
-                      ∙ (ap (λ o. Some (unwrap_or o old.0)) none ∙ sym old.1)))
+                    ∙ (ap (option_map (λ o. unwrap_or (byte_for (at - to.from)) o)) old.1
+                    ∙ (ap (λ o. Some (unwrap_or o old.0)) none ∙ sym old.1)))
                 | inr past ↦
                     let none = slice_get_past before at past in
                     sym (over-in to byte_for before at more
-                      ∙ (ap (option_map (λ o. unwrap_or (byte_for (at - to.from)) o)) none ∙ sym none))
+                    ∙ (ap (option_map (λ o. unwrap_or (byte_for (at - to.from)) o)) none ∙ sym none))
               ]
           | inr beside ↦ sym (over-out to byte_for before at beside)
         ]

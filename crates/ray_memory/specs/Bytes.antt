@@ -26,7 +26,7 @@ pub record IsWritten (to : ByteRange) (byte_for : ℕ → Option ℕ) (before af
   pub sized : length after ≡ length before
   pub each : (at : ℕ) → slice_get after at
       ≡ (if is_between to at then option_map (λ old. unwrap_or (byte_for (at - to.from)) old) (slice_get before at)
-          else slice_get before at)
+      else slice_get before at)
 
 -- one byte after the other of these, and a word again and again
 abbrev pub IsOverwritten : ByteRange → List ℕ → List ℕ → List ℕ → Type 0

@@ -48,10 +48,13 @@ impl State {
                 content,
                 ..
             } => self.make_buffer(*id, *size as usize, told(content)),
-            Command::Structure { id, kind, size, .. } => self.make_structure(*id, Form {
-                kind: *kind,
-                size: *size,
-            }),
+            Command::Structure { id, kind, size, .. } => self.make_structure(
+                *id,
+                Form {
+                    kind: *kind,
+                    size: *size,
+                },
+            ),
             Command::Destroy { what, id } => {
                 self.destroy(*what, *id);
                 Ok(())

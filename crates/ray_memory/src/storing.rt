@@ -20,7 +20,7 @@ impl State {
     pub fn write(&mut self, to: ByteRange, bytes: &[u8])
         ensures { (l : Location) → memory_of self.new l
             ≡ (if is_in_range to l then stored to.from bytes.now l (memory_of self.old l)
-                else memory_of self.old l) }
+            else memory_of self.old l) }
     {
         overwrite_in(&mut self.buffers, to, bytes);
     }
@@ -30,7 +30,7 @@ impl State {
     pub fn fill(&mut self, to: ByteRange, value: u32)
         ensures { (l : Location) → memory_of self.new l
             ≡ (if is_in_range to l then filled to.from value l (memory_of self.old l)
-                else memory_of self.old l) }
+            else memory_of self.old l) }
     {
         refill_in(&mut self.buffers, to, value);
     }
@@ -40,7 +40,7 @@ impl State {
         requires { IsMade kinds.Bottom (memory_of self.old (StructureAt structure)) }
         ensures { (l : Location) → memory_of self.new l
             ≡ (if is_contents_of structure l then holding (HoldsBottom bottom) l (memory_of self.old l)
-                else memory_of self.old l) }
+            else memory_of self.old l) }
     {
         self.bottoms.put(structure, bottom);
     }
@@ -50,7 +50,7 @@ impl State {
         requires { IsMade kinds.Top (memory_of self.old (StructureAt structure)) }
         ensures { (l : Location) → memory_of self.new l
             ≡ (if is_contents_of structure l then holding (HoldsTop top) l (memory_of self.old l)
-                else memory_of self.old l) }
+            else memory_of self.old l) }
     {
         hold_in(&mut self.structures, structure, top);
     }

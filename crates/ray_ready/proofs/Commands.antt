@@ -194,9 +194,9 @@ not_both : (flags : RayFlags) → AsksBoth flags → is_contradiction flags ≡ 
 not_both flags both e =
     let opaque = several (ray_has flags Opaque) (ray_has flags NoOpaque) (ray_has flags CullOpaque) (ray_has flags CullNoOpaque) both.0 both.1 in
     let none = neither_first
-        (are_several (ray_has flags Opaque ∷ ray_has flags NoOpaque ∷ ray_has flags CullOpaque ∷ ray_has flags CullNoOpaque ∷ []))
-        (are_several (ray_has flags SkipTriangles ∷ ray_has flags CullBackFacing ∷ ray_has flags CullFrontFacing ∷ [])
-        || are_several (ray_has flags SkipTriangles ∷ ray_has flags SkipAabbs ∷ [])) e in
+    (are_several (ray_has flags Opaque ∷ ray_has flags NoOpaque ∷ ray_has flags CullOpaque ∷ ray_has flags CullNoOpaque ∷ []))
+    (are_several (ray_has flags SkipTriangles ∷ ray_has flags CullBackFacing ∷ ray_has flags CullFrontFacing ∷ [])
+    || are_several (ray_has flags SkipTriangles ∷ ray_has flags SkipAabbs ∷ [])) e in
     absurd cc
 
 -- the counts of `sizes` are those of a structure

@@ -1,5 +1,4 @@
 use Rattle.std.proofs.Common.{◌≡◌, refl, subst}
-use Rattle.std.specs.Prelude.{if◌then◌else◌}
 use Rattle.ray_action.specs.Memory.{Location}
 use Rattle.ray_memory.specs.State.{StateValue, memory_of}
 use Rattle.ray_memory.specs.contracts.state.State.{the_view}

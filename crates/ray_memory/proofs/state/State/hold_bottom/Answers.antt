@@ -1,10 +1,10 @@
-use Rattle.std.proofs.Common.{ℕ, List, ◌≡◌, refl, sym, ap, subst, ◌∙◌}
-use Rattle.std.specs.Prelude.{if◌then◌else◌, Some, None}
+use Rattle.std.proofs.Common.{◌≡◌, refl, sym, subst}
+use Rattle.std.specs.Prelude.{if◌then◌else◌}
 use Rattle.ray_action.specs.Memory.{Location, StructureAt}
 use Rattle.ray_memory.specs.State.{StateValue, memory_of}
 use Rattle.ray_memory.specs.contracts.state.State.{the_view}
-use Rattle.ray_action.specs.Areas.{is_in_range, is_contents_of}
-use Rattle.ray_action.specs.Storing.{stored, filled, holding}
+use Rattle.ray_action.specs.Areas.{is_contents_of}
+use Rattle.ray_action.specs.Storing.{holding}
 use Rattle.ray_cmd.specs.declared.structure_kind.StructureKind.TheVariants as kinds
 use Rattle.ray_action.specs.Readiness.{IsMade}
 use Rattle.ray_action.specs.Memory.{Bottom}

@@ -1,6 +1,6 @@
-use Rattle.std.proofs.Common.{ℕ, List, ◌≡◌, refl, sym, ap, subst, ◌∙◌}
-use Rattle.std.specs.Prelude.{if◌then◌else◌, Some, None}
-use Rattle.ray_action.specs.Memory.{Location, StructureAt}
+use Rattle.std.proofs.Common.{ℕ, List, ◌≡◌, refl, subst}
+use Rattle.std.specs.Prelude.{Some}
+use Rattle.ray_action.specs.Memory.{Location}
 use Rattle.ray_memory.specs.State.{StateValue, memory_of}
 use Rattle.ray_memory.specs.contracts.state.State.{the_view}
 use Rattle.ray_action.specs.Outcomes.{Gives, Nothing}
@@ -17,6 +17,6 @@ returns-clause-ok c =
     on-ok c.insert_buffer.result (Becomes c.args.id (Some bytes) c.self.inside.buffers.entries c.insert_buffer.new.buffers.entries)
     ((l : Location) → memory_of new l ≡ put (MakeBuffer c.args.id c.args.size c.args.content.now) (Gives Nothing) (memory_of c.args.self.now) l)
     (λ becomes.
-        subst (λ (s : StateValue). (l : Location) → memory_of new l ≡ put (MakeBuffer c.args.id c.args.size c.args.content.now) (Gives Nothing) (memory_of s) l) c.self.view_is
-        (memory-made_buffer (the_view c.self.inside) new c.args.id c.args.size c.args.content.now bytes becomes c.in_ok-buffer.ensures refl refl))
+    subst (λ (s : StateValue). (l : Location) → memory_of new l ≡ put (MakeBuffer c.args.id c.args.size c.args.content.now) (Gives Nothing) (memory_of s) l) c.self.view_is
+    (memory-made_buffer (the_view c.self.inside) new c.args.id c.args.size c.args.content.now bytes becomes c.in_ok-buffer.ensures refl refl))
     c.insert_buffer.ensures.ok

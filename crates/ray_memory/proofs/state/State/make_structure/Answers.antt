@@ -1,5 +1,5 @@
-use Rattle.std.proofs.Common.{ℕ, List, ◌≡◌, refl, sym, ap, subst, ◌∙◌}
-use Rattle.std.specs.Prelude.{if◌then◌else◌, Some, None}
+use Rattle.std.proofs.Common.{◌≡◌, refl, sym, subst}
+use Rattle.std.specs.Prelude.{Some, None}
 use Rattle.ray_action.specs.Memory.{Location, StructureAt}
 use Rattle.ray_memory.specs.State.{StateValue, memory_of}
 use Rattle.ray_memory.specs.contracts.state.State.{the_view}
@@ -20,6 +20,6 @@ returns-clause-ok c =
     on-ok c.insert_structure.result (Becomes c.args.id (Some made) c.self.inside.structures.entries c.insert_structure.new.structures.entries)
     ((l : Location) → memory_of new l ≡ put (MakeStructure c.args.id c.args.form) (Gives Nothing) (memory_of c.args.self.now) l)
     (λ becomes.
-        subst (λ (s : StateValue). (l : Location) → memory_of new l ≡ put (MakeStructure c.args.id c.args.form) (Gives Nothing) (memory_of s) l) c.self.view_is
-        (memory-made_structure (the_view c.self.inside) new c.args.id c.args.form c.self.invariant none becomes c.in_ok-make_room_for.ensures.ok.same refl))
+    subst (λ (s : StateValue). (l : Location) → memory_of new l ≡ put (MakeStructure c.args.id c.args.form) (Gives Nothing) (memory_of s) l) c.self.view_is
+    (memory-made_structure (the_view c.self.inside) new c.args.id c.args.form c.self.invariant none becomes c.in_ok-make_room_for.ensures.ok.same refl))
     c.insert_structure.ensures.ok

@@ -1,5 +1,5 @@
-use Rattle.std.proofs.Common.{ℕ, List, [], ◌≡◌, sym, ap, subst, ◌∙◌}
-use Rattle.std.specs.Prelude.{IsSome, unwrap_or, Vec}
+use Rattle.std.proofs.Common.{[], ◌≡◌, sym, ap, subst, ◌∙◌}
+use Rattle.std.specs.Prelude.{IsSome, unwrap_or}
 use Rattle.ray_rules.specs.declared.byte_range.ByteRange.{ByteRange}
 use Rattle.ray_rules.specs.Ranges.{range}
 use Rattle.ray_action.specs.Memory.{bytes_at}

@@ -1,0 +1,107 @@
+//! The program `ray_bench_builds`: builds structures and trees over a made-up field a given number
+//! of times, by its words, so that it can be timed from outside. `ray_bench_builds bottom 10` builds
+//! ten times a bottom structure of 524,288 triangles with 32-bit indices, `ray_bench_builds tree 10`
+//! as often a tree over their cells' boxes, and `ray_bench_builds top 10` a top structure of 65,536
+//! instances. Each prints how often it built, of how many, and how many of them are active, or how
+//! many leaves there are. Without words it does a little of each. Other words give the line
+//! `bad-words` and status 3.
+//!
+//! What is timed are the public calls of ray_bottom, ray_top and ray_tree; what these do is their
+//! contracts' to say. It stands on them and on nothing of the program.
+#![tactic(auto)]
+
+mod bench_error;
+mod field;
+mod size;
+mod structures;
+
+use crate::bench_error::BenchError;
+use crate::field::Field;
+use crate::size::Size;
+use crate::structures::{bottom, boxes, instances, top, tree};
+use std::env;
+use std::process::ExitCode;
+use std::rt::Env;
+use std::thread::Threads;
+
+fn main(rt: HostRuntime) -> ExitCode {
+    match run(&rt) {
+        Ok(()) => ExitCode::SUCCESS,
+        Err(error) => {
+            // The status tells of a failed write, too.
+            let _ = println!(rt; "{error}");
+            ExitCode::from(error.status())
+        }
+    }
+}
+
+// What the words ask for.
+fn run<R: Env + AllocGlobal + Print + Threads + Sync>(rt: &R) -> Result<(), BenchError> {
+    let words: Vec<String> = env::args(rt)?.skip(1).collect(rt.alloc())?;
+    match words.as_slice() {
+        [] => {
+            report_bottoms(rt, Size::Little, 1)?;
+            report_tops(rt, Size::Little, 1)?;
+            report_trees(rt, Size::Little, 1)
+        }
+        [work, times] => {
+            let Ok(times) = times.as_str().parse::<u32>() else {
+                return Err(BenchError::BadWords);
+            };
+            match work.as_str() {
+                "bottom" => report_bottoms(rt, Size::Large, times),
+                "top" => report_tops(rt, Size::Large, times),
+                "tree" => report_trees(rt, Size::Large, times),
+                _ => Err(BenchError::BadWords),
+            }
+        }
+        _ => Err(BenchError::BadWords),
+    }
+}
+
+// Builds bottom structures, and prints of how many triangles the last is, and how many are active.
+fn report_bottoms<R: AllocGlobal + Print + Threads + Sync>(
+    rt: &R,
+    size: Size,
+    times: u32,
+) -> Result<(), BenchError> {
+    let field = Field::new(rt.alloc(), size)?;
+    let mut total = 0;
+    let mut active = 0;
+    for _ in 0..times {
+        let built = bottom(rt, &field)?;
+        total = built.total();
+        active = built.active();
+    }
+    println!(rt; "bottom {times} triangles {total} active {active}")?;
+    Ok(())
+}
+
+// Builds top structures, and prints of how many instances the last is, and how many are active.
+fn report_tops<R: AllocGlobal + Print + Threads + Sync>(
+    rt: &R,
+    size: Size,
+    times: u32,
+) -> Result<(), BenchError> {
+    let records = instances(rt.alloc(), size)?;
+    let mut total = 0;
+    let mut active = 0;
+    for _ in 0..times {
+        let built = top(rt, size, records.as_slice())?;
+        total = built.len();
+        active = built.active();
+    }
+    println!(rt; "top {times} instances {total} active {active}")?;
+    Ok(())
+}
+
+// Builds trees, and prints over how many items the last is, and how many leaves it has.
+fn report_trees<R: AllocGlobal + Print>(rt: &R, size: Size, times: u32) -> Result<(), BenchError> {
+    let items = boxes(rt.alloc(), size)?;
+    let mut leaves = 0;
+    for _ in 0..times {
+        leaves = tree(rt.alloc(), items.as_slice())?.leaves();
+    }
+    println!(rt; "tree {times} items {} leaves {leaves}", items.len())?;
+    Ok(())
+}

@@ -1,0 +1,95 @@
+ghost use Rattle.std.specs.Prelude.{◌≤◌};
+
+use crate::field::Field;
+use crate::size::Size;
+use ray_bottom::{Bottom, Builder, TriangleInfo};
+use ray_bytes::{Format, IndexView, InstanceView, VertexView};
+use ray_flags::BuildFlags;
+use ray_geom::{Box3, Vec3};
+use ray_primitives::BuildFault;
+use ray_top::{Top, Used};
+use ray_tree::{Tree, build_median};
+use std::alloc::{AllocError, Global};
+use std::thread::Threads;
+
+// How many items a tree has at most.
+const MOST_ITEMS: usize = 1 << 20;
+
+/// The bottom structure of a field.
+#[inline(never)]
+pub fn bottom<R: AllocGlobal + Threads + Sync>(
+    rt: &R,
+    field: &Field,
+) -> Result<Bottom, BuildFault> {
+    let side = field.size().side();
+    let info = TriangleInfo {
+        opaque: true,
+        format: Format::S32x3,
+        index_size: 4,
+        count: 2 * side * side,
+        first_vertex: 0,
+        max_vertex: (side + 1) * (side + 1) - 1,
+    };
+    let vertices = VertexView::new(field.vertices(), 0, 12, Format::S32x3);
+    let indices = IndexView::new(field.indices(), 0, true);
+    let mut builder = Builder::new(rt.alloc(), BuildFlags(0));
+    builder.triangles(&info, vertices, Some(indices), None)?;
+    Ok(builder.finish(rt)?)
+}
+
+/// The records of as many instances of the structure 0 as a size has, with identity transforms.
+pub fn instances(alloc: Global, size: Size) -> Result<Vec<u8>, AllocError> {
+    let mut bytes = Vec::new(alloc);
+    for _ in 0..size.instances() {
+        for word in [1, 0, 0, 0, 0, 1, 0, 0, 0, 0, 1, 0, u32::MAX, 0, 256, 0] {
+            bytes.extend_from_slice(&word.to_le_bytes())?;
+        }
+    }
+    Ok(bytes)
+}
+
+/// The top structure of these records.
+#[inline(never)]
+pub fn top<R: AllocGlobal + Threads + Sync>(
+    rt: &R,
+    size: Size,
+    records: &[u8],
+) -> Result<Top, BuildFault> {
+    let used = [Used {
+        id: 0,
+        bounds: Box3::new(Vec3 { x: 0, y: 0, z: 0 }, Vec3 { x: 8, y: 8, z: 6 }),
+    }];
+    let view = InstanceView::new(records, 0);
+    Top::build(rt, rt.alloc(), BuildFlags(0), view, size.instances(), &used)
+}
+
+/// The boxes of the triangles of a field, two a cell.
+pub fn boxes(alloc: Global, size: Size) -> Result<Vec<Option<Box3>>, AllocError> {
+    let mut items = Vec::new(alloc);
+    let side = size.side();
+    for j in 0..side {
+        for i in 0..side {
+            items.push(cell(i, j))?;
+            items.push(cell(i, j))?;
+        }
+    }
+    Ok(items)
+}
+
+// The box of a cell.
+fn cell(i: u32, j: u32) -> Option<Box3> {
+    let (x, y) = (8 * i64::from(i), 8 * i64::from(j));
+    let lo = Vec3 { x, y, z: 0 };
+    let hi = Vec3 {
+        x: x + 8,
+        y: y + 8,
+        z: 6,
+    };
+    Box3::new(lo, hi)
+}
+
+/// The tree over the first boxes, of at most 2^20.
+#[inline(never)]
+pub fn tree(alloc: Global, items: &[Option<Box3>]) -> Result<Tree, AllocError> {
+    build_median(alloc, &items[..items.len().min(MOST_ITEMS)])
+}
