@@ -1,0 +1,4 @@
+pub mod Fetched
+pub mod Laws
+pub mod Pieces
+pub mod Storing
