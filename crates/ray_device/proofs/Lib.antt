@@ -1,2 +1,5 @@
 pub mod Commands
+pub mod Hits
+pub mod Numbers
+pub mod Standing
 pub mod Storable

@@ -1,4 +1,6 @@
 pub mod Fetched
+pub mod Fetching
 pub mod Laws
 pub mod Pieces
 pub mod Storing
+pub mod Tracing

@@ -10,13 +10,17 @@
 //! command does), and on ray_bottom and ray_top (what structures hold).
 #![tactic(auto)]
 
+mod copying;
+mod fetch_fault;
 mod laws;
 mod output;
 mod piece;
 mod piece_out;
 mod parts;
 mod storing;
+mod tracing;
 
+pub use crate::fetch_fault::FetchFault;
 pub use crate::laws::{outputs_are_storable, parts_are_actions};
 pub use crate::output::Output;
 pub use crate::piece::Piece;

@@ -1,0 +1,26 @@
+-- What a fetch comes to. (Own.)
+use Rattle.std.specs.Prelude.{ℕ, ◌≡◌, Option, Result, Ok, Err, unwrap_or}
+use Rattle.std.specs.Option.{option_map_or}
+use Rattle.ray_cmd.specs.declared.asked.Asked.{Asked}
+use Rattle.ray_action.specs.Memory.{Memory, Contents}
+use Rattle.ray_action.specs.Outcomes.{Outcome, Gives, Breaks, Undefined, Holds, number_of}
+use Rattle.ray_action.specs.Seeing.{see_structure}
+use Rattle.ray_device.specs.declared.output.Output.{Output}
+use Rattle.ray_device.specs.declared.fetch_fault.FetchFault.{FetchFault}
+use Rattle.ray_device.specs.declared.fetch_fault.FetchFault.TheVariants.{Data, NoMemory}
+use Rattle.ray_device.specs.Fetched.{given}
+
+-- a fetch comes to this outcome: it gives the output, or tells the data rule that is broken, and where. Want
+-- of memory is free
+abbrev pub IsFetched : Outcome → Result Output FetchFault → Type 0
+IsFetched outcome (Ok output) = outcome ≡ Gives (given output)
+IsFetched outcome (Err (Data rule place)) = outcome ≡ Breaks (record { rule = rule; place = place })
+IsFetched outcome (Err NoMemory) = Unit {0}
+
+-- what a clone of contents gives
+abbrev pub clone_outcome : Option Contents → Outcome
+clone_outcome contents = option_map_or (λ c. Gives (Holds c)) contents Undefined
+
+-- the number that is asked of a structure, 0 where it has none
+abbrev pub number_told : Asked → Memory → ℕ → ℕ
+number_told what memory id = unwrap_or (number_of what (see_structure memory id)) 0

@@ -1,0 +1,165 @@
+ghost use Rattle.std.specs.Prelude.{◌≡◌, ◌++◌, ◌+◌, ◌<◌, ◌≤◌, ◌^◌, length, OnOk};
+ghost use Rattle.ray_bytes.specs.Hits.{hit_bytes};
+ghost use Rattle.ray_bytes.specs.Records.{ray_of};
+ghost use Rattle.ray_flags.specs.Admission.{AsksBoth};
+ghost use Rattle.ray_walk.specs.Standing.{AreStanding, structures_in};
+ghost use Rattle.ray_action.specs.Outcomes.{ray_within};
+ghost use Rattle.ray_device.specs.Fetching.{IsFetched};
+ghost use Rattle.ray_memory.specs.State.{memory_of};
+ghost use Rattle.ray_device.specs.Tracing.{ray_in, hit_by, rays_outcome, IsHit, IsTraceable, traced};
+
+use crate::fetch_fault::FetchFault;
+use crate::output::Output;
+use ray_bottom::Bottoms;
+use ray_bytes::{DataRule, HitRecord, RayRecord, RayView};
+use ray_cmd::Place;
+use ray_flags::RayFlags;
+use ray_geom::{Ray, Steps, Vec3};
+use ray_memory::State;
+use ray_query::record_of;
+use ray_rules::ByteRange;
+use ray_script::{BadScript, RawRule, Script, script_of};
+use ray_top::Top;
+use ray_walk::trace_plain;
+use std::alloc::{AllocError as NoMemory, Global};
+use std::sync::ledger::Ledger;
+
+// The hits of `count` rays that stand in these bytes, of which the first has a number in its trace.
+#[tactic(auto, using(crate::proofs::Hits::rays_none, crate::proofs::Hits::rays_more, crate::proofs::Hits::rays_told))]
+pub(crate) fn hits<L: Ledger>(
+    alloc: Global,
+    top: &Top,
+    bottoms: &Bottoms,
+    script: &Script,
+    flags: RayFlags,
+    mask: u8,
+    rays: &[u8],
+    first: u32,
+    count: u32,
+    steps: &mut Steps<L>,
+) -> Result<Output, FetchFault>
+    requires standing { AreStanding top.now (structures_in bottoms.now) }
+    requires flags_agree { ¬ AsksBoth flags }
+    requires numbers { first + count < 2 ^ 32 }
+    ensures value { IsFetched (rays_outcome top.now (structures_in bottoms.now) script.now flags mask
+        rays.now first count) result }
+    ensures rising { steps.old ≤ steps.new }
+{
+    let mut out = Vec::new(alloc);
+    for k in 0..count {
+        let ray = ray(rays, k);
+        match hit(alloc, top, bottoms, script, flags, mask, first + k, ray, steps) {
+            Ok(hit) => push(&mut out, &hit)?,
+            Err(fault) => return Err(fault),
+        }
+    }
+    Ok(Output::Bytes(out))
+}
+
+// What the rays of a piece of a trace give: those of a range, through a top structure.
+pub(crate) fn rays<L: Ledger>(
+    alloc: Global,
+    state: &State,
+    top: u32,
+    from: ByteRange,
+    first: u32,
+    count: u32,
+    flags: RayFlags,
+    mask: u8,
+    rules: &[RawRule],
+    steps: &mut Steps<L>,
+) -> Result<Output, FetchFault>
+    requires ready { IsTraceable (memory_of state.now) top from flags rules.now }
+    requires numbers { first + count < 2 ^ 32 }
+    ensures value { IsFetched (traced (memory_of state.now) top from first count flags mask rules.now)
+        result }
+    ensures rising { steps.old ≤ steps.new }
+{
+    match script_of(alloc, rules) {
+        Ok(script) => by_script(alloc, state, top, from, first, count, flags, mask, &script, steps),
+        Err(BadScript::NoMemory) => Err(FetchFault::NoMemory),
+        Err(BadScript::At(_)) => unreachable!("the rules are a script"),
+    }
+}
+
+// The same by a script.
+fn by_script<L: Ledger>(
+    alloc: Global,
+    state: &State,
+    top: u32,
+    from: ByteRange,
+    first: u32,
+    count: u32,
+    flags: RayFlags,
+    mask: u8,
+    script: &Script,
+    steps: &mut Steps<L>,
+) -> Result<Output, FetchFault>
+    requires ready { IsTraceable (memory_of state.now) top from flags script.now }
+    requires numbers { first + count < 2 ^ 32 }
+    ensures value { IsFetched (traced (memory_of state.now) top from first count flags mask
+        script.now) result }
+    ensures rising { steps.old ≤ steps.new }
+{
+    match (state.bytes(from), state.top(top)) {
+        (Some(rays), Some(top)) => {
+            let bottoms = state.bottoms();
+            hits(alloc, top, bottoms, script, flags, mask, rays, first, count, steps)
+        }
+        _ => unreachable!("the rays and the top structure are there"),
+    }
+}
+
+// The hit of a ray of a number, which is within the limits if it is there.
+fn hit<L: Ledger>(
+    alloc: Global,
+    top: &Top,
+    bottoms: &Bottoms,
+    script: &Script,
+    flags: RayFlags,
+    mask: u8,
+    number: u32,
+    ray: Option<Ray>,
+    steps: &mut Steps<L>,
+) -> Result<HitRecord, FetchFault>
+    requires standing { AreStanding top.now (structures_in bottoms.now) }
+    requires flags_agree { ¬ AsksBoth flags }
+    ensures value { IsHit (hit_by top.now (structures_in bottoms.now) script.now flags mask number
+        ray) result }
+    ensures rising { steps.old ≤ steps.new }
+{
+    match ray {
+        Some(ray) => Ok(record_of(trace_plain(
+            alloc, top, bottoms, &ray, number, flags, mask, script, steps,
+        )?)),
+        None => Err(FetchFault::Data(DataRule::X11, Place::Part(number))),
+    }
+}
+
+// Ray `k` of these bytes. None where it isn't whole, or breaks the limits.
+fn ray(rays: &[u8], k: u32) -> Option<Ray>
+    ensures { result ≡ ray_in rays.now k }
+{
+    within(RayView::new(rays, 0).get(k)?)
+}
+
+// The ray of a record. None where it breaks the limits.
+fn within(read: RayRecord) -> Option<Ray>
+    ensures { result ≡ ray_within read }
+{
+    Ray::new(
+        Vec3::from_words(read.origin),
+        Vec3::from_words(read.dir),
+        read.tmin,
+        read.tmax,
+    )
+}
+
+// Appends the bytes of a hit.
+fn push(out: &mut Vec<u8>, hit: &HitRecord) -> Result<(), NoMemory>
+    ensures { OnOk result (out.new.items ≡ out.old.items ++ hit_bytes hit.now) }
+{
+    let mut bytes = [0u8; HitRecord::SIZE];
+    hit.write(&mut bytes);
+    out.extend_from_slice(&bytes)
+}
