@@ -3,12 +3,13 @@ use Rattle.std.specs.Prelude.{◌≡◌, List, length, true}
 use Rattle.ray_cmd.specs.declared.command.Command.{Command}
 use Rattle.ray_rules.specs.Status.{Status}
 use Rattle.ray_action.specs.Memory.{Memory}
-use Rattle.ray_action.specs.Action.{Action}
+use Rattle.ray_action.specs.Action.{Action, Tracing, TraceRays}
 use Rattle.ray_action.specs.Outcomes.{Output, Gives, outcome_of}
 use Rattle.ray_action.specs.Pieces.{actions_of}
 use Rattle.ray_action.specs.Readiness.{IsReady}
 use Rattle.ray_device.specs.Pieces.{piece_count, is_device}
 use Rattle.ray_device.specs.Storing.{IsStorable}
+use Rattle.ray_device.specs.Tracing.{IsTraceable, traced}
 
 -- what an action gives where it is ready can be stored there
 abbrev pub OutputsAreStorable : Type 0
@@ -21,3 +22,13 @@ abbrev pub PartsAreActions : Type 0
 PartsAreActions =
     (rec : List Command) (z : Status) (command : Command)
     → is_device command ≡ true → length (actions_of rec z command) ≡ piece_count command
+
+-- what a trace gives where it is ready is told by the memory as it is: the structures that it names to be in
+-- use aren't asked for
+pub record IsFree (trace : Tracing) (memory : Memory) : Type 0 where
+  pub can : IsTraceable memory trace.top trace.rays trace.flags trace.script
+  pub same : outcome_of (TraceRays trace) memory
+      ≡ traced memory trace.top trace.rays trace.first trace.count trace.flags trace.mask trace.script
+
+abbrev pub TracesAreFree : Type 0
+TracesAreFree = (trace : Tracing) (memory : Memory) → IsReady (TraceRays trace) memory → IsFree trace memory

@@ -18,8 +18,9 @@ use ray_memory::State;
 use ray_rules::ByteRange;
 use std::alloc::{AllocError as NoMemory, Global};
 
-// The bytes of a range.
-pub(crate) fn bytes(alloc: Global, state: &State, from: ByteRange) -> Result<Output, FetchFault>
+/// What a copy of bytes gives: those of a range, which is there. Only want of memory fails.
+/// (vkCmdCopyBuffer)
+pub fn copied_bytes(alloc: Global, state: &State, from: ByteRange) -> Result<Output, FetchFault>
     requires { IsSome (bytes_at (memory_of state.now) from) }
     ensures { IsFetched (bytes_outcome (bytes_at (memory_of state.now) from)) result }
 {
@@ -29,8 +30,11 @@ pub(crate) fn bytes(alloc: Global, state: &State, from: ByteRange) -> Result<Out
     }
 }
 
-// What a copy of a structure gives.
-pub(crate) fn structure(
+/// What a copy of a structure gives: what the source holds. The destination is live and of the
+/// source's kind; the source of a compact copy is a bottom structure. `Data` comes exactly where a
+/// compact copy has a destination below the compacted size (X13), with the place `Whole`.
+/// (vkCmdCopyAccelerationStructureKHR)
+pub fn copied_structure(
     alloc: Global,
     state: &State,
     mode: CopyMode,
@@ -87,9 +91,11 @@ fn compacted(alloc: Global, bottom: &Bottom, size: u64) -> Result<Output, FetchF
     }
 }
 
-// The numbers that are asked of structures, each in 8 bytes.
+/// What is told of structures: the numbers that are asked of them, each in 8 bytes, little-endian.
+/// Each structure has the number. Only want of memory fails.
+/// (vkCmdWriteAccelerationStructuresPropertiesKHR)
 #[tactic(auto, using(crate::proofs::Numbers::told_numbers))]
-pub(crate) fn property(
+pub fn told_numbers(
     alloc: Global,
     state: &State,
     what: Asked,

@@ -8,8 +8,8 @@ ghost use Rattle.ray_device.specs.Pieces.{IsPiece, piece_action, piece_count};
 ghost use Rattle.ray_device.specs.Storing.{IsStorable, CanHold, CanStore, put_part, put_bytes, put_contents, put_property, property_range, hits_range};
 
 use crate::output::Output;
-use crate::piece_out::PieceOut;
 use crate::parts::RAYS_A_PIECE;
+use crate::piece_out::PieceOut;
 use ray_cmd::{Asked, Command, Recording, Spot};
 use ray_memory::State;
 use ray_rules::ByteRange;
@@ -101,11 +101,15 @@ fn store_property(state: &mut State, what: Asked, dst: Spot, structures: &[u32],
         (property_range dst structures.now) (given output) (memory_of state.old) l }
 {
     match what {
-        Asked::Compacted | Asked::Size => store_bytes(state, ByteRange {
-            buffer: dst.buffer,
-            from: u128::from(dst.offset),
-            size: 8 * structures.len() as u128,
-        }, output),
+        Asked::Compacted | Asked::Size => store_bytes(
+            state,
+            ByteRange {
+                buffer: dst.buffer,
+                from: u128::from(dst.offset),
+                size: 8 * structures.len() as u128,
+            },
+            output,
+        ),
         Asked::Serialized | Asked::Handles => {}
     }
 }

@@ -26,7 +26,7 @@ use std::sync::ledger::Ledger;
 
 // The hits of `count` rays that stand in these bytes, of which the first has a number in its trace.
 #[tactic(auto, using(crate::proofs::Hits::rays_none, crate::proofs::Hits::rays_more, crate::proofs::Hits::rays_told))]
-pub(crate) fn hits<L: Ledger>(
+fn hits<L: Ledger>(
     alloc: Global,
     top: &Top,
     bottoms: &Bottoms,
@@ -48,7 +48,17 @@ pub(crate) fn hits<L: Ledger>(
     let mut out = Vec::new(alloc);
     for k in 0..count {
         let ray = ray(rays, k);
-        match hit(alloc, top, bottoms, script, flags, mask, first + k, ray, steps) {
+        match hit(
+            alloc,
+            top,
+            bottoms,
+            script,
+            flags,
+            mask,
+            first + k,
+            ray,
+            steps,
+        ) {
             Ok(hit) => push(&mut out, &hit)?,
             Err(fault) => return Err(fault),
         }
@@ -56,8 +66,13 @@ pub(crate) fn hits<L: Ledger>(
     Ok(Output::Bytes(out))
 }
 
-// What the rays of a piece of a trace give: those of a range, through a top structure.
-pub(crate) fn rays<L: Ledger>(
+/// What rays of a trace give: the bytes of their hits, 80 each. `count` rays stand in the range, of
+/// which the first has the number `first` in its trace. They and the top structure are there, with
+/// the structures of its active instances as they were when it was built or last updated; the rules
+/// are a script; and `flags` doesn't ask that everything counts as opaque and that nothing does.
+/// `Data` comes exactly where a ray is beyond the limits (X11), and tells the first: its number in
+/// the trace. Each primitive is tested, a step each. (OpRayQueryInitializeKHR and the steps after it)
+pub fn traced_rays<L: Ledger>(
     alloc: Global,
     state: &State,
     top: u32,
@@ -76,7 +91,9 @@ pub(crate) fn rays<L: Ledger>(
     ensures rising { steps.old ≤ steps.new }
 {
     match script_of(alloc, rules) {
-        Ok(script) => by_script(alloc, state, top, from, first, count, flags, mask, &script, steps),
+        Ok(script) => by_script(
+            alloc, state, top, from, first, count, flags, mask, &script, steps,
+        ),
         Err(BadScript::NoMemory) => Err(FetchFault::NoMemory),
         Err(BadScript::At(_)) => unreachable!("the rules are a script"),
     }
@@ -104,7 +121,9 @@ fn by_script<L: Ledger>(
     match (state.bytes(from), state.top(top)) {
         (Some(rays), Some(top)) => {
             let bottoms = state.bottoms();
-            hits(alloc, top, bottoms, script, flags, mask, rays, first, count, steps)
+            hits(
+                alloc, top, bottoms, script, flags, mask, rays, first, count, steps,
+            )
         }
         _ => unreachable!("the rays and the top structure are there"),
     }
