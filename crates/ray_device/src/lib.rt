@@ -20,6 +20,8 @@ mod parts;
 mod piece;
 mod piece_out;
 mod storing;
+#[cfg(test)]
+mod tests;
 mod tracing;
 
 pub use crate::copying::{copied_bytes, copied_structure, told_numbers};
