@@ -1,5 +1,5 @@
 -- The hits of rays, one after the other.
-use Rattle.std.proofs.Common.{ℕ, zero, suc, ◌≡◌, ◌+◌, ◌<◌, ◌≤◌, ◌++◌, List, [], ◌∷◌, Option, Some, None, Result, Ok, Err, refl, ap, sym, subst, ◌∙◌, arith}
+use Rattle.std.proofs.Common.{ℕ, ◌≡◌, ◌+◌, ◌<◌, ◌++◌, List, [], Option, Some, None, Result, Ok, Err, refl, ap, sym, ◌∙◌}
 use Rattle.std.specs.Prelude.{SomeIff}
 use Rattle.std.specs.List.{flat_map}
 use Rattle.std.proofs.lemmas.List.{flat_map_more}
@@ -11,7 +11,7 @@ use Rattle.ray_contents.proofs.Gathered.{gathered_none, gathered_more, gathered_
 use Rattle.ray_script.specs.declared.raw_rule.RawRule.{RawRule}
 use Rattle.ray_top.specs.Contents.{TopValue}
 use Rattle.ray_walk.specs.Candidates.{Structures}
-use Rattle.ray_action.specs.Outcomes.{Fault, Outcome, Gives, Breaks, Bytes, hits_outcome, recorded_ray, ray_within}
+use Rattle.ray_action.specs.Outcomes.{Fault, Gives, Breaks, Bytes, hits_outcome, recorded_ray, ray_within}
 use Rattle.ray_device.specs.declared.fetch_fault.FetchFault.{FetchFault}
 use Rattle.ray_device.specs.declared.fetch_fault.FetchFault.TheVariants.{Data, NoMemory}
 use Rattle.ray_device.specs.Fetching.{IsFetched}

@@ -1,11 +1,11 @@
 -- The numbers that are asked of structures, where each of them has one.
-use Rattle.std.proofs.Common.{ℕ, ◌≡◌, List, [], ◌∷◌, Option, Some, None, refl, ap, ◌∙◌}
+use Rattle.std.proofs.Common.{ℕ, ◌≡◌, List, [], ◌∷◌, Option, Some, None, refl, ap}
 use Rattle.std.specs.Prelude.{map, IsSome, unwrap_or}
 use Rattle.std.specs.List.{flat_map}
 use Rattle.byteorder.specs.Endian.{little_bytes}
 use Rattle.ray_cmd.specs.declared.asked.Asked.{Asked}
 use Rattle.ray_action.specs.Memory.{Memory, number_before}
-use Rattle.ray_action.specs.Outcomes.{Outcome, Gives, Bytes, number_of, numbers_of, property_outcome}
+use Rattle.ray_action.specs.Outcomes.{Gives, Bytes, number_of, numbers_of, property_outcome}
 use Rattle.ray_action.specs.Seeing.{see_structure}
 use Rattle.ray_device.specs.Fetching.{number_told}
 

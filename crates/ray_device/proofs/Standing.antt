@@ -1,7 +1,7 @@
 -- A trace of the memory as it is, and as its action sees it: the same, since the structures of active
 -- instances are those that are named to be in use.
-use Rattle.std.proofs.Common.{ℕ, ◌≡◌, ◌+◌, List, Option, Some, None, Result, Ok, Err, Bool, true, false, refl, ap, sym, subst, ◌∙◌, get_or}
-use Rattle.std.specs.Prelude.{IfSome, IsSome, option_and_then, if◌then◌else◌}
+use Rattle.std.proofs.Common.{ℕ, ◌≡◌, ◌+◌, List, Option, Some, None, Ok, Bool, true, false, refl, ap, sym, subst, ◌∙◌, get_or}
+use Rattle.std.specs.Prelude.{IfSome, option_and_then, if◌then◌else◌}
 use Rattle.ray_geom.specs.Scene.{RayValue}
 use Rattle.ray_bytes.specs.Hits.{hit_bytes}
 use Rattle.ray_script.specs.Meaning.{script_decision}
@@ -18,12 +18,11 @@ use Rattle.ray_walk.proofs.Agreeing.{candidates-agree}
 use Rattle.ray_bottom.specs.Contents as bottom_specs
 use Rattle.ray_action.specs.Memory.{Memory, Contents, ContentsAt, as_bottom, as_top, bytes_at}
 use Rattle.ray_action.specs.Areas.{has}
-use Rattle.ray_action.specs.Action.{Tracing, TraceRays}
-use Rattle.ray_action.specs.Outcomes.{Fault, bottoms_in, hit_of_ray, hit_at, hits_outcome, trace_outcome, outcome_of}
-use Rattle.ray_action.specs.Readiness.{IsReady}
+use Rattle.ray_action.specs.Action.{Tracing}
+use Rattle.ray_action.specs.Outcomes.{bottoms_in, hit_of_ray, hit_at, hits_outcome, trace_outcome}
 use Rattle.ray_action.specs.Seeing.{see_structures}
 use Rattle.ray_device.specs.Laws.{TracesAreFree}
-use Rattle.ray_device.specs.Tracing.{bottoms_of, hit_by, hit_in, ray_in, rays_outcome, IsTraceable, traced, traced_through}
+use Rattle.ray_device.specs.Tracing.{bottoms_of, hit_by, ray_in, rays_outcome, traced_through}
 
 -- what is seen of an id is what stands there, where anything is seen
 seen-at : (b : Bool) (contents : Option Contents) (bottom : bottom_specs.ContentsValue) → option_and_then as_bottom (if b then contents else None) ≡ Some bottom

@@ -1,7 +1,6 @@
 -- What is given where an action is ready can be stored; and a device command has as many pieces as actions.
-use Rattle.std.proofs.Common.{ℕ, zero, suc, ◌≡◌, ◌+◌, List, [], ◌∷◌, length, Option, Some, None, Result, Ok, Err, Bool, true, false, refl, ap, sym, subst, ◌∙◌, arith}
+use Rattle.std.proofs.Common.{ℕ, suc, ◌≡◌, ◌+◌, List, [], ◌∷◌, length, Option, Some, None, Result, Ok, Err, Bool, true, false, refl, ap, sym, subst}
 use Rattle.std.specs.Prelude.{map, option_and_then, nat_lt, if◌then◌else◌}
-use Rattle.std.specs.List.{range_with_len}
 use Rattle.std.specs.Option.{option_map_or}
 use Rattle.std.proofs.lemmas.List.{length-map}
 use Rattle.std.proofs.lemmas.List.FromFn.{length-map-range_with_len}
@@ -11,7 +10,6 @@ use Rattle.ray_bytes.specs.declared.data_fault.DataFault.{DataFault}
 use Rattle.ray_bottom.specs.Contents as bottoms
 use Rattle.ray_bottom.specs.Builders.{BuilderValue}
 use Rattle.ray_top.specs.Contents as tops
-use Rattle.ray_cmd.specs.declared.command.Command.{Command}
 use Rattle.ray_cmd.specs.declared.command.Command.TheVariants as commands
 use Rattle.ray_cmd.specs.declared.copy_mode.CopyMode.{CopyMode}
 use Rattle.ray_cmd.specs.declared.copy_mode.CopyMode.TheVariants as copies
@@ -22,11 +20,10 @@ use Rattle.ray_action.specs.declared.form.Form.{Form}
 use Rattle.ray_action.specs.Memory.{Memory, Contents, Bottom, Top, StructureAt, ContentsAt, kind_of, as_bottom, as_top}
 use Rattle.ray_action.specs.Action.{MakeBuffer, MakeStructure, DestroyBuffer, DestroyStructure, ShowSizes, ShowBytes, UpdateBytes, FillBytes, CopyBytes, BuildBottom, UpdateBottom, BuildTop, UpdateTop, CopyStructure, TellProperty, TraceRays, Rest, Unbuilt}
 use Rattle.ray_action.specs.Building.{add_all, new_builder, update_builder, all_used, top_of, top_again}
-use Rattle.ray_action.specs.Outcomes.{Output, Fault, Holds, compacted_of, Outcome, Gives, Breaks, Undefined, bottom_outcome, top_outcome, of_bottom, of_top, copy_outcome, compact_copy}
-use Rattle.ray_action.specs.Seeing.{see, see_geometry, see_structures}
+use Rattle.ray_action.specs.Outcomes.{Output, Fault, Holds, compacted_of, Gives, Breaks, Undefined, bottom_outcome, top_outcome, copy_outcome}
+use Rattle.ray_action.specs.Seeing.{see_geometry, see_structures}
 use Rattle.ray_action.specs.Pieces.{info_actions, region_action, rays_action, trace_pieces, actions_of}
 use Rattle.ray_action.specs.Readiness.{IsMade}
-use Rattle.ray_device.specs.Pieces.{piece_count, is_device}
 use Rattle.ray_device.specs.Storing.{CanHold}
 use Rattle.ray_device.specs.Laws.{OutputsAreStorable, PartsAreActions}
 

@@ -1,6 +1,5 @@
 -- The store of a piece's output, as its command alone tells it. (Own.)
 use Rattle.std.specs.Prelude.{ℕ, ◌+◌, ◌*◌, List, length, slice_get, Option, Some, None, if◌then◌else◌}
-use Rattle.std.specs.Option.{option_map_or}
 use Rattle.ray_cmd.specs.declared.asked.Asked.{Asked}
 use Rattle.ray_cmd.specs.declared.asked.Asked.TheVariants as asked
 use Rattle.ray_cmd.specs.declared.command.Command.{Command}
@@ -11,7 +10,7 @@ use Rattle.ray_cmd.specs.declared.spot.Spot.{Spot}
 use Rattle.ray_rules.specs.declared.byte_range.ByteRange.{ByteRange}
 use Rattle.ray_rules.specs.Access.{rays_of_piece}
 use Rattle.ray_rules.specs.Ranges.{range}
-use Rattle.ray_action.specs.Memory.{Location, Memory, StructureAt, kind_of}
+use Rattle.ray_action.specs.Memory.{Memory, StructureAt, kind_of}
 use Rattle.ray_action.specs.Areas.{is_in_range, is_contents_of}
 use Rattle.ray_action.specs.Action.{Action, MakeBuffer, MakeStructure, DestroyBuffer, DestroyStructure, ShowSizes, ShowBytes, UpdateBytes, FillBytes, CopyBytes, BuildBottom, UpdateBottom, BuildTop, UpdateTop, CopyStructure, TellProperty, TraceRays, Rest, Unbuilt}
 use Rattle.ray_action.specs.Outcomes.{Output, Nothing, Bytes, Holds}

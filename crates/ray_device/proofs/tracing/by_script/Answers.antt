@@ -1,4 +1,4 @@
-use Rattle.std.proofs.Common.{◌≡◌, subst, ◌∙◌}
+use Rattle.std.proofs.Common.{subst, ◌∙◌}
 use Rattle.ray_action.specs.Outcomes.{Outcome}
 use Rattle.ray_memory.specs.State.{memory_of}
 use Rattle.ray_device.specs.Fetching.{IsFetched}

@@ -1,4 +1,4 @@
-use Rattle.std.proofs.Common.{◌≡◌, ◌<◌, ◌+◌, Option, Err, subst, arith}
+use Rattle.std.proofs.Common.{◌<◌, ◌+◌, Option, Err, subst, arith}
 use Rattle.std.proofs.lemmas.Bool.Decides.{nat_tests}
 use Rattle.ray_geom.specs.Scene.{RayValue}
 use Rattle.ray_walk.specs.Standing.{structures_in}

@@ -1,7 +1,7 @@
 use Rattle.std.proofs.Common.{◌≡◌, ◌∙◌, ap}
 use Rattle.ray_geom.specs.Scene.{RayValue, ray_value}
 use Rattle.ray_geom.specs.Decided.{where_so, ray_decided}
-use Rattle.ray_action.specs.Outcomes.{recorded_ray, ray_within}
+use Rattle.ray_action.specs.Outcomes.{recorded_ray}
 use Rattle.ray_device.proofs.Hits.{where_so-SomeIff, within_is}
 use Rattle.ray_device.proofs.tracing.within.Goals as goal
 
