@@ -1,5 +1,6 @@
 pub mod Commands
 pub mod Hits
+pub mod Inputs
 pub mod Numbers
 pub mod Standing
 pub mod Storable

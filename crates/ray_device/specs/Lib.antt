@@ -2,5 +2,6 @@ pub mod Fetched
 pub mod Fetching
 pub mod Laws
 pub mod Pieces
+pub mod Ranges
 pub mod Storing
 pub mod Tracing

@@ -19,6 +19,7 @@ mod output;
 mod parts;
 mod piece;
 mod piece_out;
+mod ranges;
 mod storing;
 #[cfg(test)]
 mod tests;
