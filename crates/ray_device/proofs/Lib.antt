@@ -4,3 +4,4 @@ pub mod Inputs
 pub mod Numbers
 pub mod Standing
 pub mod Storable
+pub mod Used

@@ -4,4 +4,5 @@ pub mod Laws
 pub mod Pieces
 pub mod Ranges
 pub mod Storing
+pub mod Tops
 pub mod Tracing

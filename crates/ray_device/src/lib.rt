@@ -23,6 +23,7 @@ mod ranges;
 mod storing;
 #[cfg(test)]
 mod tests;
+mod tops;
 mod tracing;
 
 pub use crate::copying::{copied_bytes, copied_structure, told_numbers};
