@@ -1,8 +1,9 @@
 //! What the pieces of device commands do to the device's memory, in code: how many a command has,
-//! what each does (`piece_action` of `specs/Pieces`), what copies, properties and rays give, and the
-//! store of an output. A piece is fetched at one moment, when all that it reads is read, and stored
-//! at a later one; between them its output is a [`PieceOut`]. The fetch of a piece, which chooses
-//! among what gives outputs, and what builds give come with the work that needs them.
+//! what each does (`piece_action` of `specs/Pieces`), what copies, properties, rays and top
+//! structures give, and the store of an output. A piece is fetched at one moment, when all that it
+//! reads is read, and stored at a later one; between them its output is a [`PieceOut`]. The fetch of
+//! a piece, which chooses among what gives outputs, and what bottom structures give come with the
+//! work that needs them.
 //!
 //! Contracts speak of the actions of ray_action and of the memory that a [`ray_memory::State`]
 //! holds.
@@ -33,5 +34,7 @@ pub use crate::output::Output;
 pub use crate::parts::pieces;
 pub use crate::piece::Piece;
 pub use crate::piece_out::PieceOut;
+pub use crate::ranges::ranges_read;
 pub use crate::storing::store;
+pub use crate::tops::{built_top, bytes_read, structures_used, updated_top};
 pub use crate::tracing::traced_rays;

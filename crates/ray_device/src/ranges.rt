@@ -6,10 +6,11 @@ use ray_bytes::Format;
 use ray_cmd::{Geometry, Index, Spot};
 use ray_rules::ByteRange;
 
-// What a geometry reads: vertices, boxes or instances; indices; the transform. The size is that of
-// the buffer of vertices, boxes or instances. A geometry of no primitives reads nothing.
+/// What a geometry reads: vertices, boxes or instances; indices; the transform. The size is that of
+/// the buffer of vertices, boxes or instances. A geometry of no primitives reads nothing.
+/// (VkAccelerationStructureBuildRangeInfoKHR)
 #[tactic(auto, unfolding(crate::specs::Ranges::ranges_with))]
-pub(crate) fn ranges(size: u64, geometry: &Geometry) -> [Option<ByteRange>; 3]
+pub fn ranges_read(size: u64, geometry: &Geometry) -> [Option<ByteRange>; 3]
     ensures { result ≡ ranges_with size geometry.now }
 {
     match *geometry {
@@ -59,6 +60,7 @@ pub(crate) fn ranges(size: u64, geometry: &Geometry) -> [Option<ByteRange>; 3]
         } => [instances(content, count, primitive_offset), None, None],
     }
 }
+
 // The boxes of a geometry, where it has any.
 fn boxes(content: Spot, stride: u32, count: u32, primitive_offset: u32) -> Option<ByteRange>
     ensures value { result ≡ (if count == 0 then None else Some (boxes_range content stride count primitive_offset)) }
@@ -152,11 +154,14 @@ fn vertices_read(
         primitive_offset first_vertex }
 {
     match index {
-        Some(_) => cut_at(size, ByteRange {
-            buffer: vertex.buffer,
-            from: u128::from(vertex.offset) + u128::from(first_vertex) * u128::from(stride),
-            size: u128::from(max_vertex) * u128::from(stride) + u128::from(format.size()),
-        }),
+        Some(_) => cut_at(
+            size,
+            ByteRange {
+                buffer: vertex.buffer,
+                from: u128::from(vertex.offset) + u128::from(first_vertex) * u128::from(stride),
+                size: u128::from(max_vertex) * u128::from(stride) + u128::from(format.size()),
+            },
+        ),
         None => vertices(
             vertex,
             stride,

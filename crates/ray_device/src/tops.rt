@@ -20,8 +20,9 @@ use ray_top::{Top, Used};
 use std::alloc::{AllocError as NoMemory, Global};
 use std::thread::Threads;
 
-// The structures of these ids, with their bounds.
-fn used(alloc: Global, state: &State, ids: &[u32]) -> Result<Vec<Used>, NoMemory>
+/// The structures of these ids that instances may refer to, with their bounds as they are. (Own: the
+/// structures are named beside the build.)
+pub fn structures_used(alloc: Global, state: &State, ids: &[u32]) -> Result<Vec<Used>, NoMemory>
     ensures { IfOk result (λ v. v.items ≡ map (used_now (memory_of state.now)) ids.now) }
 {
     ids.iter().map(|id| used_at(state, *id)).collect(alloc)
@@ -44,8 +45,8 @@ fn bounds(state: &State, id: u32) -> Option<Box3>
     state.bottom(id)?.bounds()
 }
 
-// The bytes of a range that is read; none of one that isn't there.
-pub(crate) fn bytes_of(state: &State, range: Option<ByteRange>) -> &[u8]
+/// The bytes of a range that is read; none of one that isn't there, or of which a byte is missing.
+pub fn bytes_read(state: &State, range: Option<ByteRange>) -> &[u8]
     ensures { result.now ≡ bytes_now (memory_of state.now) range }
 {
     match range {
@@ -64,8 +65,9 @@ fn bytes_if(bytes: Option<&[u8]>) -> &[u8]
     }
 }
 
-// A top structure of these instances, built anew in info number `info`.
-pub(crate) fn built<R: Threads + Sync>(
+/// A top structure of the instances in these bytes, at most 65,536, built anew by info number `info`,
+/// or the first of X5 to X9 that is broken. (VK_BUILD_ACCELERATION_STRUCTURE_MODE_BUILD_KHR)
+pub fn built_top<R: Threads + Sync>(
     rt: &R,
     alloc: Global,
     info: u32,
@@ -87,8 +89,10 @@ pub(crate) fn built<R: Threads + Sync>(
     }
 }
 
-// A top structure of these instances, updated in info number `info`.
-pub(crate) fn updated<R: Threads + Sync>(
+/// A top structure of the instances in these bytes, as many as the old one has, updated by info
+/// number `info`, or the first of X5 to X9 that is broken.
+/// (VK_BUILD_ACCELERATION_STRUCTURE_MODE_UPDATE_KHR)
+pub fn updated_top<R: Threads + Sync>(
     rt: &R,
     alloc: Global,
     info: u32,
@@ -110,7 +114,7 @@ pub(crate) fn updated<R: Threads + Sync>(
 }
 
 // The fault of a geometry of info number `info`.
-pub(crate) fn fault_in(info: u32, fault: DataFault) -> FetchFault
+fn fault_in(info: u32, fault: DataFault) -> FetchFault
     ensures { result ≡ Data fault.rule (place_in info fault.geometry fault.element) }
 {
     let place = match fault.element {

@@ -1,6 +1,6 @@
-//! Tests of the program's one call that no conformance case can say: sources and sinks that fail,
-//! give or take a few bytes a call, and what holds of each of many inputs. No other crate depends
-//! on it.
+//! Tests that cross crates and that no conformance case can say: of the program's one call with
+//! sources and sinks that fail, give or take a few bytes a call, and what holds of each of many
+//! inputs; and of traces with a script as their client. No other crate depends on it.
 #![tactic(auto)]
 
 #[cfg(test)]
@@ -9,5 +9,7 @@ mod answer;
 mod failing;
 #[cfg(test)]
 mod reading;
+#[cfg(test)]
+mod scripted;
 #[cfg(test)]
 mod triangle;
