@@ -63,7 +63,8 @@ pub fn ranges_read(size: u64, geometry: &Geometry) -> [Option<ByteRange>; 3]
 
 // The boxes of a geometry, where it has any.
 fn boxes(content: Spot, stride: u32, count: u32, primitive_offset: u32) -> Option<ByteRange>
-    ensures value { result ≡ (if count == 0 then None else Some (boxes_range content stride count primitive_offset)) }
+    ensures value { result ≡ (if count == 0 then None
+        else Some (boxes_range content stride count primitive_offset)) }
 {
     if count == 0 {
         return None;
@@ -77,7 +78,8 @@ fn boxes(content: Spot, stride: u32, count: u32, primitive_offset: u32) -> Optio
 
 // The instances of a geometry, where it has any.
 fn instances(content: Spot, count: u32, primitive_offset: u32) -> Option<ByteRange>
-    ensures value { result ≡ (if count == 0 then None else Some (instances_range content count primitive_offset)) }
+    ensures value { result ≡ (if count == 0 then None
+        else Some (instances_range content count primitive_offset)) }
 {
     if count == 0 {
         return None;

@@ -12,5 +12,6 @@ pub const PADDED_HI: i32 = i32::MIN;
 
 /// A lane without a box overlaps no window whose numbers lie from -2^30 to 2^30.
 pub fn padding_law(_lanes: &Lanes8, _window: &Window)
-    ensures { (box : ℕ) → IsPadded _lanes.now box → IsNear _window.now → ¬ (Overlaps _lanes.now _window.now box) }
+    ensures { (box : ℕ) → IsPadded _lanes.now box → IsNear _window.now
+        → ¬ (Overlaps _lanes.now _window.now box) }
 {}

@@ -26,5 +26,6 @@ pub fn level_law(tree: &Tree)
 
 /// A tree over items has a root exactly where an item is active.
 pub fn root_law(_tree: &Tree, _items: &[Option<Box3>])
-    ensures { TreeOver _tree.now _items.now → (0 < length _tree.now.nodes) ↔ (0 < active_of _items.now) }
+    ensures { TreeOver _tree.now _items.now
+        → (0 < length _tree.now.nodes) ↔ (0 < active_of _items.now) }
 {}

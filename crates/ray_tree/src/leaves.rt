@@ -23,7 +23,8 @@ pub(crate) fn list_leaves(
     levels: usize,
     leaves: &mut Vec<u32>,
 ) -> Result<(), NoMemory>
-    ensures { OnOk result (leaves.new.items ≡ leaves.old.items ++ tips (shape_in levels nodes.now at)) }
+    ensures { OnOk result (leaves.new.items
+        ≡ leaves.old.items ++ tips (shape_in levels nodes.now at)) }
 {
     if levels == 0 {
         return Ok(());

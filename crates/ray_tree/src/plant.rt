@@ -19,7 +19,8 @@ pub(crate) fn plant(
     requires low { count ≤ 4 * 2 ^ height }
     requires within { first + count ≤ 2 ^ 20 }
     requires room { length nodes.old.items + 2 * count ≤ 2 ^ 22 }
-    ensures spelled { OnOk result (nodes.new.items ≡ nodes.old.items ++ spell (length nodes.old.items) first (halves height count)) }
+    ensures spelled { OnOk result (nodes.new.items ≡ nodes.old.items
+        ++ spell (length nodes.old.items) first (halves height count)) }
     ensures sized { OnOk result (length nodes.new.items + 1 ≤ length nodes.old.items + 2 * count) }
 {
     let at = nodes.len();

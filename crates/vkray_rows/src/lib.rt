@@ -1,10 +1,13 @@
 //! Tests that cross crates and that no conformance case can say: of the program's one call with
 //! sources and sinks that fail, give or take a few bytes a call, and what holds of each of many
-//! inputs; and of traces with a script as their client. No other crate depends on it.
+//! inputs; of traces with a script as their client; and of builds from narrow and flat vertices. No
+//! other crate depends on it.
 #![tactic(auto)]
 
 #[cfg(test)]
 mod answer;
+#[cfg(test)]
+mod built;
 #[cfg(test)]
 mod failing;
 #[cfg(test)]
