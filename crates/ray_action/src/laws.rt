@@ -1,8 +1,8 @@
 ghost use Rattle.ray_action.specs.Touching.{ActionsTouchWithin};
 ghost use Rattle.ray_action.specs.Laws.{OutcomesAreLocal};
 
-/// A law: in two memories that hold the same where an action reads, it has the same outcome. It does
-/// nothing.
+/// A law: in two memories that hold the same where an action reads, it has the same outcome. It
+/// does nothing.
 pub fn outcomes_are_local()
     ensures { OutcomesAreLocal }
 {}

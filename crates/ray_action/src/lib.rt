@@ -1,8 +1,8 @@
 //! What each command does to the device's memory, as definitions: a memory is a function from
 //! locations to what they hold (`specs/Memory`); a command is a list of actions, one a piece
 //! (`specs/Pieces`); an action sees a part of the memory (`specs/Seeing`), computes an outcome from
-//! that alone (`specs/Outcomes`), and its store changes what it writes (`specs/Storing`). The run of
-//! a recording goes from action to action (`specs/Running`), and what is shown is its text
+//! that alone (`specs/Outcomes`), and its store changes what it writes (`specs/Storing`). The run
+//! of a recording goes from action to action (`specs/Running`), and what is shown is its text
 //! (`specs/Text`).
 //!
 //! The layer above uses these words in its contracts, and the law that an outcome is told by what

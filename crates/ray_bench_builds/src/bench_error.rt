@@ -4,7 +4,7 @@ use std::{fmt, io};
 
 /// Why the program does not end well. (Own.)
 #[derive(Debug, Drop)]
-pub enum BenchError {
+pub(crate) enum BenchError {
     /// The words are none of the program's.
     BadWords,
     /// A write failed, or the words could not be read.
@@ -17,7 +17,7 @@ pub enum BenchError {
 
 impl BenchError {
     /// The number with which the program ends.
-    pub fn status(&self) -> u8 {
+    pub(crate) fn status(&self) -> u8 {
         match self {
             BenchError::BadWords => 3,
             BenchError::Io(_) => 5,

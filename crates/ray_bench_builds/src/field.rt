@@ -3,10 +3,10 @@ ghost use Rattle.std.specs.Prelude.{◌≤◌};
 use crate::size::Size;
 use std::alloc::{AllocError, Global};
 
-/// A field of square cells of two triangles each, 8 to a side, with heights from 0 to 6: the bytes of
-/// its vertices, three signed 32-bit numbers each, and of its indices, of 32 bits. (Own.)
+/// A field of square cells of two triangles each, 8 to a side, with heights from 0 to 6: the bytes
+/// of its vertices, three signed 32-bit numbers each, and of its indices, of 32 bits. (Own.)
 #[derive(Drop)]
-pub struct Field {
+pub(crate) struct Field {
     size: Size,
     vertices: Vec<u8>,
     indices: Vec<u8>,
@@ -14,7 +14,7 @@ pub struct Field {
 
 impl Field {
     /// The field of a size.
-    pub fn new(alloc: Global, size: Size) -> Result<Field, AllocError> {
+    pub(crate) fn new(alloc: Global, size: Size) -> Result<Field, AllocError> {
         let side = size.side();
         Ok(Field {
             size,
@@ -24,17 +24,17 @@ impl Field {
     }
 
     /// Its size.
-    pub fn size(&self) -> Size {
+    pub(crate) fn size(&self) -> Size {
         self.size
     }
 
     /// The bytes of its vertices.
-    pub fn vertices(&self) -> &[u8] {
+    pub(crate) fn vertices(&self) -> &[u8] {
         self.vertices.as_slice()
     }
 
     /// The bytes of its indices.
-    pub fn indices(&self) -> &[u8] {
+    pub(crate) fn indices(&self) -> &[u8] {
         self.indices.as_slice()
     }
 }

@@ -1,10 +1,10 @@
 //! The program `ray_bench_builds`: builds structures and trees over a made-up field a given number
-//! of times, by its words, so that it can be timed from outside. `ray_bench_builds bottom 10` builds
-//! ten times a bottom structure of 524,288 triangles with 32-bit indices, `ray_bench_builds tree 10`
-//! as often a tree over their cells' boxes, and `ray_bench_builds top 10` a top structure of 65,536
-//! instances. Each prints how often it built, of how many, and how many of them are active, or how
-//! many leaves there are. Without words it does a little of each. Other words give the line
-//! `bad-words` and status 3.
+//! of times, by its words, so that it can be timed from outside. `ray_bench_builds bottom 10`
+//! builds ten times a bottom structure of 524,288 triangles with 32-bit indices, `ray_bench_builds
+//! tree 10` as often a tree over their cells' boxes, and `ray_bench_builds top 10` a top structure
+//! of 65,536 instances. Each prints how often it built, of how many, and how many of them are
+//! active, or how many leaves there are. Without words it does a little of each. Other words give
+//! the line `bad-words` and status 3.
 //!
 //! What is timed are the public calls of ray_bottom, ray_top and ray_tree; what these do is their
 //! contracts' to say. It stands on them and on nothing of the program.

@@ -2,7 +2,7 @@ ghost use Rattle.std.specs.Prelude.{◌≤◌};
 
 /// How much is built. (Own.)
 #[derive(Clone, Copy, Debug, PartialEq, Eq)]
-pub enum Size {
+pub(crate) enum Size {
     /// A little, for a first look.
     Little,
     /// As much as is timed.
@@ -11,7 +11,7 @@ pub enum Size {
 
 impl Size {
     /// How many cells a side of the field has.
-    pub fn side(self) -> u32
+    pub(crate) fn side(self) -> u32
         ensures { result ≤ 512 }
     {
         match self {
@@ -21,7 +21,7 @@ impl Size {
     }
 
     /// How many instances a top structure has.
-    pub fn instances(self) -> u32
+    pub(crate) fn instances(self) -> u32
         ensures { result ≤ 65536 }
     {
         match self {

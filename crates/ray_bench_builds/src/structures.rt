@@ -17,7 +17,7 @@ const MOST_ITEMS: usize = 1 << 20;
 
 /// The bottom structure of a field.
 #[inline(never)]
-pub fn bottom<R: AllocGlobal + Threads + Sync>(
+pub(crate) fn bottom<R: AllocGlobal + Threads + Sync>(
     rt: &R,
     field: &Field,
 ) -> Result<Bottom, BuildFault> {
@@ -38,7 +38,7 @@ pub fn bottom<R: AllocGlobal + Threads + Sync>(
 }
 
 /// The records of as many instances of the structure 0 as a size has, with identity transforms.
-pub fn instances(alloc: Global, size: Size) -> Result<Vec<u8>, AllocError> {
+pub(crate) fn instances(alloc: Global, size: Size) -> Result<Vec<u8>, AllocError> {
     let mut bytes = Vec::new(alloc);
     for _ in 0..size.instances() {
         for word in [1, 0, 0, 0, 0, 1, 0, 0, 0, 0, 1, 0, u32::MAX, 0, 256, 0] {
@@ -50,7 +50,7 @@ pub fn instances(alloc: Global, size: Size) -> Result<Vec<u8>, AllocError> {
 
 /// The top structure of these records.
 #[inline(never)]
-pub fn top<R: AllocGlobal + Threads + Sync>(
+pub(crate) fn top<R: AllocGlobal + Threads + Sync>(
     rt: &R,
     size: Size,
     records: &[u8],
@@ -64,7 +64,7 @@ pub fn top<R: AllocGlobal + Threads + Sync>(
 }
 
 /// The boxes of the triangles of a field, two a cell.
-pub fn boxes(alloc: Global, size: Size) -> Result<Vec<Option<Box3>>, AllocError> {
+pub(crate) fn boxes(alloc: Global, size: Size) -> Result<Vec<Option<Box3>>, AllocError> {
     let mut items = Vec::new(alloc);
     let side = size.side();
     for j in 0..side {
@@ -90,6 +90,6 @@ fn cell(i: u32, j: u32) -> Option<Box3> {
 
 /// The tree over the first boxes, of at most 2^20.
 #[inline(never)]
-pub fn tree(alloc: Global, items: &[Option<Box3>]) -> Result<Tree, AllocError> {
+pub(crate) fn tree(alloc: Global, items: &[Option<Box3>]) -> Result<Tree, AllocError> {
     build_median(alloc, &items[..items.len().min(MOST_ITEMS)])
 }

@@ -1,9 +1,9 @@
 //! What the pieces of device commands do to the device's memory, in code: how many a command has,
 //! what each does (`piece_action` of `specs/Pieces`), what copies, properties, rays and top
 //! structures give, and the store of an output. A piece is fetched at one moment, when all that it
-//! reads is read, and stored at a later one; between them its output is a [`PieceOut`]. The fetch of
-//! a piece, which chooses among what gives outputs, and what bottom structures give come with the
-//! work that needs them.
+//! reads is read, and stored at a later one; between them its output is a [`PieceOut`]. The fetch
+//! of a piece, which chooses among what gives outputs, and what bottom structures give come with
+//! the work that needs them.
 //!
 //! Contracts speak of the actions of ray_action and of the memory that a [`ray_memory::State`]
 //! holds.

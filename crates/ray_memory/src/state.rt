@@ -45,9 +45,4 @@ impl State {
             bottoms: Bottoms::new(alloc),
         }
     }
-
-    /// The allocator that it keeps.
-    pub fn allocator(&self) -> Global {
-        self.alloc
-    }
 }
