@@ -1,0 +1,174 @@
+-- Where two commands touch a location of one thing, the rules on hazards order them.
+use Rattle.std.proofs.Common.{◌≡◌, ◌<◌, ◌≤◌, ◌+◌, ℕ, zero, suc, Bool, true, false, List, [], ◌∷◌, Option, Some, None, inl, inr, refl, sym, ◌∙◌, ap, subst, arith}
+use Rattle.std.specs.Prelude.{◌==◌, ◌&&◌, ◌||◌, not, nat_le, nat_lt, if◌then◌else◌, slice_get, option_map}
+use Rattle.std.specs.List.{list_any}
+use Rattle.std.specs.Option.{option_map_or}
+use Rattle.std.proofs.lemmas.Bool.{cases_lt}
+use Rattle.std.proofs.lemmas.Bool.Decides.{nat_tests}
+use Rattle.ray_cmd.specs.declared.command.Command.{Command}
+use Rattle.ray_cmd.specs.declared.place.Place.{Place}
+use Rattle.ray_cmd.specs.declared.place.Place.TheVariants.{Earlier}
+use Rattle.ray_ranges.specs.declared.range.Range.{Range}
+use Rattle.ray_ranges.specs.Meeting.{meets}
+use Rattle.ray_rules.specs.declared.byte_range.ByteRange.{ByteRange}
+use Rattle.ray_rules.specs.declared.reach.Reach.{Reach}
+use Rattle.ray_rules.specs.declared.reach.Reach.TheVariants as reaches
+use Rattle.ray_rules.specs.declared.stage.Stage.{Stage}
+use Rattle.ray_rules.specs.declared.touch.Touch.{Touch}
+use Rattle.ray_rules.specs.Access.{Accesses, stage_of}
+use Rattle.ray_rules.specs.Hazards.{accesses_at, bytes_in, greatest, greatest_with, is_one, is_uncovered, maker_of_buffer, maker_of_structure, read_unordered, shares, stage_at, status_at, touches_share, v25, v26, v27, wrote_uncovered}
+use Rattle.ray_rules.specs.Order.{is_covered, is_ordered_to}
+use Rattle.ray_rules.specs.Status.{Status}
+use Rattle.ray_action.specs.Areas.{is_in_range}
+use Rattle.ray_action.specs.Memory.{Location, ByteAt, BufferAt, StructureAt, ContentsAt}
+use Rattle.ray_action.specs.Touching.{is_reached, touched}
+use Rattle.ray_sync.proofs.Coverage.{covered-ordered}
+use Rattle.ray_permitted.proofs.Truth.{and_first, and_second, any_at, both, contradict, is_equal, never_none, none_at, not_both, not_false, some_passes}
+
+-- ---- what is shared
+
+-- where two statuses stand, the thing that a location belongs to is one
+abbrev pub IsOneThing : Status → Status → Location → Type 0
+IsOneThing z w (ByteAt b at) = is_one (maker_of_buffer z b) (maker_of_buffer w b) ≡ true
+IsOneThing z w (BufferAt id) = Unit {0}
+IsOneThing z w (StructureAt id) = Unit {0}
+IsOneThing z w (ContentsAt id) = is_one (maker_of_structure z id) (maker_of_structure w id) ≡ true
+
+-- two ranges that have a byte in common meet
+pub bytes_meet : (r s : Range) (at : ℕ) → r.from ≤ at → at < r.end → s.from ≤ at → at < s.end → meets r s ≡ true
+bytes_meet r s at a b c d = grind (arith, nat_tests, a, b, c, d)
+
+pub low_of : (r : ByteRange) (b at : ℕ) → is_in_range r (ByteAt b at) ≡ true → (b ≡ r.buffer) × (r.from ≤ at) × (at < r.from + r.size)
+low_of r b at e =
+    let rest = and_second (b == r.buffer) (nat_le r.from at && nat_lt at (r.from + r.size)) e in (
+      is_equal b r.buffer (and_first (b == r.buffer) (nat_le r.from at && nat_lt at (r.from + r.size)) e),
+      at_least r.from at (and_first (nat_le r.from at) (nat_lt at (r.from + r.size)) rest),
+      below at (r.from + r.size) (and_second (nat_le r.from at) (nat_lt at (r.from + r.size)) rest),
+    )
+  where
+    at_least : (x y : ℕ) → nat_le x y ≡ true → x ≤ y
+    at_least x y h = grind (arith, nat_tests, h)
+
+    below : (x y : ℕ) → nat_lt x y ≡ true → x < y
+    below x y h = grind (arith, nat_tests, h)
+
+shared_bytes : (z w : Status) (x y : Reach) (b at : ℕ) → is_reached x (ByteAt b at) ≡ true → is_reached y (ByteAt b at) ≡ true
+    → is_one (maker_of_buffer z b) (maker_of_buffer w b) ≡ true → shares z w x y ≡ true
+shared_bytes z w (reaches.Bytes r) (reaches.Bytes s) b at p q one =
+    let here = low_of r b at p in
+    let there = low_of s b at q in
+    both (is_one (maker_of_buffer z r.buffer) (maker_of_buffer w s.buffer)) (meets (bytes_in r) (bytes_in s))
+    (sym (λ i. is_one (maker_of_buffer z (here.0 i)) (maker_of_buffer w (there.0 i))) ∙ one)
+    (bytes_meet (bytes_in r) (bytes_in s) at here.1 here.2 there.1 there.2)
+shared_bytes z w x y b at p q one = absurd cc
+
+shared_contents : (z w : Status) (x y : Reach) (id : ℕ) → is_reached x (ContentsAt id) ≡ true → is_reached y (ContentsAt id) ≡ true
+    → is_one (maker_of_structure z id) (maker_of_structure w id) ≡ true → shares z w x y ≡ true
+shared_contents z w (reaches.Structure a) (reaches.Structure c) id p q one =
+    let here = is_equal id a p in
+    let there = is_equal id c q in
+    sym (λ i. is_one (maker_of_structure z (here i)) (maker_of_structure w (there i))) ∙ one
+shared_contents z w x y id p q one = absurd cc
+
+no_size : {X : Type 0} (x : Reach) (id : ℕ) → is_reached x (BufferAt id) ≡ true → X
+no_size (reaches.Bytes r) id e = absurd cc
+no_size (reaches.Structure a) id e = absurd cc
+no_size (reaches.Scratch r) id e = absurd cc
+
+no_form : {X : Type 0} (x : Reach) (id : ℕ) → is_reached x (StructureAt id) ≡ true → X
+no_form (reaches.Bytes r) id e = absurd cc
+no_form (reaches.Structure a) id e = absurd cc
+no_form (reaches.Scratch r) id e = absurd cc
+
+-- what reaches a location of one thing shares something
+shared_at : (z w : Status) (x y : Reach) (l : Location) → is_reached x l ≡ true → is_reached y l ≡ true → IsOneThing z w l → shares z w x y ≡ true
+shared_at z w x y (ByteAt b at) p q one = shared_bytes z w x y b at p q one
+shared_at z w x y (BufferAt id) p q one = no_size x id p
+shared_at z w x y (StructureAt id) p q one = no_form x id p
+shared_at z w x y (ContentsAt id) p q one = shared_contents z w x y id p q one
+
+-- ---- rules on hazards
+
+none_passes : (test : ℕ → Bool) (n : ℕ) → greatest test n ≡ None → (i : ℕ) → i < n → test i ≡ false
+none_passes test zero e i less = absurd (omega (arith, less))
+none_passes test (suc n) e i less =
+    let first = step (test n) (greatest test n) e in
+    elim (cases_lt i n) [
+      | inl before ↦ none_passes test n first.1 i before
+      | inr at ↦ (let same : n ≡ i = omega (arith, less, at) in subst (λ m. test m ≡ false) same first.0)
+    ]
+  where
+    step : (b : Bool) (rest : Option ℕ) → (if b then Some n else rest) ≡ None → (b ≡ false) × (rest ≡ None)
+    step true rest h = absurd cc
+    step false rest h = (refl, h)
+
+unmapped : (found : Option ℕ) → option_map Earlier found ≡ None → found ≡ None
+unmapped None e = refl
+unmapped (Some k) e = absurd cc
+
+-- no earlier command is at odds with a touch
+no_odds : (odds : Touch → ℕ → Bool) (touches : List Touch) (j : ℕ) → greatest_with odds touches j ≡ None
+    → (i : ℕ) → i < j → (k : ℕ) (t : Touch) → slice_get touches k ≡ Some t → odds t i ≡ false
+no_odds odds touches j e i less k t there =
+    none_at (λ x. odds x i) touches k t there
+    (none_passes (λ n. list_any (λ x. odds x n) touches) j (unmapped (greatest (λ n. list_any (λ x. odds x n) touches) j) e) i less)
+
+-- what a command wrote and another touches, where no write is uncovered to its touches
+covered_ordered : (rec : List Command) (i j : ℕ) (s to : Stage) (touches : List Touch) (l : Location) → stage_at rec i ≡ Some s → i < j
+    → greatest_with (wrote_uncovered rec j to) touches j ≡ None → IsOneThing (status_at rec i) (status_at rec j) l
+    → touched (accesses_at rec i).writes l ≡ true → touched touches l ≡ true → is_ordered_to rec i s j to ≡ true
+covered_ordered rec i j s to touches l stage less none one wrote touch =
+    let w = some_passes (λ (t : Touch). is_reached t.reach l) (accesses_at rec i).writes wrote in
+    let r = some_passes (λ (t : Touch). is_reached t.reach l) touches touch in
+    let odd : wrote_uncovered rec j to r.item i ≡ false = no_odds (wrote_uncovered rec j to) touches j none i less r.place r.item r.there in
+    let each : list_any (is_uncovered rec i s j to r.item) (accesses_at rec i).writes ≡ false =
+    sym (ap (λ o. option_map_or (λ (st : Stage). list_any (is_uncovered rec i st j to r.item) (accesses_at rec i).writes) o false) stage) ∙ odd in
+    let this : is_uncovered rec i s j to r.item w.item ≡ false = none_at (is_uncovered rec i s j to r.item) (accesses_at rec i).writes w.place w.item w.there each in
+    let share : touches_share rec i j w.item r.item ≡ true =
+    shared_at (status_at rec i) (status_at rec j) w.item.reach r.item.reach l w.passes r.passes one in
+    let covered : is_covered rec i s w.item.access j to r.item.access ≡ true =
+    not_false (is_covered rec i s w.item.access j to r.item.access)
+    (not_both (touches_share rec i j w.item r.item) (not (is_covered rec i s w.item.access j to r.item.access)) share this) in
+    covered-ordered rec i s w.item.access j to r.item.access covered
+
+-- V25: what a command reads
+pub read_after_write : (rec : List Command) (i j : ℕ) (s to : Stage) (l : Location) → stage_at rec i ≡ Some s → stage_at rec j ≡ Some to → i < j
+    → v25 rec j ≡ None → IsOneThing (status_at rec i) (status_at rec j) l
+    → touched (accesses_at rec i).writes l ≡ true → touched (accesses_at rec j).reads l ≡ true → is_ordered_to rec i s j to ≡ true
+unfolding v25
+read_after_write rec i j s to l stage at less kept one wrote reads =
+    covered_ordered rec i j s to (accesses_at rec j).reads l stage less
+    (sym (ap (λ o. option_map_or (λ (x : Stage). greatest_with (wrote_uncovered rec j x) (accesses_at rec j).reads j) o None) at) ∙ kept)
+    one wrote reads
+
+-- V26: what it writes
+pub write_after_write : (rec : List Command) (i j : ℕ) (s to : Stage) (l : Location) → stage_at rec i ≡ Some s → stage_at rec j ≡ Some to → i < j
+    → v26 rec j ≡ None → IsOneThing (status_at rec i) (status_at rec j) l
+    → touched (accesses_at rec i).writes l ≡ true → touched (accesses_at rec j).writes l ≡ true → is_ordered_to rec i s j to ≡ true
+unfolding v26
+write_after_write rec i j s to l stage at less kept one wrote writes =
+    covered_ordered rec i j s to (accesses_at rec j).writes l stage less
+    (sym (ap (λ o. option_map_or (λ (x : Stage). greatest_with (wrote_uncovered rec j x) (accesses_at rec j).writes j) o None) at) ∙ kept)
+    one wrote writes
+
+-- V27: what it writes, and another read
+pub write_after_read : (rec : List Command) (i j : ℕ) (s to : Stage) (l : Location) → stage_at rec i ≡ Some s → stage_at rec j ≡ Some to → i < j
+    → v27 rec j ≡ None → IsOneThing (status_at rec i) (status_at rec j) l
+    → touched (accesses_at rec i).reads l ≡ true → touched (accesses_at rec j).writes l ≡ true → is_ordered_to rec i s j to ≡ true
+unfolding v27
+write_after_read rec i j s to l stage at less kept one read writes =
+    let none : greatest_with (read_unordered rec j to) (accesses_at rec j).writes j ≡ None =
+    sym (ap (λ o. option_map_or (λ (x : Stage). greatest_with (read_unordered rec j x) (accesses_at rec j).writes j) o None) at) ∙ kept in
+    let r = some_passes (λ (t : Touch). is_reached t.reach l) (accesses_at rec i).reads read in
+    let w = some_passes (λ (t : Touch). is_reached t.reach l) (accesses_at rec j).writes writes in
+    let odd : read_unordered rec j to w.item i ≡ false = no_odds (read_unordered rec j to) (accesses_at rec j).writes j none i less w.place w.item w.there in
+    let this : (not (is_ordered_to rec i s j to) && list_any (λ x. touches_share rec i j x w.item) (accesses_at rec i).reads) ≡ false =
+    sym (ap (λ o. option_map_or (λ (st : Stage). not (is_ordered_to rec i st j to) && list_any (λ x. touches_share rec i j x w.item) (accesses_at rec i).reads) o false) stage) ∙ odd in
+    let share : list_any (λ x. touches_share rec i j x w.item) (accesses_at rec i).reads ≡ true =
+    any_at (λ x. touches_share rec i j x w.item) (accesses_at rec i).reads r.place r.item r.there
+    (shared_at (status_at rec i) (status_at rec j) r.item.reach w.item.reach l r.passes w.passes one) in
+    not_false (is_ordered_to rec i s j to) (not_first (not (is_ordered_to rec i s j to)) (list_any (λ x. touches_share rec i j x w.item) (accesses_at rec i).reads) share this)
+  where
+    not_first : (a b : Bool) → b ≡ true → (a && b) ≡ false → a ≡ false
+    not_first true b is e = contradict b is e
+    not_first false b is e = refl

@@ -1,0 +1,111 @@
+-- What holds of the schedules of a recording. (Own.)
+use Rattle.std.specs.Prelude.{ℕ, ◌≡◌, ◌<◌, ◌≤◌, List, Bool, true, take, length}
+use Rattle.ray_schedule.specs.Conflicts.{AreOrdered, IsForward, IsLocal}
+use Rattle.ray_schedule.specs.Events.{Event, Fetches}
+use Rattle.ray_schedule.specs.Schedules.{StandsAt}
+use Rattle.ray_schedule.specs.Waves.{RisesAlong}
+use Rattle.ray_schedule.specs.Laws.{MayRun, EverySchedule, ArePermitted, WavesRun, after, before_unit}
+use Rattle.ray_cmd.specs.declared.command.Command.{Command}
+use Rattle.ray_rules.specs.Order.{IsLongest, before}
+use Rattle.ray_rules.specs.Refusals.{AreKept}
+use Rattle.ray_rules.specs.Verdict.{hazard_table, rule_refusal}
+use Rattle.ray_action.specs.Memory.{Memory, nothing_live}
+use Rattle.ray_action.specs.Areas.{AgreeOn}
+use Rattle.ray_action.specs.Action.{areas_read}
+use Rattle.ray_action.specs.Readiness.{IsReady}
+use Rattle.ray_action.specs.Running.{action_at, memory_before, run_from}
+use Rattle.ray_ready.specs.Accepted.{refused_from}
+use Rattle.ray_ready.specs.Laws.{AreSources, GaveBefore, first_actions}
+use Rattle.ray_permitted.specs.Along.{run_along}
+use Rattle.ray_permitted.specs.Rules.{AreOfBuiltForms, BreakNoRule}
+use Rattle.ray_permitted.specs.Work.{work_of}
+
+-- ---- from the rules to the order
+
+-- what schedules ask of the work of commands: outcomes are told by what is read, conflicting actions are
+-- ordered, and the order goes forward
+pub record IsOrderly (rec : List Command) (n : ℕ) : Type 0 where
+  pub local : IsLocal (work_of rec n).device
+  pub ordered : AreOrdered (work_of rec n).device (before rec) (work_of rec n).count
+  pub forward : IsForward (work_of rec n).device (before rec) (work_of rec n).count
+
+-- commands that break no rule ask for orderly work
+abbrev pub RulesGiveOrder : Type 0
+RulesGiveOrder = (rec : List Command) (n : ℕ) → BreakNoRule rec n → IsOrderly rec n
+
+-- ---- every permitted schedule
+
+-- every permitted schedule of commands that break no rule comes to the run of recording order: to its
+-- text, or to its refusal
+abbrev pub SchedulesComeToTheRun : Type 0
+SchedulesComeToTheRun =
+    (rec : List Command) (n : ℕ) (es : List Event) → BreakNoRule rec n → MayRun (work_of rec n) es
+    → run_along rec n es ≡ run_from nothing_live (first_actions rec n)
+
+-- and has the outcomes, the memory and the first fault of recording order
+abbrev pub SchedulesLeaveTheSame : Type 0
+SchedulesLeaveTheSame = (rec : List Command) (n : ℕ) → BreakNoRule rec n → EverySchedule (work_of rec n)
+
+-- recording order in the words of schedules is that of the run
+abbrev pub RecordingOrderIsTheRun : Type 0
+RecordingOrderIsTheRun =
+    (rec : List Command) (n p : ℕ) → before_unit (work_of rec n) p ≡ memory_before (first_actions rec n) p
+
+-- ---- which schedules are permitted
+
+-- recording order is permitted for the commands of any recording, and so are waves whose numbers rise
+-- along the order
+abbrev pub SomeArePermitted : Type 0
+SomeArePermitted = (rec : List Command) (n : ℕ) → ArePermitted (work_of rec n)
+
+-- the lengths of the longest chains rise along the order
+abbrev pub LongestChainsRise : Type 0
+LongestChainsRise =
+    (rec : List Command) (n : ℕ) (longest : ℕ → ℕ)
+    → ((i : ℕ) → i < n → IsLongest (before rec) i (longest i))
+    → RisesAlong (work_of rec n).device (before rec) (λ p. longest ((work_of rec n).device.command p)) (work_of rec n).count
+
+-- a run in waves, up to the first fault, as schedules say it
+abbrev pub WavesOfCommandsRun : Type 0
+WavesOfCommandsRun = (rec : List Command) (n : ℕ) → WavesRun (work_of rec n)
+
+-- ---- at each fetch
+
+-- each fetch along a permitted schedule reads what its action reads in recording order
+abbrev pub FetchesReadTheSame : Type 0
+FetchesReadTheSame =
+    (rec : List Command) (n : ℕ) (es : List Event) (i p : ℕ) (e : Event) → BreakNoRule rec n
+    → MayRun (work_of rec n) es → StandsAt es i e → Fetches e p
+    → AgreeOn (areas_read (action_at (first_actions rec n) p)) (after (work_of rec n) (take i es)).memory
+    (memory_before (first_actions rec n) p)
+
+-- its action is ready there, where each action before it gives an output in recording order
+abbrev pub FetchesAreReady : Type 0
+FetchesAreReady =
+    (rec : List Command) (n : ℕ) (es : List Event) (i p : ℕ) (e : Event) → BreakNoRule rec n
+    → MayRun (work_of rec n) es → StandsAt es i e → Fetches e p → GaveBefore (first_actions rec n) p
+    → IsReady (action_at (first_actions rec n) p) (after (work_of rec n) (take i es)).memory
+
+-- and so it is where only those gave one whose writes it reads, and those whose writes these read, and so
+-- on
+abbrev pub FetchesAreReadyBySources : Type 0
+FetchesAreReadyBySources =
+    (rec : List Command) (n : ℕ) (es : List Event) (i p : ℕ) (e : Event) (among : ℕ → Bool) → BreakNoRule rec n
+    → MayRun (work_of rec n) es → StandsAt es i e → Fetches e p
+    → among p ≡ true → AreSources (first_actions rec n) among p
+    → IsReady (action_at (first_actions rec n) p) (after (work_of rec n) (take i es)).memory
+
+-- each fetch along a permitted schedule
+pub record AtEachFetch : Type 0 where
+  pub reads : FetchesReadTheSame
+  pub ready : FetchesAreReady
+  pub sources : FetchesAreReadyBySources
+
+-- ---- what is refused, and what isn't
+
+-- the first commands of a recording break no rule where none of them is refused, their forms are built
+-- and their updates have sources
+abbrev pub UnrefusedBreakNoRule : Type 0
+UnrefusedBreakNoRule =
+    (rec : List Command) (n : ℕ) → n ≤ refused_from (length rec) (rule_refusal rec) → AreOfBuiltForms rec n
+    → BreakNoRule rec n

@@ -1,0 +1,4 @@
+pub mod Work
+pub mod Along
+pub mod Rules
+pub mod Laws

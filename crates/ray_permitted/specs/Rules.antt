@@ -1,0 +1,17 @@
+-- The commands of a recording that break no rule on the recording alone. (Own.)
+use Rattle.std.specs.Prelude.{ℕ, ◌≡◌, ◌<◌, List, Some, true, slice_get}
+use Rattle.ray_cmd.specs.declared.command.Command.{Command}
+use Rattle.ray_rules.specs.Refusals.{AreKept}
+use Rattle.ray_rules.specs.Verdict.{hazard_table}
+use Rattle.ray_action.specs.Pieces.{is_built_form}
+use Rattle.ray_ready.specs.Accepted.{IsAccepted, have_their_sources}
+
+-- the first n commands may be run one by one, and keep the rules on hazards among them
+pub record BreakNoRule (rec : List Command) (n : ℕ) : Type 0 where
+  pub accepted : IsAccepted rec n
+  pub hazards : (i : ℕ) → i < n → AreKept (hazard_table rec i)
+
+-- the forms of the first n commands are built, and their updates have sources
+pub record AreOfBuiltForms (rec : List Command) (n : ℕ) : Type 0 where
+  pub forms : (i : ℕ) (c : Command) → i < n → slice_get rec i ≡ Some c → is_built_form c ≡ true
+  pub sources : (i : ℕ) (c : Command) → i < n → slice_get rec i ≡ Some c → have_their_sources c ≡ true
