@@ -4,3 +4,7 @@ pub mod Making
 pub mod Units
 pub mod Sharing
 pub mod Named
+pub mod InfosApart
+pub mod RegionsApart
+pub mod RaysApart
+pub mod Parts
