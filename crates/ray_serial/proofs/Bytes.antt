@@ -1,6 +1,6 @@
 -- Parts of bytes.
 use Rattle.std.proofs.Common.{ℕ, suc, zero, ◌≡◌, ◌<◌, ◌≤◌, ◌+◌, ◌-◌, ◌*◌, ◌==◌, ◌&&◌, Bool, true, false, List, [], ◌∷◌, length, take, drop, Option, Some, None, option_map, refl, sym, ap, subst, ◌∙◌, arith}
-use Rattle.std.specs.Prelude.{is_some, nat_le, min, if◌then◌else◌}
+use Rattle.std.specs.Prelude.{is_some, nat_le, if◌then◌else◌}
 use Rattle.std.proofs.lemmas.Bool.Decides.{nat_tests}
 use Rattle.std.proofs.Math.Seq.{take-length}
 use Rattle.ray_bytes.specs.declared.instance_record.InstanceRecord.{InstanceRecord}
@@ -28,9 +28,3 @@ pub instance_whole : (bytes : List ℕ) (from : InstanceRecord) → length bytes
     from ≡ instance_of bytes
 instance_whole bytes from long e =
     sym (some_same (instance_of bytes) from (sym (ap (λ o. option_map instance_of o) (whole_record 64 bytes long)) ∙ e))
-
--- what is dropped past the end
-pub drop-min : (n : ℕ) (bytes : List ℕ) → drop (min (length bytes) n) bytes ≡ drop n bytes
-drop-min zero bytes = let none : min (length bytes) 0 ≡ 0 = omega arith in ap (λ k. drop k bytes) none
-drop-min (suc n) [] = let none : min 0 (suc n) ≡ 0 = omega arith in ap (λ k. drop k []) none
-drop-min (suc n) (b ∷ bs) = let next : min (suc (length bs)) (suc n) ≡ suc (min (length bs) n) = omega arith in ap (λ k. drop k (b ∷ bs)) next ∙ drop-min n bs

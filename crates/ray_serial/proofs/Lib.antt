@@ -1,2 +1,5 @@
 pub mod RowSteps
 pub mod Bytes
+pub mod Words
+pub mod GeometryBack
+pub mod GeometryAgain

@@ -2,3 +2,5 @@ pub mod Heads
 pub mod Rows
 pub mod InstanceBytes
 pub mod Form
+pub mod Meaning
+pub mod Written

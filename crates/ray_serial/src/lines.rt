@@ -122,7 +122,7 @@ pub(crate) fn row_of(payload: &[u8]) -> &[u8]
 pub(crate) fn instances_of_payload(payload: &[u8]) -> &[u8]
     ensures { result.now ≡ instances_of_payload payload.now }
 {
-    let (_, instances) = payload.split_at(payload.len().min(48));
+    let (_, instances) = payload.split_at(48_usize.min(payload.len()));
     instances
 }
 

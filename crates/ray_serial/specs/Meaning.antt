@@ -1,0 +1,65 @@
+-- What bytes that are a form stand for. (Own: the form.)
+use Rattle.std.specs.Prelude.{ℕ, ◌≡◌, ◌+◌, ◌*◌, ◌≤◌, zero, suc, Bool, false, nat_lt, if◌then◌else◌, Result, Ok, Err, Option, Some, None, option_map, List, [], ◌∷◌, length, take, drop}
+use Rattle.ray_bytes.specs.Fields.{long_at}
+use Rattle.ray_bytes.specs.StructureSizes.{structure_size}
+use Rattle.ray_bottom.specs.Contents as bottoms
+use Rattle.ray_bottom.specs.declared.geometry.Geometry.{Geometry}
+use Rattle.ray_flags.specs.declared.build_flags.BuildFlags.{BuildFlags}
+use Rattle.ray_serial.specs.declared.serial_fault.SerialFault.{SerialFault}
+use Rattle.ray_serial.specs.Rows.{geometries_in}
+use Rattle.ray_serial.specs.Form.{device_text, form_text, handle_count_in, payload_in, is_top_payload, flags_of_payload, geometry_count, row_of, total_of_payload, has_bad_element, broken_line}
+
+-- ---- which bytes are a form
+
+-- bytes are a form where they break none of the eight lines
+pub record IsForm (bytes : List ℕ) : Type 0 where
+  pub unbroken : broken_line bytes ≡ None
+
+-- the same line by line
+pub record KeepsLines (bytes : List ℕ) (total : ℕ) : Type 0 where
+  pub long : 56 ≤ length bytes
+  pub device : take 16 bytes ≡ device_text
+  pub form : take 16 (drop 16 bytes) ≡ form_text
+  pub size : long_at bytes 32 ≡ length bytes
+  pub handles : handle_count_in bytes ≤ 65536
+  pub room : 56 + 8 * handle_count_in bytes + 16 ≤ length bytes
+  pub payload : total_of_payload (handle_count_in bytes) (payload_in bytes) ≡ Some total
+  pub structure : long_at bytes 40 ≡ structure_size (geometry_count (payload_in bytes)) total
+  pub elements : has_bad_element (handle_count_in bytes) (payload_in bytes) ≡ false
+
+-- the bytes, where they are a form, else the first line that they break
+abbrev pub opening : List ℕ → Option ℕ → Result (List ℕ) SerialFault
+opening bytes None = Ok bytes
+opening bytes (Some number) = Err (record { 0 = number })
+
+abbrev pub opened : List ℕ → Result (List ℕ) SerialFault
+opened bytes = opening bytes (broken_line bytes)
+
+-- ---- what a form says of itself
+
+-- whether it is that of a top structure
+abbrev pub is_top_form : List ℕ → Bool
+is_top_form bytes = is_top_payload (payload_in bytes)
+
+-- how many bytes its structure takes
+unfoldable pub deserialized_in : List ℕ → ℕ
+deserialized_in bytes = long_at bytes 40
+
+-- handle k, where there is one
+unfoldable pub handle_at : List ℕ → ℕ → ℕ
+handle_at bytes k = long_at bytes (56 + 8 * k)
+
+abbrev pub handle_in : List ℕ → ℕ → Option ℕ
+handle_in bytes k = if nat_lt k (handle_count_in bytes) then Some (handle_at bytes k) else None
+
+-- ---- the contents of a bottom structure that a form stands for
+
+abbrev pub with_flags : BuildFlags → List Geometry → bottoms.ContentsValue
+with_flags flags geometries = record { flags = flags; geometries = geometries }
+
+unfoldable pub bottom_in_payload : List ℕ → Option bottoms.ContentsValue
+bottom_in_payload payload =
+    option_map (with_flags (flags_of_payload payload)) (geometries_in (geometry_count payload) (row_of payload))
+
+abbrev pub bottom_in : List ℕ → Option bottoms.ContentsValue
+bottom_in bytes = bottom_in_payload (payload_in bytes)

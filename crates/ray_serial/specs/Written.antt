@@ -1,0 +1,28 @@
+-- The form that a structure is written as. (Own: the form; vkCmdCopyAccelerationStructureToMemoryKHR.)
+use Rattle.std.specs.Prelude.{ℕ, ◌+◌, ◌*◌, List, [], ◌∷◌, ◌++◌, length}
+use Rattle.std.specs.List.{flat_map}
+use Rattle.byteorder.specs.Endian.{little_bytes}
+use Rattle.ray_bytes.specs.StructureSizes.{structure_size}
+use Rattle.ray_bottom.specs.Contents as bottoms
+use Rattle.ray_bottom.specs.Storing.{payload_of}
+use Rattle.ray_serial.specs.Form.{device_text, form_text}
+
+-- numbers of 64 bits
+unfoldable pub long_bytes : List ℕ → List ℕ
+long_bytes numbers = flat_map (little_bytes 8) numbers
+
+-- the form with this deserialized size, these handles and this payload: the two texts, the serialized size, the deserialized
+-- size and the count of handles, the handles, and the payload
+abbrev pub form_size : List ℕ → List ℕ → ℕ
+form_size handles payload = 56 + 8 * length handles + length payload
+
+unfoldable pub form_bytes : ℕ → List ℕ → List ℕ → List ℕ
+form_bytes deserialized handles payload =
+    device_text
+    ++ (form_text
+    ++ (long_bytes (form_size handles payload ∷ deserialized ∷ length handles ∷ []) ++ (long_bytes handles ++ payload)))
+
+-- the form of a bottom structure: its deserialized size is that of its structure, and it has no handles
+unfoldable pub bottom_form : bottoms.ContentsValue → List ℕ
+bottom_form c =
+    form_bytes (structure_size (length c.geometries) (bottoms.total_of c.geometries)) [] (payload_of c)
