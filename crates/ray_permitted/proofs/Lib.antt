@@ -8,3 +8,6 @@ pub mod InfosApart
 pub mod RegionsApart
 pub mod RaysApart
 pub mod Parts
+pub mod Runs
+pub mod Pieces
+pub mod Between

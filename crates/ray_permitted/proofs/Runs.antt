@@ -1,0 +1,80 @@
+-- Recording order in the words of schedules is that of the run, so each permitted schedule comes to the run.
+use Rattle.std.proofs.Common.{◌≡◌, ◌<◌, ◌≤◌, ℕ, zero, suc, Bool, true, false, List, [], ◌∷◌, Option, Some, None, refl, sym, ◌∙◌, ap, subst, arith, length}
+use Rattle.std.specs.Prelude.{◌&&◌, not, if◌then◌else◌}
+use Rattle.ray_schedule.specs.Events.{Event}
+use Rattle.ray_schedule.specs.Units as schedules
+use Rattle.ray_schedule.specs.Laws.{MayRun}
+use Rattle.ray_schedule.specs.Laws as laws
+use Rattle.ray_schedule.proofs.Whole.{every_schedule}
+use Rattle.ray_cmd.specs.declared.command.Command.{Command}
+use Rattle.ray_action.specs.Memory.{Held, Location, Memory, nothing_live}
+use Rattle.ray_action.specs.Action.{Action}
+use Rattle.ray_action.specs.Outcomes.{Outcome, Gives, Breaks, Undefined, outcome_of}
+use Rattle.ray_action.specs.Pieces.{Numbered}
+use Rattle.ray_action.specs.Running.{action_at, memory_before, run_from, then_run}
+use Rattle.ray_action.specs.Storing.{after, left, put, writes}
+use Rattle.ray_ready.specs.Laws.{first_actions}
+use Rattle.ray_permitted.specs.Along.{run_along, run_kept, then_kept}
+use Rattle.ray_permitted.specs.Laws.{IsOrderly, RecordingOrderIsTheRun}
+use Rattle.ray_permitted.specs.Work.{device_of, stores_nothing, work_of}
+
+-- ---- one memory
+
+either_way : {X : Type 0} (b : Bool) (x : X) → x ≡ (if b then x else x)
+either_way true x = refl
+either_way false x = refl
+
+-- what a store leaves is the same in both
+left_same : (a : Action) (x : Outcome) (l : Location) (old : Held l)
+    → (if not (stores_nothing x) && writes a l then left a x l old else old) ≡ (if writes a l then left a x l old else old)
+left_same a (Gives output) l old = refl
+left_same a (Breaks fault) l old = either_way (writes a l) old
+left_same a Undefined l old = either_way (writes a l) old
+
+pub memory_is : (rec : List Command) (units : List Numbered) (p : ℕ)
+    → schedules.memory_before (device_of rec units) nothing_live p ≡ memory_before units p
+memory_is rec units zero = refl
+memory_is rec units (suc p) =
+    let a : Action = action_at units p in
+    ap (λ (m : Memory). schedules.put (device_of rec units) p (outcome_of a m) m) (memory_is rec units p)
+    ∙ (λ i l. left_same a (outcome_of a (memory_before units p)) l (memory_before units p l) i)
+
+pub recording_order_is : RecordingOrderIsTheRun
+recording_order_is rec n p = memory_is rec (first_actions rec n) p
+
+-- ---- one run
+
+-- the memory in which action number p stands, from a memory on
+abbrev memory_from : Memory → List Numbered → ℕ → Memory
+memory_from m units zero = m
+memory_from m units (suc p) = after (action_at units p) (memory_from m units p)
+
+from_nothing : (units : List Numbered) (p : ℕ) → memory_from nothing_live units p ≡ memory_before units p
+from_nothing units zero = refl
+from_nothing units (suc p) = ap (after (action_at units p)) (from_nothing units p)
+
+one_later : (m : Memory) (u : Numbered) (units : List Numbered) (p : ℕ) → memory_from m (u ∷ units) (suc p) ≡ memory_from (after u.action m) units p
+one_later m u units zero = refl
+one_later m u units (suc p) = ap (after (action_at units p)) (one_later m u units p)
+
+-- where what is kept is what actions compute one after the other, it is their run
+kept_run : (units : List Numbered) (m : Memory) (kept : ℕ → Option Outcome)
+    → ((p : ℕ) → p < length units → kept p ≡ Some (outcome_of (action_at units p) (memory_from m units p)))
+    → run_kept kept units ≡ run_from m units
+kept_run [] m kept same = refl
+kept_run (u ∷ units) m kept same =
+    let first : kept 0 ≡ Some (outcome_of u.action m) = same 0 (omega arith) in
+    let later = kept_run units (after u.action m) (λ p. kept (suc p))
+    (λ p less. same (suc p) (omega (arith, less)) ∙ ap (λ x. Some (outcome_of (action_at units p) x)) (one_later m u units p)) in
+    λ i. then_kept u (first i) (later i)
+
+pub comes_to_the_run : (rec : List Command) (n : ℕ) (es : List Event) → IsOrderly rec n → MayRun (work_of rec n) es
+    → run_along rec n es ≡ run_from nothing_live (first_actions rec n)
+unfolding run_along
+comes_to_the_run rec n es orderly permitted =
+    let units : List Numbered = first_actions rec n in
+    let every = every_schedule (work_of rec n) orderly.local orderly.ordered in
+    kept_run units nothing_live (laws.after (work_of rec n) es).kept
+    (λ p less.
+    every.outcomes es permitted p less
+    ∙ ap (λ m. Some (outcome_of (action_at units p) m)) (memory_is rec units p ∙ sym (from_nothing units p)))
