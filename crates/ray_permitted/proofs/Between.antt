@@ -63,11 +63,11 @@ idle_at z c needs kept pending =
     let right : is_same_phase (phase_needed c) z.phase ≡ true = not_false (is_same_phase (phase_needed c) z.phase) (not_broken (not (is_same_phase (phase_needed c) z.phase)) kept) in
     idle_by z z.phase refl (sym (ap (λ p. is_same_phase p z.phase) needs) ∙ right) pending
 
-idle_at_read : (z : Status) (buffer offset size : ℕ) (form : _) → KeepsState z (commands.Read buffer offset size form) → is_busy z ≡ false
+pub idle_at_read : (z : Status) (buffer offset size : ℕ) (form : _) → KeepsState z (commands.Read buffer offset size form) → is_busy z ≡ false
 unfolding phase_needed v29
 idle_at_read z buffer offset size form keeps = idle_at z (commands.Read buffer offset size form) refl keeps.phase (not_broken z.pending keeps.read)
 
-idle_at_destroy : (z : Status) (what : Thing) (id : ℕ) → KeepsState z (commands.Destroy what id) → is_busy z ≡ false
+pub idle_at_destroy : (z : Status) (what : Thing) (id : ℕ) → KeepsState z (commands.Destroy what id) → is_busy z ≡ false
 unfolding phase_needed v30
 idle_at_destroy z what id keeps =
     idle_at z (commands.Destroy what id) refl keeps.phase (no_first z.pending (is_held z what id) (not_broken (z.pending || is_held z what id) keeps.destroy))
@@ -127,7 +127,7 @@ one_or_waited rec n i j c s (ContentsAt id) accepted is stage less upto live =
 -- ---- a host command
 
 -- what conflicts with something is there
-clash_there : (z : Status) (a b : Action) (l : Location) → IsNamed z a → Clash a b l → IsThere z l
+pub clash_there : (z : Status) (a b : Action) (l : Location) → IsNamed z a → Clash a b l → IsThere z l
 clash_there z a b l names (BothWrite p q) = names.writes l p
 clash_there z a b l names (ReadsLater p q) = names.writes l p
 clash_there z a b l names (WritesLater p q) = names.reads l p
@@ -137,7 +137,7 @@ no_live f None m e h = absurd cc
 no_live f (Some x) m e h = absurd cc
 
 -- a buffer that was there is gone where one is made under its id
-waited_at_buffer : (rec : List Command) (n i j : ℕ) (c : Command) (s : Stage) (id : ℕ) → IsAccepted rec n → slice_get rec i ≡ Some c → stage_of c ≡ Some s → i < j → j < n
+pub waited_at_buffer : (rec : List Command) (n i j : ℕ) (c : Command) (s : Stage) (id : ℕ) → IsAccepted rec n → slice_get rec i ≡ Some c → stage_of c ≡ Some s → i < j → j < n
     → IsSome (look (status_at rec i).buffers id) → is_live (status_at rec j).buffers id ≡ false → i < last_wait rec j
 waited_at_buffer rec n i j c s id accepted is stage less within live free =
     let made = made_by (λ (x : LiveBuffer). x.made) (look (status_at rec i).buffers id) live in
@@ -146,7 +146,7 @@ waited_at_buffer rec n i j c s id accepted is stage less within live free =
       | inr gone ↦ waited_if_gone rec n i j c s things.Buffer id accepted is stage (omega (arith, less, within)) (omega (arith, within)) gone
     ]
 
-waited_at_structure : (rec : List Command) (n i j : ℕ) (c : Command) (s : Stage) (id : ℕ) → IsAccepted rec n → slice_get rec i ≡ Some c → stage_of c ≡ Some s → i < j → j < n
+pub waited_at_structure : (rec : List Command) (n i j : ℕ) (c : Command) (s : Stage) (id : ℕ) → IsAccepted rec n → slice_get rec i ≡ Some c → stage_of c ≡ Some s → i < j → j < n
     → IsSome (look (status_at rec i).structures id) → is_live (status_at rec j).structures id ≡ false → i < last_wait rec j
 waited_at_structure rec n i j c s id accepted is stage less within live free =
     let made = made_by (λ (x : LiveStructure). x.made) (look (status_at rec i).structures id) live in
@@ -155,13 +155,13 @@ waited_at_structure rec n i j c s id accepted is stage less within live free =
       | inr gone ↦ waited_if_gone rec n i j c s things.Structure id accepted is stage (omega (arith, less, within)) (omega (arith, within)) gone
     ]
 
-of_buffer : (z : Status) (id : ℕ) (l : Location) → is_of_buffer id l ≡ true → IsThere z l → IsSome (look z.buffers id)
+pub of_buffer : (z : Status) (id : ℕ) (l : Location) → is_of_buffer id l ≡ true → IsThere z l → IsSome (look z.buffers id)
 of_buffer z id (ByteAt b at) e live = subst (λ k. IsSome (look z.buffers k)) (is_equal b id e) live
 of_buffer z id (BufferAt b) e live = subst (λ k. IsSome (look z.buffers k)) (is_equal b id e) live
 of_buffer z id (StructureAt b) e live = absurd cc
 of_buffer z id (ContentsAt b) e live = absurd cc
 
-of_structure : (z : Status) (id : ℕ) (l : Location) → is_of_structure id l ≡ true → IsThere z l → IsSome (look z.structures id)
+pub of_structure : (z : Status) (id : ℕ) (l : Location) → is_of_structure id l ≡ true → IsThere z l → IsSome (look z.structures id)
 of_structure z id (ByteAt b at) e live = absurd cc
 of_structure z id (BufferAt b) e live = absurd cc
 of_structure z id (StructureAt b) e live = subst (λ k. IsSome (look z.structures k)) (is_equal b id e) live
@@ -180,12 +180,12 @@ form_of_structure id (BufferAt b) e = absurd cc
 form_of_structure id (StructureAt b) e = e
 form_of_structure id (ContentsAt b) e = absurd cc
 
-makes_buffer : (id size : ℕ) (content : List ℕ) (a : Action) (l : Location) → Clash a (MakeBuffer id size content) l → is_of_buffer id l ≡ true
+pub makes_buffer : (id size : ℕ) (content : List ℕ) (a : Action) (l : Location) → Clash a (MakeBuffer id size content) l → is_of_buffer id l ≡ true
 makes_buffer id size content a l (BothWrite p q) = q
 makes_buffer id size content a l (ReadsLater p q) = either (is_size id l) false q (λ size_read. size_of_buffer id l size_read) (λ none. absurd cc)
 makes_buffer id size content a l (WritesLater p q) = q
 
-makes_structure : (id : ℕ) (form : _) (a : Action) (l : Location) → Clash a (MakeStructure id form) l → is_of_structure id l ≡ true
+pub makes_structure : (id : ℕ) (form : _) (a : Action) (l : Location) → Clash a (MakeStructure id form) l → is_of_structure id l ≡ true
 makes_structure id form a l (BothWrite p q) = q
 makes_structure id form a l (ReadsLater p q) = either (is_form id l) false q (λ form_read. form_of_structure id l form_read) (λ none. absurd cc)
 makes_structure id form a l (WritesLater p q) = q
@@ -195,7 +195,7 @@ no_rest a l (BothWrite p q) = absurd cc
 no_rest a l (ReadsLater p q) = absurd cc
 no_rest a l (WritesLater p q) = absurd cc
 
-no_sizes : {X : Type 0} (kind : _) (counts : List ℕ) (a : Action) (l : Location) → Clash a (ShowSizes kind counts) l → X
+pub no_sizes : {X : Type 0} (kind : _) (counts : List ℕ) (a : Action) (l : Location) → Clash a (ShowSizes kind counts) l → X
 no_sizes kind counts a l (BothWrite p q) = absurd cc
 no_sizes kind counts a l (ReadsLater p q) = absurd cc
 no_sizes kind counts a l (WritesLater p q) = absurd cc

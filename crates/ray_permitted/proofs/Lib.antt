@@ -11,3 +11,4 @@ pub mod Parts
 pub mod Runs
 pub mod Pieces
 pub mod Between
+pub mod Ordered
