@@ -1,5 +1,6 @@
 -- What bytes that are a form stand for. (Own: the form.)
-use Rattle.std.specs.Prelude.{ℕ, ◌≡◌, ◌+◌, ◌*◌, ◌≤◌, zero, suc, Bool, false, nat_lt, if◌then◌else◌, Result, Ok, Err, Option, Some, None, option_map, List, [], ◌∷◌, length, take, drop}
+use Rattle.std.specs.Prelude.{ℕ, ◌≡◌, ◌+◌, ◌*◌, ◌≤◌, zero, suc, Bool, false, nat_lt, if◌then◌else◌, Result, Ok, Err, Option, Some, None, option_map, List, [], ◌∷◌, length, take, drop, map}
+use Rattle.std.specs.List.{range_with_len}
 use Rattle.ray_bytes.specs.Fields.{long_at}
 use Rattle.ray_bytes.specs.StructureSizes.{structure_size}
 use Rattle.ray_bottom.specs.Contents as bottoms
@@ -16,7 +17,8 @@ pub record IsForm (bytes : List ℕ) : Type 0 where
   pub unbroken : broken_line bytes ≡ None
 
 -- the same line by line
-pub record KeepsLines (bytes : List ℕ) (total : ℕ) : Type 0 where
+pub record KeepsLines (bytes : List ℕ) : Type 0 where
+  pub total : ℕ
   pub long : 56 ≤ length bytes
   pub device : take 16 bytes ≡ device_text
   pub form : take 16 (drop 16 bytes) ≡ form_text
@@ -48,6 +50,10 @@ deserialized_in bytes = long_at bytes 40
 -- handle k, where there is one
 unfoldable pub handle_at : List ℕ → ℕ → ℕ
 handle_at bytes k = long_at bytes (56 + 8 * k)
+
+-- all handles
+abbrev pub handles_in : List ℕ → List ℕ
+handles_in bytes = map (handle_at bytes) (range_with_len 0 (handle_count_in bytes))
 
 abbrev pub handle_in : List ℕ → ℕ → Option ℕ
 handle_in bytes k = if nat_lt k (handle_count_in bytes) then Some (handle_at bytes k) else None
