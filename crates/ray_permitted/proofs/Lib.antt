@@ -12,3 +12,4 @@ pub mod Runs
 pub mod Pieces
 pub mod Between
 pub mod Ordered
+pub mod Fetching
