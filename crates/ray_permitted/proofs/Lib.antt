@@ -13,3 +13,4 @@ pub mod Pieces
 pub mod Between
 pub mod Ordered
 pub mod Fetching
+pub mod Refused

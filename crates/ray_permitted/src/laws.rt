@@ -1,4 +1,4 @@
-ghost use Rattle.ray_permitted.specs.Laws.{RulesGiveOrder, SchedulesComeToTheRun, SomeArePermitted, UnrefusedBreakNoRule};
+ghost use Rattle.ray_permitted.specs.Laws.{RulesGiveOrder, SchedulesComeToTheRun, SchedulesLeaveTheSame, RecordingOrderIsTheRun, SomeArePermitted, LongestChainsRise, WavesOfCommandsRun, AtEachFetch, UnrefusedBreakNoRule};
 
 /// A law: of commands that break no rule, outcomes are told by what is read, conflicting actions
 /// are ordered, and the order goes forward. It does nothing. Own.
@@ -7,15 +7,25 @@ pub fn rules_give_order()
 {}
 
 /// A law: every permitted schedule of commands that break no rule comes to the run of recording
-/// order. It does nothing. Own.
+/// order, and leaves its outcomes, its memory and its first fault. It does nothing. Own.
 pub fn schedules_come_to_the_run()
-    ensures { SchedulesComeToTheRun }
+    ensures run { SchedulesComeToTheRun }
+    ensures same { SchedulesLeaveTheSame }
+    ensures order { RecordingOrderIsTheRun }
 {}
 
-/// A law: recording order is permitted, and so are waves whose numbers rise along the order. It
-/// does nothing. Own.
+/// A law: recording order is permitted, and so are waves whose numbers rise along the order, as
+/// those of the longest chains do. It does nothing. Own.
 pub fn some_are_permitted()
-    ensures { SomeArePermitted }
+    ensures permitted { SomeArePermitted }
+    ensures chains { LongestChainsRise }
+    ensures waves { WavesOfCommandsRun }
+{}
+
+/// A law: along a permitted schedule each fetch reads what its action reads in recording order, and
+/// the action is ready there, where what it depends on gave an output. It does nothing. Own.
+pub fn fetches_are_ready()
+    ensures { AtEachFetch }
 {}
 
 /// A law: the commands before the one that is refused by the rules on the recording alone break no

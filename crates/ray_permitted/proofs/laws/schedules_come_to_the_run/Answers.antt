@@ -1,0 +1,10 @@
+use Rattle.ray_permitted.proofs.Fetching.{leave_the_same, orderly}
+use Rattle.ray_permitted.proofs.Runs.{comes_to_the_run, recording_order_is}
+use Rattle.ray_permitted.proofs.laws.schedules_come_to_the_run.Goals as goal
+
+pub returns : goal.returns
+returns c = record {
+  run = λ rec n es rules permitted. comes_to_the_run rec n es (orderly rec n rules) permitted;
+  same = leave_the_same;
+  order = recording_order_is;
+}
