@@ -1,7 +1,7 @@
 -- Between a device command and a later command that touch one location there is a wait, or both touch one thing.
-use Rattle.std.proofs.Common.{◌≡◌, ◌<◌, ◌≤◌, ◌+◌, ℕ, zero, suc, Bool, true, false, List, [], ◌∷◌, Option, Some, None, IsSome, ◌⊎◌, inl, inr, refl, sym, ◌∙◌, ap, subst, arith}
-use Rattle.std.specs.Prelude.{◌==◌, ◌||◌, not, slice_get, option_map, is_some, unwrap_or}
-use Rattle.std.proofs.lemmas.Bool.{cases_lt, cases_eq}
+use Rattle.std.proofs.Common.{◌≡◌, ◌<◌, ◌≤◌, ℕ, true, false, List, Option, Some, None, IsSome, ◌⊎◌, inl, inr, refl, sym, ◌∙◌, ap, subst, arith}
+use Rattle.std.specs.Prelude.{◌||◌, not, slice_get, option_map, is_some}
+use Rattle.std.proofs.lemmas.Bool.{cases_lt}
 use Rattle.ray_cmd.specs.declared.command.Command.{Command}
 use Rattle.ray_cmd.specs.declared.command.Command.TheVariants as commands
 use Rattle.ray_cmd.specs.declared.thing.Thing.{Thing}
@@ -15,21 +15,20 @@ use Rattle.ray_rules.specs.Access.{stage_of}
 use Rattle.ray_rules.specs.Buffers.{is_held, v30}
 use Rattle.ray_rules.specs.Hazards.{is_one, maker_of_buffer, maker_of_structure, status_at}
 use Rattle.ray_rules.specs.Ids.{is_live, look}
-use Rattle.ray_rules.specs.Names.{lacks_buffer, v1}
-use Rattle.ray_rules.specs.Order.{HostCommand, kind_of, last_wait}
+use Rattle.ray_rules.specs.Names.{v1}
+use Rattle.ray_rules.specs.Order.{last_wait}
 use Rattle.ray_rules.specs.Phases.{is_same_phase, phase_needed, v28, v29}
 use Rattle.ray_rules.specs.Refusals.{AreKept, static_table}
 use Rattle.ray_rules.specs.Status.{Status}
-use Rattle.ray_action.specs.Action.{Action, DestroyBuffer, DestroyStructure, MakeBuffer, MakeStructure, Rest, ShowBytes, ShowSizes, areas_read}
-use Rattle.ray_action.specs.Areas.{cover, is_form, is_size}
+use Rattle.ray_action.specs.Action.{Action, MakeBuffer, MakeStructure, Rest, ShowSizes}
+use Rattle.ray_action.specs.Areas.{is_form, is_size}
 use Rattle.ray_action.specs.Memory.{Location, ByteAt, BufferAt, StructureAt, ContentsAt}
-use Rattle.ray_action.specs.Pieces.{actions_of, destroyed, host_action}
-use Rattle.ray_action.specs.Storing.{is_of_buffer, is_of_structure, writes}
-use Rattle.ray_ready.specs.Accepted.{IsAccepted, MayRun}
-use Rattle.ray_permitted.proofs.Truth.{contradict, either, equal_is, is_equal, no_first, not_false, one_item, same_some}
+use Rattle.ray_action.specs.Storing.{is_of_buffer, is_of_structure}
+use Rattle.ray_ready.specs.Accepted.{IsAccepted}
+use Rattle.ray_permitted.proofs.Truth.{either, equal_is, is_equal, no_first, not_false, same_some}
 use Rattle.ray_permitted.proofs.Waits.{device_busy, is_busy, not_broken, wait_between, wait_later}
 use Rattle.ray_permitted.proofs.Making.{AreNamed, Destroys, buffer_until, structure_until}
-use Rattle.ray_permitted.proofs.Named.{IsNamed, IsThere, named}
+use Rattle.ray_permitted.proofs.Named.{IsNamed, IsThere}
 use Rattle.ray_permitted.proofs.Sharing.{IsOneThing}
 use Rattle.ray_permitted.proofs.InfosApart.{Clash, BothWrite, ReadsLater, WritesLater}
 

@@ -1,30 +1,28 @@
 -- What each fetch along a permitted schedule reads, and that its action is ready there.
-use Rattle.std.proofs.Common.{◌≡◌, ◌<◌, ◌≤◌, ◌+◌, ◌++◌, ℕ, Bool, true, List, Some, refl, sym, ◌∙◌, ap, subst, arith, length, take}
+use Rattle.std.proofs.Common.{◌≡◌, ◌<◌, ◌≤◌, ◌+◌, ℕ, Bool, true, List, Some, sym, ◌∙◌, subst, arith, length, take}
 use Rattle.std.specs.Prelude.{slice_get}
 use Rattle.ray_schedule.specs.Conflicts.{IsLocal}
 use Rattle.ray_schedule.specs.Events.{Event, Fetches, unit_of}
 use Rattle.ray_schedule.specs.Schedules.{StandsAt}
-use Rattle.ray_schedule.specs.Waves.{RisesAlong}
 use Rattle.ray_schedule.specs.Laws.{EverySchedule, MayRun}
 use Rattle.ray_schedule.specs.Laws as laws
 use Rattle.ray_schedule.proofs.Permitted.{unit-fetches, unit_below}
 use Rattle.ray_schedule.proofs.Whole.{every_schedule}
 use Rattle.ray_cmd.specs.declared.command.Command.{Command}
-use Rattle.ray_rules.specs.Order.{Chain, IsLongest, before, longer}
-use Rattle.ray_action.specs.Memory.{Location, Memory}
-use Rattle.ray_action.specs.Action.{Action, areas_read}
-use Rattle.ray_action.specs.Areas.{AgreeOn, cover}
+use Rattle.ray_rules.specs.Order.{IsLongest, before, longer}
+use Rattle.ray_action.specs.Action.{areas_read}
+use Rattle.ray_action.specs.Areas.{cover}
 use Rattle.ray_action.specs.Outcomes.{outcome_of}
 use Rattle.ray_action.specs.Pieces.{Numbered, actions}
 use Rattle.ray_action.specs.Readiness.{IsReady}
 use Rattle.ray_action.specs.Running.{action_at, memory_before}
 use Rattle.ray_action.specs.Storing.{writes}
 use Rattle.ray_action.proofs.Local.{outcomes_local}
-use Rattle.ray_ready.specs.Laws.{AreSources, GaveBefore, IsGiven, first_actions}
+use Rattle.ray_ready.specs.Laws.{AreSources, IsGiven, first_actions}
 use Rattle.ray_ready.proofs.Local.{ready_local}
 use Rattle.ray_ready.proofs.Recording.{are_ready}
 use Rattle.ray_ready.proofs.Sources.{sources_enough}
-use Rattle.ray_permitted.specs.Laws.{AtEachFetch, FetchesAreReady, FetchesAreReadyBySources, FetchesReadTheSame, IsOrderly, LongestChainsRise, RulesGiveOrder, SchedulesLeaveTheSame}
+use Rattle.ray_permitted.specs.Laws.{AtEachFetch, FetchesAreReady, FetchesAreReadyBySources, FetchesReadTheSame, LongestChainsRise, RulesGiveOrder, SchedulesLeaveTheSame}
 use Rattle.ray_permitted.specs.Rules.{BreakNoRule}
 use Rattle.ray_permitted.specs.Work.{device_of, work_of}
 use Rattle.ray_permitted.proofs.Truth.{in_front, item_at}

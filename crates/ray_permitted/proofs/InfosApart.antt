@@ -1,5 +1,5 @@
 -- What two actions conflict on; infos of one build don't conflict.
-use Rattle.std.proofs.Common.{◌≡◌, ◌<◌, ◌+◌, ◌-◌, ◌++◌, ℕ, zero, suc, Bool, true, false, List, [], ◌∷◌, Option, Some, None, refl, sym, ◌∙◌, subst, arith, map, length}
+use Rattle.std.proofs.Common.{◌≡◌, ◌<◌, ◌+◌, ◌++◌, ℕ, zero, suc, Bool, true, false, List, [], ◌∷◌, Option, Some, None, refl, sym, ◌∙◌, subst, arith, map, length}
 use Rattle.std.specs.Prelude.{◌==◌, ◌||◌, if◌then◌else◌, slice_get}
 use Rattle.std.specs.List.{flat_map, list_any}
 use Rattle.std.specs.Option.{option_to_list}
@@ -7,7 +7,6 @@ use Rattle.std.proofs.lemmas.Bool.Decides.{nat_tests}
 use Rattle.std.proofs.lemmas.List.Folds.{list_any-append}
 use Rattle.ray_cmd.specs.declared.geometry.Geometry.{Geometry}
 use Rattle.ray_cmd.specs.declared.info.Info.{Info}
-use Rattle.ray_ranges.specs.Meeting.{meets}
 use Rattle.ray_rules.specs.declared.access_type.AccessType.TheVariants.{ShaderRead, StructureRead}
 use Rattle.ray_rules.specs.declared.byte_range.ByteRange.{ByteRange}
 use Rattle.ray_rules.specs.declared.live_buffer.LiveBuffer.{LiveBuffer}
@@ -25,8 +24,7 @@ use Rattle.ray_action.specs.Memory.{Location, ByteAt, BufferAt, StructureAt, Con
 use Rattle.ray_action.specs.Pieces.{info_actions}
 use Rattle.ray_action.specs.Storing.{writes}
 use Rattle.ray_action.specs.Touching.{TouchesWithin, is_reached, touched}
-use Rattle.ray_permitted.proofs.Truth.{both, contradict, either, equal_is, in_front, is_equal, never_none, no_first, no_second, none_at, or_left, or_right, same_some, within}
-use Rattle.ray_action.specs.Areas.{Bytes}
+use Rattle.ray_permitted.proofs.Truth.{contradict, either, equal_is, in_front, is_equal, never_none, no_first, no_second, none_at, or_left, or_right, same_some, within}
 
 -- two actions touch a location, and one of them writes it
 pub data Clash (a b : Action) (l : Location) : Type 0 where

@@ -14,3 +14,4 @@ pub mod Between
 pub mod Ordered
 pub mod Fetching
 pub mod Refused
+pub mod Sample

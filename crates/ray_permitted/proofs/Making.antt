@@ -1,6 +1,6 @@
 -- What is live stays the same thing until it is destroyed.
-use Rattle.std.proofs.Common.{◌≡◌, ◌<◌, ◌≤◌, ◌+◌, ℕ, zero, suc, Bool, true, false, List, [], ◌∷◌, Option, Some, None, ◌⊎◌, inl, inr, refl, sym, ◌∙◌, ap, subst, arith}
-use Rattle.std.specs.Prelude.{◌==◌, ◌||◌, if◌then◌else◌, slice_get, option_map, is_some}
+use Rattle.std.proofs.Common.{◌≡◌, ◌<◌, ◌≤◌, ◌+◌, ℕ, zero, suc, false, List, [], ◌∷◌, Option, Some, None, ◌⊎◌, inl, inr, refl, sym, ◌∙◌, ap, subst, arith}
+use Rattle.std.specs.Prelude.{◌==◌, ◌||◌, slice_get, option_map, is_some}
 use Rattle.std.specs.BTreeMap.{is_at}
 use Rattle.std.specs.Ordering.{nat_cmp}
 use Rattle.std.proofs.lemmas.Bool.{cases_lt, cases_eq, cond-true, cond-false, eq-eqb, ne_eqb}
@@ -14,7 +14,7 @@ use Rattle.ray_rules.specs.declared.built.Built.{Built}
 use Rattle.ray_rules.specs.declared.live_buffer.LiveBuffer.{LiveBuffer}
 use Rattle.ray_rules.specs.declared.live_structure.LiveStructure.{LiveStructure}
 use Rattle.ray_rules.specs.Hazards.{after_if, maker_of_buffer, maker_of_structure, status_at}
-use Rattle.ray_rules.specs.Ids.{Ids, is_live, look, with_id, without_id}
+use Rattle.ray_rules.specs.Ids.{Ids, is_live, look, without_id}
 use Rattle.ray_rules.specs.Names.{lacks_buffer, v1}
 use Rattle.ray_rules.specs.Status.{Status, after, after_infos, built_at, built_by, copied_by, fill_in, structure_built, with_built}
 use Rattle.ray_ready.proofs.Maps.{here, look_first, look_later, look_with, there}

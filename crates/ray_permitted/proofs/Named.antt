@@ -1,8 +1,8 @@
 -- What a piece of a device command reads and writes is live where its command stands.
-use Rattle.std.proofs.Common.{◌≡◌, ◌<◌, ◌≤◌, ◌+◌, ◌*◌, ◌++◌, ℕ, zero, suc, Bool, true, false, List, [], ◌∷◌, Option, Some, None, IsSome, refl, sym, ◌∙◌, ap, subst, arith, map, length}
-use Rattle.std.specs.Prelude.{◌==◌, ◌||◌, ◌&&◌, nat_le, nat_lt, slice_get, is_some}
-use Rattle.std.specs.List.{flat_map, list_any, range_with_len}
-use Rattle.std.specs.Option.{option_map_or, option_to_list, option_and_then}
+use Rattle.std.proofs.Common.{◌≡◌, ◌<◌, ◌+◌, ◌*◌, ◌++◌, ℕ, zero, suc, true, false, List, [], ◌∷◌, Option, Some, None, IsSome, refl, sym, ap, subst, arith, map, length}
+use Rattle.std.specs.Prelude.{◌||◌, slice_get, is_some}
+use Rattle.std.specs.List.{flat_map, list_any}
+use Rattle.std.specs.Option.{option_map_or, option_to_list}
 use Rattle.ray_flags.specs.declared.ray_flags.RayFlags.{RayFlags}
 use Rattle.ray_script.specs.declared.raw_rule.RawRule.{RawRule}
 use Rattle.ray_cmd.specs.declared.asked.Asked.{Asked}
@@ -24,24 +24,24 @@ use Rattle.ray_rules.specs.declared.live_buffer.LiveBuffer.{LiveBuffer}
 use Rattle.ray_rules.specs.declared.live_structure.LiveStructure.{LiveStructure}
 use Rattle.ray_rules.specs.declared.stage.Stage.{Stage}
 use Rattle.ray_rules.specs.Access.{rays_of_piece, stage_of, uses_at}
-use Rattle.ray_rules.specs.Ids.{Ids, look}
+use Rattle.ray_rules.specs.Ids.{look}
 use Rattle.ray_rules.specs.Names.{lacks_buffer, lacks_structure, v1}
 use Rattle.ray_rules.specs.Origins.{uses_of}
-use Rattle.ray_rules.specs.Ranges.{inputs_read, range, size_at}
+use Rattle.ray_rules.specs.Ranges.{inputs_read, range}
 use Rattle.ray_rules.specs.Sources.{first_stale, is_stale, v21}
 use Rattle.ray_rules.specs.Status.{Status, built_at}
-use Rattle.ray_action.specs.Action.{Action, Building, BuildBottom, BuildTop, CopyBytes, CopyStructure, FillBytes, MakeBuffer, MakeStructure, DestroyBuffer, DestroyStructure, Rest, ShowBytes, ShowSizes, TellProperty, TraceRays, Unbuilt, UpdateBottom, UpdateBytes, UpdateTop, areas_read, content_buffer, geometry_areas, structure_areas}
-use Rattle.ray_action.specs.Areas.{Area, Bytes, ContentsOf, ContentsOfEach, FormOf, SizeOf, cover, covers, has, is_contents_of, is_contents_of_any, is_form, is_in_range, is_size}
+use Rattle.ray_action.specs.Action.{Action, Building, CopyStructure, FillBytes, TellProperty, Unbuilt, UpdateBytes, areas_read, content_buffer, geometry_areas, structure_areas}
+use Rattle.ray_action.specs.Areas.{Area, Bytes, ContentsOf, ContentsOfEach, FormOf, cover, covers, has, is_contents_of, is_contents_of_any, is_form, is_in_range, is_size}
 use Rattle.ray_action.specs.Memory.{Location, ByteAt, BufferAt, StructureAt, ContentsAt}
-use Rattle.ray_action.specs.Pieces.{actions_of, bottom_action, building, info_action, info_action_by, info_action_on, info_actions, is_built_form, property_action, rays_action, region_action, top_action, top_action_of, trace_pieces}
+use Rattle.ray_action.specs.Pieces.{actions_of, bottom_action, building, info_action, info_action_by, info_action_on, info_actions, property_action, rays_action, region_action, top_action, top_action_of, trace_pieces}
 use Rattle.ray_action.specs.Storing.{writes}
 use Rattle.ray_ready.specs.Accepted.{MayRun}
-use Rattle.ray_ready.proofs.Ties.{IsBuilt, IsFresh}
-use Rattle.ray_ready.proofs.Allowed.{AreReadable, AreWithin, IsAllowed, IsBuiltOf, IsLiveOf, IsReadable, IsWithin, IsWithinIf, MayBuildBottom, MayBuildTop}
+use Rattle.ray_ready.proofs.Ties.{IsBuilt}
+use Rattle.ray_ready.proofs.Allowed.{AreReadable, AreWithin, IsAllowed, IsLiveOf, IsReadable, IsWithin, MayBuildBottom, MayBuildTop}
 use Rattle.ray_ready.proofs.Infos.{AreAllowedFrom}
 use Rattle.ray_ready.proofs.InfoRules.{infos_allowed}
-use Rattle.ray_ready.proofs.Kept.{Fail, Keeps, fails_at, fresh_of, is_there, keeps, no_part, none_any}
-use Rattle.ray_permitted.proofs.Truth.{and_first, either, is_equal, made_of_item, made_of_number, never_none, no_first, no_second, one_item, or_left, or_right, same_some}
+use Rattle.ray_ready.proofs.Kept.{Fail, fails_at, fresh_of, is_there, keeps, no_part, none_any}
+use Rattle.ray_permitted.proofs.Truth.{either, is_equal, made_of_item, made_of_number, never_none, no_first, no_second, one_item, or_left, or_right, same_some}
 use Rattle.ray_permitted.proofs.Sharing.{low_of}
 use Rattle.ray_permitted.proofs.Waits.{not_broken}
 

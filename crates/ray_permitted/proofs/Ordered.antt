@@ -1,38 +1,36 @@
 -- Conflicting actions of commands that break no rule are ordered.
-use Rattle.std.proofs.Common.{◌≡◌, ◌<◌, ◌≤◌, ◌+◌, ℕ, zero, suc, Bool, true, false, List, [], ◌∷◌, Option, Some, None, ◌⊎◌, inl, inr, refl, sym, ◌∙◌, ap, subst, arith, length}
-use Rattle.std.specs.Prelude.{◌&&◌, ◌||◌, nat_lt, slice_get, unwrap_or}
+use Rattle.std.proofs.Common.{◌≡◌, ◌<◌, ◌≤◌, ℕ, true, false, List, [], ◌∷◌, Some, None, inl, inr, refl, sym, ◌∙◌, ap, subst, arith}
+use Rattle.std.specs.Prelude.{◌||◌, nat_lt, slice_get, unwrap_or}
 use Rattle.std.specs.Option.{option_map_or}
 use Rattle.std.proofs.lemmas.Bool.{cases_eq, cases_lt}
 use Rattle.ray_schedule.specs.Conflicts.{AreOrdered, Conflict, IsForward, ReadAfterWrite, WriteAfterRead, WriteAfterWrite}
 use Rattle.ray_cmd.specs.declared.command.Command.{Command}
 use Rattle.ray_cmd.specs.declared.command.Command.TheVariants as commands
-use Rattle.ray_cmd.specs.declared.thing.Thing.TheVariants as things
 use Rattle.ray_rules.specs.declared.stage.Stage.{Stage}
 use Rattle.ray_rules.specs.declared.stage.Stage.TheVariants.{Transfer, Build, Compute}
 use Rattle.ray_rules.specs.Access.{accesses_of, no_access, stage_of}
-use Rattle.ray_rules.specs.Conflicts.{v16}
-use Rattle.ray_rules.specs.Hazards.{accesses_at, stage_at, status_at, v25, v26, v27}
+use Rattle.ray_rules.specs.Hazards.{accesses_at, stage_at, status_at}
 use Rattle.ray_rules.specs.Ids.{is_live}
 use Rattle.ray_rules.specs.Names.{lacks_buffer, v1}
 use Rattle.ray_rules.specs.Order.{Kind, Device, Barrier, HostCommand, before, is_device, is_ordered_to, kind_at, kind_before, kind_of, last_wait, takes_stage}
-use Rattle.ray_rules.specs.Refusals.{AreKept, static_table}
+use Rattle.ray_rules.specs.Refusals.{AreKept}
 use Rattle.ray_rules.specs.Status.{Status}
 use Rattle.ray_rules.specs.Verdict.{hazard_table}
-use Rattle.ray_action.specs.Action.{Action, MakeBuffer, MakeStructure, Rest, ShowSizes, areas_read}
+use Rattle.ray_action.specs.Action.{Action, MakeBuffer, MakeStructure, Rest, areas_read}
 use Rattle.ray_action.specs.Areas.{cover}
 use Rattle.ray_action.specs.Memory.{Location}
 use Rattle.ray_action.specs.Pieces.{Numbered, actions_of, host_action}
 use Rattle.ray_action.specs.Running.{action_at}
 use Rattle.ray_action.specs.Storing.{writes}
 use Rattle.ray_action.specs.Touching.{holds_data, touched}
-use Rattle.ray_ready.specs.Accepted.{IsAccepted, MayRun}
+use Rattle.ray_ready.specs.Accepted.{MayRun}
 use Rattle.ray_ready.specs.Laws.{first_actions}
 use Rattle.ray_ready.proofs.Kept.{keeps}
 use Rattle.ray_permitted.specs.Rules.{BreakNoRule}
 use Rattle.ray_permitted.specs.Work.{command_at, device_of, work_of}
 use Rattle.ray_permitted.proofs.Truth.{and_first, both, is_less, item_at, less_is, no_first, one_item, same_some}
 use Rattle.ray_permitted.proofs.Waits.{device_busy, is_busy, not_broken, wait_between, wait_orders}
-use Rattle.ray_permitted.proofs.Units.{AreTwo, IsPiece, piece_at, two_at, unit_is}
+use Rattle.ray_permitted.proofs.Units.{AreTwo, two_at, unit_is}
 use Rattle.ray_permitted.proofs.Named.{IsThere, named}
 use Rattle.ray_permitted.proofs.Sharing.{IsOneThing, read_after_write, write_after_read, write_after_write}
 use Rattle.ray_permitted.proofs.InfosApart.{Clash, BothWrite, ReadsLater, WritesLater}

@@ -1,5 +1,5 @@
 -- Pieces of one command don't conflict.
-use Rattle.std.proofs.Common.{◌≡◌, ◌<◌, ◌*◌, ◌-◌, ℕ, List, [], Option, Some, None, refl, sym, ◌∙◌, ap, subst, arith, map, length}
+use Rattle.std.proofs.Common.{◌≡◌, ◌<◌, ◌*◌, ℕ, List, [], Option, Some, None, refl, sym, ◌∙◌, ap, subst, arith, map, length}
 use Rattle.std.specs.Prelude.{slice_get, option_map}
 use Rattle.std.specs.List.{range_with_len}
 use Rattle.std.specs.Option.{option_map_or}
@@ -8,7 +8,6 @@ use Rattle.ray_cmd.specs.declared.command.Command.TheVariants as commands
 use Rattle.ray_cmd.specs.declared.info.Info.{Info}
 use Rattle.ray_cmd.specs.declared.place.Place.TheVariants.{Part}
 use Rattle.ray_ranges.specs.First.{meets_before}
-use Rattle.ray_ranges.specs.Meeting.{meets}
 use Rattle.ray_rules.specs.declared.stage.Stage.{Stage}
 use Rattle.ray_rules.specs.Access.{info_accesses, no_access, piece_accesses, stage_of}
 use Rattle.ray_rules.specs.Conflicts.{first_conflict, sources_in, target_of, v16}
@@ -16,7 +15,6 @@ use Rattle.ray_rules.specs.Ranges.{range}
 use Rattle.ray_rules.specs.Ranges as ranges
 use Rattle.ray_rules.specs.Status.{Status}
 use Rattle.ray_action.specs.Action.{Action}
-use Rattle.ray_action.specs.Areas.{has}
 use Rattle.ray_action.specs.Memory.{Location}
 use Rattle.ray_action.specs.Pieces.{actions_of, rays_action, region_action, trace_pieces}
 use Rattle.ray_action.specs.Touching.{TouchesWithin}

@@ -13,7 +13,6 @@ use Rattle.ray_rules.specs.Status.{Status}
 use Rattle.ray_action.specs.Areas.{cover, is_contents_of, is_in_range}
 use Rattle.ray_action.specs.Memory.{Location, ByteAt, BufferAt, StructureAt, ContentsAt}
 use Rattle.ray_action.specs.Pieces.{rays_action, trace_pieces}
-use Rattle.ray_action.specs.Storing.{writes}
 use Rattle.ray_permitted.proofs.Truth.{both, contradict, either, equal_is}
 use Rattle.ray_permitted.proofs.Sharing.{bytes_meet, low_of}
 use Rattle.ray_permitted.proofs.InfosApart.{Clash, BothWrite, ReadsLater, WritesLater}

@@ -1,21 +1,18 @@
 -- The commands before the one that is refused break no rule.
-use Rattle.std.proofs.Common.{◌≡◌, ◌+◌, ◌<◌, ◌≤◌, ℕ, zero, suc, List, [], ◌∷◌, Option, Some, None, refl, sym, ◌∙◌, ap, subst, arith, length}
+use Rattle.std.proofs.Common.{◌≡◌, ◌+◌, ◌<◌, ◌≤◌, ℕ, zero, suc, List, [], ◌∷◌, Option, Some, None, refl, sym, ap, subst, arith, length}
 use Rattle.std.specs.Prelude.{slice_get, option_map}
 use Rattle.ray_cmd.specs.declared.command.Command.{Command}
 use Rattle.ray_cmd.specs.declared.place.Place.{Place}
 use Rattle.ray_cmd.specs.declared.refusal.Refusal.{Refusal}
-use Rattle.ray_rules.specs.Hazards.{status_at}
-use Rattle.ray_rules.specs.Refusals.{AreKept, Row, least_broken, or_after, refusal_at_end, refused}
+use Rattle.ray_rules.specs.Refusals.{AreKept, Row, least_broken, or_after, refused}
 use Rattle.ray_rules.specs.Status.{Status, after, at_first}
 use Rattle.ray_rules.specs.Verdict.{hazard_table, rule_refusal, rule_refusal_from, rule_refusal_of, rule_table}
 use Rattle.ray_ready.specs.Accepted.{refused_from}
-use Rattle.ray_ready.proofs.Recording.{Follow, itself, next_status}
 use Rattle.ray_ready.proofs.Unrefused.{unrefused}
 use Rattle.ray_permitted.specs.Laws.{UnrefusedBreakNoRule}
-use Rattle.ray_permitted.specs.Rules.{AreOfBuiltForms, BreakNoRule}
-use Rattle.ray_permitted.proofs.Truth.{item_at, same_some}
+use Rattle.ray_permitted.proofs.Truth.{item_at}
 
-kept_rows : (i : ℕ) (rows : List Row) → least_broken i rows ≡ None → AreKept rows
+pub kept_rows : (i : ℕ) (rows : List Row) → least_broken i rows ≡ None → AreKept rows
 kept_rows i [] e = tt
 kept_rows i ((number, None) ∷ rows) e = (refl, kept_rows i rows e)
 kept_rows i ((number, Some place) ∷ rows) e = absurd cc

@@ -1,5 +1,5 @@
 -- Recording order in the words of schedules is that of the run, so each permitted schedule comes to the run.
-use Rattle.std.proofs.Common.{◌≡◌, ◌<◌, ◌≤◌, ℕ, zero, suc, Bool, true, false, List, [], ◌∷◌, Option, Some, None, refl, sym, ◌∙◌, ap, subst, arith, length}
+use Rattle.std.proofs.Common.{◌≡◌, ◌<◌, ℕ, zero, suc, Bool, true, false, List, [], ◌∷◌, Option, Some, refl, sym, ◌∙◌, ap, arith, length}
 use Rattle.std.specs.Prelude.{◌&&◌, not, if◌then◌else◌}
 use Rattle.ray_schedule.specs.Events.{Event}
 use Rattle.ray_schedule.specs.Units as schedules
@@ -11,8 +11,8 @@ use Rattle.ray_action.specs.Memory.{Held, Location, Memory, nothing_live}
 use Rattle.ray_action.specs.Action.{Action}
 use Rattle.ray_action.specs.Outcomes.{Outcome, Gives, Breaks, Undefined, outcome_of}
 use Rattle.ray_action.specs.Pieces.{Numbered}
-use Rattle.ray_action.specs.Running.{action_at, memory_before, run_from, then_run}
-use Rattle.ray_action.specs.Storing.{after, left, put, writes}
+use Rattle.ray_action.specs.Running.{action_at, memory_before, run_from}
+use Rattle.ray_action.specs.Storing.{after, left, writes}
 use Rattle.ray_ready.specs.Laws.{first_actions}
 use Rattle.ray_permitted.specs.Along.{run_along, run_kept, then_kept}
 use Rattle.ray_permitted.specs.Laws.{IsOrderly, RecordingOrderIsTheRun}

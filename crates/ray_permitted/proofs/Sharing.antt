@@ -1,12 +1,11 @@
 -- Where two commands touch a location of one thing, the rules on hazards order them.
-use Rattle.std.proofs.Common.{◌≡◌, ◌<◌, ◌≤◌, ◌+◌, ℕ, zero, suc, Bool, true, false, List, [], ◌∷◌, Option, Some, None, inl, inr, refl, sym, ◌∙◌, ap, subst, arith}
-use Rattle.std.specs.Prelude.{◌==◌, ◌&&◌, ◌||◌, not, nat_le, nat_lt, if◌then◌else◌, slice_get, option_map}
+use Rattle.std.proofs.Common.{◌≡◌, ◌<◌, ◌≤◌, ◌+◌, ℕ, zero, suc, Bool, true, false, List, Option, Some, None, inl, inr, refl, sym, ◌∙◌, ap, subst, arith}
+use Rattle.std.specs.Prelude.{◌==◌, ◌&&◌, not, nat_le, nat_lt, if◌then◌else◌, slice_get, option_map}
 use Rattle.std.specs.List.{list_any}
 use Rattle.std.specs.Option.{option_map_or}
 use Rattle.std.proofs.lemmas.Bool.{cases_lt}
 use Rattle.std.proofs.lemmas.Bool.Decides.{nat_tests}
 use Rattle.ray_cmd.specs.declared.command.Command.{Command}
-use Rattle.ray_cmd.specs.declared.place.Place.{Place}
 use Rattle.ray_cmd.specs.declared.place.Place.TheVariants.{Earlier}
 use Rattle.ray_ranges.specs.declared.range.Range.{Range}
 use Rattle.ray_ranges.specs.Meeting.{meets}
@@ -15,7 +14,6 @@ use Rattle.ray_rules.specs.declared.reach.Reach.{Reach}
 use Rattle.ray_rules.specs.declared.reach.Reach.TheVariants as reaches
 use Rattle.ray_rules.specs.declared.stage.Stage.{Stage}
 use Rattle.ray_rules.specs.declared.touch.Touch.{Touch}
-use Rattle.ray_rules.specs.Access.{Accesses, stage_of}
 use Rattle.ray_rules.specs.Hazards.{accesses_at, bytes_in, greatest, greatest_with, is_one, is_uncovered, maker_of_buffer, maker_of_structure, read_unordered, shares, stage_at, status_at, touches_share, v25, v26, v27, wrote_uncovered}
 use Rattle.ray_rules.specs.Order.{is_covered, is_ordered_to}
 use Rattle.ray_rules.specs.Status.{Status}
@@ -23,7 +21,7 @@ use Rattle.ray_action.specs.Areas.{is_in_range}
 use Rattle.ray_action.specs.Memory.{Location, ByteAt, BufferAt, StructureAt, ContentsAt}
 use Rattle.ray_action.specs.Touching.{is_reached, touched}
 use Rattle.ray_sync.proofs.Coverage.{covered-ordered}
-use Rattle.ray_permitted.proofs.Truth.{and_first, and_second, any_at, both, contradict, is_equal, never_none, none_at, not_both, not_false, some_passes}
+use Rattle.ray_permitted.proofs.Truth.{and_first, and_second, any_at, both, contradict, is_equal, none_at, not_both, not_false, some_passes}
 
 -- ---- what is shared
 

@@ -1,12 +1,12 @@
 -- Which command and which piece an action of a recording belongs to.
-use Rattle.std.proofs.Common.{◌≡◌, ◌<◌, ◌≤◌, ◌+◌, ◌++◌, ℕ, zero, suc, List, [], ◌∷◌, Option, Some, None, ◌⊎◌, inl, inr, refl, sym, ◌∙◌, ap, subst, arith, append_assoc, map, length, take}
+use Rattle.std.proofs.Common.{◌≡◌, ◌<◌, ◌≤◌, ◌+◌, ◌++◌, ℕ, zero, suc, List, [], ◌∷◌, Some, ◌⊎◌, inl, inr, refl, sym, ◌∙◌, ap, subst, arith, append_assoc, map, length, take}
 use Rattle.std.specs.Prelude.{slice_get}
 use Rattle.std.specs.Option.{option_map_or}
 use Rattle.ray_cmd.specs.declared.command.Command.{Command}
 use Rattle.ray_rules.specs.Hazards.{status_at}
 use Rattle.ray_rules.specs.Status.{Status, at_first}
 use Rattle.ray_rules.specs.Status as status
-use Rattle.ray_action.specs.Action.{Action, Rest}
+use Rattle.ray_action.specs.Action.{Rest}
 use Rattle.ray_action.specs.Pieces.{Numbered, actions, actions_from, actions_of, numbered}
 use Rattle.ray_action.specs.Running.{action_at, memory_before}
 use Rattle.ray_action.specs.Storing.{after}

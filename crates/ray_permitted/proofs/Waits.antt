@@ -20,7 +20,7 @@ use Rattle.ray_rules.specs.Order.{Handed, handed_after_if, handed_at, handed_to_
 use Rattle.ray_rules.specs.Phases.{is_same_phase, phase_needed, v28}
 use Rattle.ray_rules.specs.Places.{whole}
 use Rattle.ray_rules.specs.Status.{Status, after, after_infos, built_by, fill_in, with_built}
-use Rattle.ray_permitted.proofs.Truth.{less_is, no_first, no_second, not_false, or_left, or_right}
+use Rattle.ray_permitted.proofs.Truth.{less_is, not_false, or_left, or_right}
 
 -- ---- the last wait
 

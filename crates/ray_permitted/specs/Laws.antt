@@ -7,9 +7,8 @@ use Rattle.ray_schedule.specs.Waves.{RisesAlong}
 use Rattle.ray_schedule.specs.Laws.{MayRun, EverySchedule, ArePermitted, WavesRun, after, before_unit}
 use Rattle.ray_cmd.specs.declared.command.Command.{Command}
 use Rattle.ray_rules.specs.Order.{IsLongest, before}
-use Rattle.ray_rules.specs.Refusals.{AreKept}
-use Rattle.ray_rules.specs.Verdict.{hazard_table, rule_refusal}
-use Rattle.ray_action.specs.Memory.{Memory, nothing_live}
+use Rattle.ray_rules.specs.Verdict.{rule_refusal}
+use Rattle.ray_action.specs.Memory.{nothing_live}
 use Rattle.ray_action.specs.Areas.{AgreeOn}
 use Rattle.ray_action.specs.Action.{areas_read}
 use Rattle.ray_action.specs.Readiness.{IsReady}
