@@ -1,7 +1,7 @@
 -- The form of a bottom structure: what is written is a form that stands for the contents, and a form is what its contents are
 -- written as.
-use Rattle.std.proofs.Common.{ℕ, zero, suc, ◌≡◌, ◌<◌, ◌≤◌, ◌+◌, ◌*◌, ◌/◌, ◌==◌, ◌&&◌, ◌^◌, ◌++◌, not, Bool, true, false, List, [], ◌∷◌, length, drop, map, Option, Some, None, option_map, refl, sym, ap, subst, ◌∙◌, arith, length-append}
-use Rattle.std.specs.Prelude.{All, is_none, nat_le, nat_lt, if◌then◌else◌}
+use Rattle.std.proofs.Common.{ℕ, zero, suc, ◌≡◌, ◌<◌, ◌≤◌, ◌+◌, ◌*◌, ◌/◌, ◌==◌, ◌&&◌, ◌^◌, ◌++◌, ◌||◌, not, Bool, true, false, List, [], ◌∷◌, length, drop, map, Result, Ok, Err, Option, Some, None, option_map, refl, sym, ap, subst, ◌∙◌, arith, length-append}
+use Rattle.std.specs.Prelude.{All, IfOk, slice_get, is_none, nat_le, nat_lt, if◌then◌else◌}
 use Rattle.std.specs.List.{flat_map, range_with_len}
 use Rattle.std.proofs.lemmas.Bool.Decides.{nat_tests}
 use Rattle.std.proofs.lemmas.List.Concat.{flat_map-cons}
@@ -18,13 +18,13 @@ use Rattle.ray_bottom.specs.Storing.{bytes_of_words, kind_number, geometry_bytes
 use Rattle.ray_serial.specs.Heads.{element_size}
 use Rattle.ray_serial.specs.Rows.{are_geometries, total_in, row_total, geometries_in}
 use Rattle.ray_serial.specs.InstanceBytes.{are_instances}
-use Rattle.ray_serial.specs.Form.{handle_count_in, payload_in, instances_of_payload, is_top_payload, flags_of_payload, geometry_count, row_of, at_most, or_else, bottom_total, has_flags, top_total, total_of_payload, has_bad_element, broken_line}
-use Rattle.ray_serial.specs.Meaning.{KeepsLines, IsForm, is_top_form, deserialized_in, handle_at, handles_in, with_flags, bottom_in_payload, bottom_in}
+use Rattle.ray_serial.specs.Form.{handle_count_in, payload_in, instances_of_payload, is_top_payload, flags_of_payload, geometry_count, row_of, at_most, or_else, bottom_total, has_flags, top_total, lacks_room, total_of_payload, has_bad_element, broken_line}
+use Rattle.ray_serial.specs.Meaning.{KeepsLines, IsForm, is_top_form, deserialized_in, handle_at, handles_in, with_flags, bottom_in_payload, bottom_in, HasRoom, CanRestore}
 use Rattle.ray_serial.specs.Written.{form_size, form_bytes, bottom_form}
 use Rattle.ray_serial.proofs.Words.{AreBytes, AreBytes-drop, HasFour, four_bytes, four_back, four_again, length-four_bytes, after_four}
 use Rattle.ray_serial.proofs.GeometryBack.{length-geometry_bytes, IsRow, row_back}
 use Rattle.ray_serial.proofs.GeometryAgain.{AreAgain, row_again}
-use Rattle.ray_serial.proofs.KeptLines.{unbroken-KeepsLines}
+use Rattle.ray_serial.proofs.KeptLines.{KeepsLines-unbroken, unbroken-KeepsLines}
 use Rattle.ray_serial.proofs.Headers.{HasHeader, header_back, form_again, length-payload_in}
 
 -- ---- tests
@@ -427,3 +427,103 @@ bottom_form-bottom_in bytes c fits k bottom e =
     let size = structure_again bytes k (length c.geometries) (total_of c.geometries) again.count again.total_is in
     let none = sym (no_handles bytes (handle_count_in bytes) keeps.none) in
     (λ i. form_bytes (size i) (none i) (again.same i)) ∙ form_again bytes fits k
+
+-- ---- what calls cite
+
+pub kind_of_first : (gs : List Geometry) (kind : Kind) → All (λ g. All (λ h. kind_of g ≡ kind_of h) gs) gs → option_map kind_of (slice_get gs 0) ≡ Some kind →
+    All (λ g. kind_of g ≡ kind) gs
+kind_of_first [] kind same e = absurd cc
+kind_of_first (g ∷ gs) kind same e = let named : kind_of g ≡ kind = cc in λ k d below. sym (same 0 g (omega arith) k d below) ∙ named
+
+pub no_kind : (gs : List Geometry) (kind : Kind) → length gs ≡ 0 → All (λ g. kind_of g ≡ kind) gs
+no_kind gs kind none = λ k d below. absurd (omega arith)
+
+pub length-bottom_form : (kind : Kind) (c : ContentsValue) → IsContents c → All (λ g. kind_of g ≡ kind) c.geometries →
+    length (bottom_form c) ≡ 72 + 32 * length c.geometries + element_size (kind_number kind) * total_of c.geometries
+length-bottom_form kind c is all =
+    let size = length-payload_of kind c all in
+    let long = (header_of c is).length_is in
+    omega arith
+
+pub form_few : (c : ContentsValue) → IsContents c → form_size [] (payload_of c) < 2 ^ 64
+form_few c is = let few = payload_few c is in omega arith
+
+pub IfOk-then : {T E : Type 0} (P Q : T → Type 0) (r : Result T E) → ((x : T) → P x → Q x) → IfOk r P → IfOk r Q
+IfOk-then P Q (Ok x) f h = f x h
+IfOk-then P Q (Err e) f h = tt
+
+both_false : (a b : Bool) → a ≡ false → b ≡ false → (a || b) ≡ false
+both_false a b p q = λ i. p i || q i
+
+lt_fails : (a b : ℕ) → b ≤ a → nat_lt a b ≡ false
+lt_fails a b h = grind (arith, nat_tests)
+
+-- a form has room for what is read of it
+room_kept : (bytes : List ℕ) → KeepsLines bytes → lacks_room bytes ≡ false
+unfolding lacks_room
+room_kept bytes k =
+    both_false (nat_lt 65536 (handle_count_in bytes)) (nat_lt (length bytes) (56 + 8 * handle_count_in bytes + 16))
+    (lt_fails 65536 (handle_count_in bytes) k.handles) (lt_fails (length bytes) (56 + 8 * handle_count_in bytes + 16) k.room)
+
+pub HasRoom-form : (bytes : List ℕ) → IsForm bytes → HasRoom bytes
+HasRoom-form bytes is = let k = KeepsLines-unbroken bytes is.unbroken in record { long = k.long; room = room_kept bytes k }
+
+-- the geometries of a form of a bottom structure
+record IsThere {X : Type 0} (o : Option X) : Type 0 where
+  value : X
+  is_some : o ≡ Some value
+
+there : {X : Type 0} (o : Option X) → is_none o ≡ false → IsThere o
+there None e = absurd cc
+there (Some x) e = record { value = x; is_some = refl }
+
+not_bad : (top bad good : Bool) → top ≡ false → (if top then bad else good) ≡ false → good ≡ false
+not_bad true bad good p e = absurd cc
+not_bad false bad good p e = e
+
+is_there : (bytes : List ℕ) → KeepsLines bytes → is_top_form bytes ≡ false → IsThere (geometries_in (geometry_count (payload_in bytes)) (row_of (payload_in bytes)))
+unfolding has_bad_element
+is_there bytes k bottom =
+    let payload = payload_in bytes in
+    there (geometries_in (geometry_count payload) (row_of payload))
+    (not_bad (is_top_payload payload) (not (are_instances (handle_count_in bytes) (instances_of_payload payload)))
+    (is_none (geometries_in (geometry_count payload) (row_of payload))) bottom k.elements)
+
+contents_are : (bytes : List ℕ) (gs : List Geometry) → geometries_in (geometry_count (payload_in bytes)) (row_of (payload_in bytes)) ≡ Some gs →
+    bottom_in bytes ≡ Some (with_flags (flags_of_payload (payload_in bytes)) gs)
+unfolding bottom_in_payload
+contents_are bytes gs e = ap (option_map (with_flags (flags_of_payload (payload_in bytes)))) e
+
+-- what a form of a bottom structure can be restored by
+pub CanRestore-form : (bytes : List ℕ) → AreBytes bytes → IsForm bytes → is_top_form bytes ≡ false →
+    (has_both_fast (flags_of_payload (payload_in bytes)) ≡ false) × CanRestore (geometry_count (payload_in bytes)) (row_of (payload_in bytes))
+CanRestore-form bytes fits is bottom =
+    let k = KeepsLines-unbroken bytes is.unbroken in
+    let keeps = bottom_kept (handle_count_in bytes) (payload_in bytes) k.total bottom k.payload in
+    let read = is_there bytes k bottom in
+    let again = form_contents bytes (with_flags (flags_of_payload (payload_in bytes)) read.value) fits k bottom (contents_are bytes read.value read.is_some) in
+    let row = row_again keeps.kind (geometry_count (payload_in bytes)) (row_of (payload_in bytes)) read.value
+    (fits_row (payload_in bytes) (fits_payload bytes fits)) keeps.fill read.is_some in
+    (
+      keeps.not_both,
+      record {
+        all = read.value;
+        read = read.is_some;
+        kind = keeps.kind;
+        kinds = row.kinds;
+        few = again.is.geometries;
+        primitives = again.is.primitives;
+      },
+    )
+
+pub restored_in : (bytes : List ℕ) (c : ContentsValue) →
+    option_map (with_flags (flags_of_payload (payload_in bytes))) (geometries_in (geometry_count (payload_in bytes)) (row_of (payload_in bytes))) ≡ Some c →
+    bottom_in bytes ≡ Some c
+unfolding bottom_in_payload
+restored_in bytes c e = e
+
+pub restored_again : (bytes : List ℕ) (c : ContentsValue) → AreBytes bytes → IsForm bytes → is_top_form bytes ≡ false →
+    option_map (with_flags (flags_of_payload (payload_in bytes))) (geometries_in (geometry_count (payload_in bytes)) (row_of (payload_in bytes))) ≡ Some c →
+    bottom_form c ≡ bytes
+restored_again bytes c fits is bottom e =
+    bottom_form-bottom_in bytes c fits (KeepsLines-unbroken bytes is.unbroken) bottom (restored_in bytes c e)

@@ -1,7 +1,7 @@
 -- The first bytes of a form: what they are written as, read back, and the other way round.
-use Rattle.std.proofs.Common.{ℕ, zero, suc, ◌≡◌, ◌<◌, ◌≤◌, ◌+◌, ◌*◌, ◌-◌, ◌^◌, ◌++◌, List, [], ◌∷◌, length, take, drop, map, refl, sym, ap, ◌∙◌, arith, length-append, mul-suc}
+use Rattle.std.proofs.Common.{ℕ, zero, suc, ◌≡◌, ◌<◌, ◌≤◌, ◌+◌, ◌*◌, ◌-◌, ◌^◌, ◌++◌, List, [], ◌∷◌, length, take, drop, get_or, map, append-nil, append_assoc, refl, sym, ap, ◌∙◌, arith, length-append, mul-suc}
 use Rattle.std.specs.List.{flat_map, range_with_len}
-use Rattle.std.proofs.lemmas.List.{drop-drop, drop_at, take-append-drop, length-drop}
+use Rattle.std.proofs.lemmas.List.{take_more, drop-drop, drop_at, take-append-drop, length-drop}
 use Rattle.std.proofs.lemmas.List.Concat.{flat_map-cons}
 use Rattle.byteorder.specs.Endian.{little_bytes, little_number}
 use Rattle.byteorder.specs.Numbers.{little_number-reads_back, length-bytes_low_first}
@@ -25,6 +25,27 @@ length-long_bytes (n ∷ ns) =
     let rest = length-long_bytes ns in
     let first = length-bytes_low_first 0 8 n in
     ap length (flat_map-cons (little_bytes 8) n ns) ∙ (length-append (little_bytes 8 n) (flat_map (little_bytes 8) ns) ∙ omega (arith, mul-suc 8 (length ns)))
+
+-- none, and one more
+pub long_bytes_none : (xs : List ℕ) → xs ≡ xs ++ long_bytes []
+unfolding long_bytes
+long_bytes_none xs = sym (append-nil xs)
+
+long_bytes-append : (ns : List ℕ) (n : ℕ) → long_bytes (ns ++ n ∷ []) ≡ long_bytes ns ++ little_bytes 8 n
+unfolding long_bytes
+long_bytes-append [] n = append-nil (little_bytes 8 n)
+long_bytes-append (m ∷ ns) n =
+    flat_map-cons (little_bytes 8) m (ns ++ n ∷ [])
+    ∙ (ap (λ ys. little_bytes 8 m ++ ys) (long_bytes-append ns n)
+    ∙ (sym (append_assoc (little_bytes 8 m) (flat_map (little_bytes 8) ns) (little_bytes 8 n))
+    ∙ ap (λ ys. ys ++ little_bytes 8 n) (sym (flat_map-cons (little_bytes 8) m ns))))
+
+pub long_bytes_more : (start now : List ℕ) (ns : List ℕ) (i d : ℕ) → i < length ns → now ≡ start ++ long_bytes (take i ns) →
+    now ++ little_bytes 8 (get_or ns i d) ≡ start ++ long_bytes (take (i + 1) ns)
+long_bytes_more start now ns i d below e =
+    ap (λ ys. ys ++ little_bytes 8 (get_or ns i d)) e
+    ∙ (append_assoc start (long_bytes (take i ns)) (little_bytes 8 (get_or ns i d))
+    ∙ ap (λ ys. start ++ ys) (sym (ap long_bytes (take_more ns i d below) ∙ long_bytes-append (take i ns) (get_or ns i d))))
 
 long : (n : ℕ) → n < 2 ^ 64 → little_number 8 (little_bytes 8 n ++ []) ≡ n
 long n below = little_number-reads_back 8 n [] below

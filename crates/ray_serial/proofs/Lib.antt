@@ -6,3 +6,4 @@ pub mod GeometryAgain
 pub mod KeptLines
 pub mod Headers
 pub mod BottomForms
+pub mod Restore

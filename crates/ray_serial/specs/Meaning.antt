@@ -1,14 +1,15 @@
 -- What bytes that are a form stand for. (Own: the form.)
-use Rattle.std.specs.Prelude.{ℕ, ◌≡◌, ◌+◌, ◌*◌, ◌≤◌, zero, suc, Bool, false, nat_lt, if◌then◌else◌, Result, Ok, Err, Option, Some, None, option_map, List, [], ◌∷◌, length, take, drop, map}
+use Rattle.std.specs.Prelude.{ℕ, ◌≡◌, ◌+◌, ◌*◌, ◌≤◌, zero, suc, Bool, false, nat_lt, if◌then◌else◌, Result, Ok, Err, Option, Some, None, option_map, List, [], ◌∷◌, length, take, drop, map, All, ◌^◌}
 use Rattle.std.specs.List.{range_with_len}
 use Rattle.ray_bytes.specs.Fields.{long_at}
 use Rattle.ray_bytes.specs.StructureSizes.{structure_size}
 use Rattle.ray_bottom.specs.Contents as bottoms
 use Rattle.ray_bottom.specs.declared.geometry.Geometry.{Geometry}
 use Rattle.ray_flags.specs.declared.build_flags.BuildFlags.{BuildFlags}
+use Rattle.ray_flags.specs.declared.kind.Kind.{Kind}
 use Rattle.ray_serial.specs.declared.serial_fault.SerialFault.{SerialFault}
 use Rattle.ray_serial.specs.Rows.{geometries_in}
-use Rattle.ray_serial.specs.Form.{device_text, form_text, handle_count_in, payload_in, is_top_payload, flags_of_payload, geometry_count, row_of, total_of_payload, has_bad_element, broken_line}
+use Rattle.ray_serial.specs.Form.{device_text, form_text, handle_count_in, payload_in, is_top_payload, flags_of_payload, geometry_count, row_of, lacks_room, total_of_payload, has_bad_element, broken_line}
 
 -- ---- which bytes are a form
 
@@ -69,3 +70,19 @@ bottom_in_payload payload =
 
 abbrev pub bottom_in : List ℕ → Option bottoms.ContentsValue
 bottom_in bytes = bottom_in_payload (payload_in bytes)
+
+-- ---- words of private calls alone
+
+-- there is room for the header, the handles and the head of the payload
+pub record HasRoom (bytes : List ℕ) : Type 0 where
+  pub long : 56 ≤ length bytes
+  pub room : lacks_room bytes ≡ false
+
+-- n geometries are there that can be restored: all of one kind, and within the limits of counts
+pub record CanRestore (n : ℕ) (row : List ℕ) : Type 0 where
+  pub all : List Geometry
+  pub read : geometries_in n row ≡ Some all
+  pub kind : Kind
+  pub kinds : All (λ g. bottoms.kind_of g ≡ kind) all
+  pub few : length all ≤ 256
+  pub primitives : bottoms.total_of all ≤ 2 ^ 20

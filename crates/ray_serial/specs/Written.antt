@@ -1,10 +1,12 @@
 -- The form that a structure is written as. (Own: the form; vkCmdCopyAccelerationStructureToMemoryKHR.)
-use Rattle.std.specs.Prelude.{ℕ, ◌+◌, ◌*◌, List, [], ◌∷◌, ◌++◌, length}
+use Rattle.std.specs.Prelude.{ℕ, ◌≡◌, ◌+◌, ◌*◌, All, List, [], ◌∷◌, ◌++◌, length}
 use Rattle.std.specs.List.{flat_map}
 use Rattle.byteorder.specs.Endian.{little_bytes}
 use Rattle.ray_bytes.specs.StructureSizes.{structure_size}
 use Rattle.ray_bottom.specs.Contents as bottoms
+use Rattle.ray_bottom.specs.declared.geometry.Geometry.{Geometry}
 use Rattle.ray_bottom.specs.Storing.{payload_of}
+use Rattle.ray_flags.specs.declared.kind.Kind.{Kind}
 use Rattle.ray_serial.specs.Form.{device_text, form_text}
 
 -- numbers of 64 bits
@@ -26,3 +28,9 @@ form_bytes deserialized handles payload =
 unfoldable pub bottom_form : bottoms.ContentsValue → List ℕ
 bottom_form c =
     form_bytes (structure_size (length c.geometries) (bottoms.total_of c.geometries)) [] (payload_of c)
+
+-- ---- words of private calls alone
+
+-- geometries are all of one kind
+pub record AreOf (kind : Kind) (geometries : List Geometry) : Type 0 where
+  pub all : All (λ g. bottoms.kind_of g ≡ kind) geometries

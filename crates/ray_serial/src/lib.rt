@@ -6,9 +6,14 @@ mod fields;
 mod geometry;
 mod instances;
 mod lines;
+mod restoring;
 mod rows;
 mod serial_fault;
 mod texts;
+mod view;
+mod writing;
 
 pub use crate::serial_fault::SerialFault;
+pub use crate::view::SerialView;
+pub use crate::writing::{serialize, serialized_size};
 pub use std::alloc::AllocError as NoMemory;

@@ -1,0 +1,129 @@
+ghost use Rattle.std.specs.Prelude.{◌≡◌, ◌≤◌, Some, IfOk, false, length};
+ghost use Rattle.ray_serial.specs.Form.{payload_in};
+ghost use Rattle.ray_serial.specs.Meaning.{IsForm, opened, is_top_form, deserialized_in};
+ghost use Rattle.ray_serial.specs.Meaning.{handle_in, bottom_in, HasRoom};
+ghost use Rattle.ray_serial.specs.Written.{bottom_form};
+
+use crate::fields::long;
+use crate::lines::{
+    broken_line, flags_of_payload, geometry_count, handle_count_in, is_top_payload, payload_in,
+    row_of,
+};
+use crate::restoring::restored;
+use crate::serial_fault::SerialFault;
+use ray_bottom::Bottom;
+use std::alloc::{AllocError as NoMemory, Global};
+use std::marker::Model;
+use std::thread::Threads;
+
+/// The form of a structure, read where its bytes stand. Contracts see it as the bytes, which are a
+/// form. (Own: the form; vkCmdCopyMemoryToAccelerationStructureKHR.)
+#[derive(Drop)]
+pub struct SerialView<'a> {
+    bytes: &'a [u8],
+}
+
+impl<'a> Model for SerialView<'a> {
+    ghost use Rattle.std.specs.Prelude.{ℕ, List};
+    ghost use Rattle.ray_serial.specs.Meaning.{IsForm};
+
+    ghost Value = { List ℕ };
+
+    ghost view = { λ v. v.bytes.now };
+
+    ghost invariant = { λ v. IsForm v.bytes.now };
+}
+
+impl<'a> SerialView<'a> {
+    /// The form that the bytes are, else the first of the eight lines of faults that they break. It
+    /// takes no memory, and time in the number of bytes, whatever counts stand in them.
+    pub fn open(bytes: &'a [u8]) -> Result<SerialView<'a>, SerialFault>
+        ensures value { result ≡ opened bytes.now }
+        ensures form { IfOk result IsForm }
+    {
+        match broken_line(bytes) {
+            Some(line) => Err(SerialFault(line)),
+            None => Ok(SerialView { bytes }),
+        }
+    }
+
+    /// Whether it is the form of a top structure.
+    pub fn is_top(&self) -> bool
+        ensures { result ≡ is_top_form self.now }
+    {
+        is_top_payload(self.payload())
+    }
+
+    /// How many bytes the structure takes that it stands for.
+    #[tactic(auto, unfolding(crate::specs::Meaning::deserialized_in))]
+    pub fn deserialized(&self) -> u64
+        ensures { result ≡ deserialized_in self.now }
+    {
+        long(self.whole(), 40)
+    }
+
+    /// A handle by its number. None exactly where the number is at least the count of handles.
+    pub fn handle(&self, i: u32) -> Option<u64>
+        ensures { result ≡ handle_in self.now i }
+    {
+        handle(self.whole(), i)
+    }
+
+    /// The bottom structure that it stands for. It isn't the form of a top structure. What the
+    /// structure is written as again is this form.
+    pub fn to_bottom<R: Threads + Sync>(&self, rt: &R, alloc: Global) -> Result<Bottom, NoMemory>
+        requires { is_top_form self.now ≡ false }
+        ensures value { IfOk result (λ bottom. bottom_in self.now ≡ Some bottom) }
+        ensures again { IfOk result (λ bottom. bottom_form bottom ≡ self.now) }
+    {
+        bottom_of(rt, alloc, self.whole())
+    }
+
+    // The bytes.
+    fn whole(&self) -> &'a [u8]
+        ensures value { result.now ≡ self.now }
+        ensures form { IsForm result.now }
+        ensures limits { HasRoom result.now }
+    {
+        self.bytes
+    }
+
+    // The payload.
+    fn payload(&self) -> &'a [u8]
+        ensures value { result.now ≡ payload_in self.now }
+        ensures limits { 16 ≤ length result.now }
+    {
+        payload_in(self.whole())
+    }
+}
+
+// The bottom structure of a form.
+fn bottom_of<R: Threads + Sync>(rt: &R, alloc: Global, bytes: &[u8]) -> Result<Bottom, NoMemory>
+    requires form { IsForm bytes.now }
+    requires bottom { is_top_form bytes.now ≡ false }
+    requires limits { HasRoom bytes.now }
+    ensures value { IfOk result (λ bottom. bottom_in bytes.now ≡ Some bottom) }
+    ensures again { IfOk result (λ bottom. bottom_form bottom ≡ bytes.now) }
+{
+    let payload = payload_in(bytes);
+    restored(
+        rt,
+        alloc,
+        flags_of_payload(payload),
+        geometry_count(payload),
+        row_of(payload),
+    )
+}
+
+// A handle by its number.
+#[tactic(auto, unfolding(crate::specs::Meaning::handle_at, crate::specs::Form::lacks_room))]
+fn handle(bytes: &[u8], i: u32) -> Option<u64>
+    requires { HasRoom bytes.now }
+    ensures { result ≡ handle_in bytes.now i }
+{
+    if u64::from(i) < handle_count_in(bytes) {
+        Some(long(bytes, 56 + 8 * i as usize))
+    } else {
+        None
+    }
+}
