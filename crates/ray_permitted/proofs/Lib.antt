@@ -13,5 +13,6 @@ pub mod Pieces
 pub mod Between
 pub mod Ordered
 pub mod Fetching
+pub mod Finding
 pub mod Refused
 pub mod Sample

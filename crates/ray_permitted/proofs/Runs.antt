@@ -1,5 +1,5 @@
 -- Recording order in the words of schedules is that of the run, so each permitted schedule comes to the run.
-use Rattle.std.proofs.Common.{◌≡◌, ◌<◌, ℕ, zero, suc, Bool, true, false, List, [], ◌∷◌, Option, Some, refl, sym, ◌∙◌, ap, arith, length}
+use Rattle.std.proofs.Common.{◌≡◌, ◌<◌, ◌≤◌, ℕ, zero, suc, Bool, true, false, List, [], ◌∷◌, Option, Some, refl, sym, ◌∙◌, ap, arith, length}
 use Rattle.std.specs.Prelude.{◌&&◌, not, if◌then◌else◌}
 use Rattle.ray_schedule.specs.Events.{Event}
 use Rattle.ray_schedule.specs.Units as schedules
@@ -11,11 +11,11 @@ use Rattle.ray_action.specs.Memory.{Held, Location, Memory, nothing_live}
 use Rattle.ray_action.specs.Action.{Action}
 use Rattle.ray_action.specs.Outcomes.{Outcome, Gives, Breaks, Undefined, outcome_of}
 use Rattle.ray_action.specs.Pieces.{Numbered}
-use Rattle.ray_action.specs.Running.{action_at, memory_before, run_from}
+use Rattle.ray_action.specs.Running.{Run, action_at, memory_before, run_from, then_run}
 use Rattle.ray_action.specs.Storing.{after, left, writes}
 use Rattle.ray_ready.specs.Laws.{first_actions}
 use Rattle.ray_permitted.specs.Along.{run_along, run_kept, then_kept}
-use Rattle.ray_permitted.specs.Laws.{IsOrderly, RecordingOrderIsTheRun}
+use Rattle.ray_permitted.specs.Laws.{IsOrderly, OutcomesTellTheRun, RecordingOrderIsTheRun}
 use Rattle.ray_permitted.specs.Work.{device_of, stores_nothing, work_of}
 
 -- ---- one memory
@@ -78,3 +78,35 @@ comes_to_the_run rec n es orderly permitted =
     (λ p less.
     every.outcomes es permitted p less
     ∙ ap (λ m. Some (outcome_of (action_at units p) m)) (memory_is rec units p ∙ sym (from_nothing units p)))
+
+-- what stores nothing ends a run, whatever comes after it
+ends_there : (u : Numbered) (x : Outcome) (later other : Run) → stores_nothing x ≡ true → then_run u x later ≡ then_run u x other
+ends_there u (Gives output) later other e = absurd cc
+ends_there u (Breaks fault) later other e = refl
+ends_there u Undefined later other e = refl
+
+-- so what is kept up to there is enough
+kept_to : (units : List Numbered) (m : Memory) (kept : ℕ → Option Outcome) (b : ℕ)
+    → ((p : ℕ) → p < length units → p ≤ b → kept p ≡ Some (outcome_of (action_at units p) (memory_from m units p)))
+    → (b < length units → stores_nothing (outcome_of (action_at units b) (memory_from m units b)) ≡ true)
+    → run_kept kept units ≡ run_from m units
+kept_to [] m kept b same here = refl
+kept_to (u ∷ units) m kept zero same here =
+    let first : kept 0 ≡ Some (outcome_of u.action m) = same 0 (omega arith) (omega arith) in
+    let later : Run = run_kept (λ p. kept (suc p)) units in
+    (λ i. then_kept u (first i) later) ∙ ends_there u (outcome_of u.action m) later (run_from (after u.action m) units) (here (omega arith))
+kept_to (u ∷ units) m kept (suc b) same here =
+    let first : kept 0 ≡ Some (outcome_of u.action m) = same 0 (omega arith) (omega arith) in
+    let later = kept_to units (after u.action m) (λ p. kept (suc p)) b
+    (λ p less upto. same (suc p) (omega (arith, less)) (omega (arith, upto)) ∙ ap (λ x. Some (outcome_of (action_at units p) x)) (one_later m u units p))
+    (λ less. sym (ap (λ x. stores_nothing (outcome_of (action_at units b) x)) (one_later m u units b)) ∙ here (omega (arith, less))) in
+    λ i. then_kept u (first i) (later i)
+
+pub outcomes_tell : OutcomesTellTheRun
+outcomes_tell rec n b kept first same =
+    let units : List Numbered = first_actions rec n in
+    let plain : (p : ℕ) → schedules.memory_before (device_of rec units) nothing_live p ≡ memory_from nothing_live units p =
+    λ p. memory_is rec units p ∙ sym (from_nothing units p) in
+    kept_to units nothing_live kept b
+    (λ p less upto. same p less upto ∙ ap (λ m. Some (outcome_of (action_at units p) m)) (plain p))
+    (λ less. sym (ap (λ m. stores_nothing (outcome_of (action_at units b) m)) (plain b)) ∙ first.here less)

@@ -1,21 +1,24 @@
 -- What holds of the schedules of a recording. (Own.)
-use Rattle.std.specs.Prelude.{ℕ, ◌≡◌, ◌<◌, ◌≤◌, List, Bool, true, take, length}
+use Rattle.std.specs.Prelude.{ℕ, ◌≡◌, ◌<◌, ◌≤◌, List, Option, Some, Bool, true, take, length}
 use Rattle.ray_schedule.specs.Conflicts.{AreOrdered, IsForward, IsLocal}
-use Rattle.ray_schedule.specs.Events.{Event, Fetches}
+use Rattle.ray_schedule.specs.Events.{Event, Fetches, Stores}
+use Rattle.ray_schedule.specs.Faults.{IsFirstFault}
+use Rattle.ray_schedule.specs.Progress.{AreRising, IsDoneTo}
 use Rattle.ray_schedule.specs.Schedules.{StandsAt}
 use Rattle.ray_schedule.specs.Waves.{RisesAlong}
-use Rattle.ray_schedule.specs.Laws.{MayRun, EverySchedule, ArePermitted, WavesRun, after, before_unit}
+use Rattle.ray_schedule.specs.Laws.{MayRun, EverySchedule, ArePermitted, WavesRun, after, before_unit, is_at_fault, outcome_of}
 use Rattle.ray_cmd.specs.declared.command.Command.{Command}
 use Rattle.ray_rules.specs.Order.{IsLongest, before}
 use Rattle.ray_rules.specs.Verdict.{rule_refusal}
-use Rattle.ray_action.specs.Memory.{nothing_live}
+use Rattle.ray_action.specs.Memory.{Memory, nothing_live}
 use Rattle.ray_action.specs.Areas.{AgreeOn}
 use Rattle.ray_action.specs.Action.{areas_read}
+use Rattle.ray_action.specs.Outcomes.{Outcome}
 use Rattle.ray_action.specs.Readiness.{IsReady}
 use Rattle.ray_action.specs.Running.{action_at, memory_before, run_from}
 use Rattle.ray_ready.specs.Accepted.{refused_from}
 use Rattle.ray_ready.specs.Laws.{AreSources, GaveBefore, first_actions}
-use Rattle.ray_permitted.specs.Along.{run_along}
+use Rattle.ray_permitted.specs.Along.{run_along, run_kept}
 use Rattle.ray_permitted.specs.Rules.{AreOfBuiltForms, BreakNoRule}
 use Rattle.ray_permitted.specs.Work.{work_of}
 
@@ -64,10 +67,6 @@ LongestChainsRise =
     → ((i : ℕ) → i < n → IsLongest (before rec) i (longest i))
     → RisesAlong (work_of rec n).device (before rec) (λ p. longest ((work_of rec n).device.command p)) (work_of rec n).count
 
--- a run in waves, up to the first fault, as schedules say it
-abbrev pub WavesOfCommandsRun : Type 0
-WavesOfCommandsRun = (rec : List Command) (n : ℕ) → WavesRun (work_of rec n)
-
 -- ---- at each fetch
 
 -- each fetch along a permitted schedule reads what its action reads in recording order
@@ -99,6 +98,51 @@ pub record AtEachFetch : Type 0 where
   pub reads : FetchesReadTheSame
   pub ready : FetchesAreReady
   pub sources : FetchesAreReadyBySources
+
+-- ---- at each store
+
+-- each store along a permitted schedule still finds what its action read
+abbrev pub StoresFindTheSame : Type 0
+StoresFindTheSame =
+    (rec : List Command) (n : ℕ) (es : List Event) (i p : ℕ) (e : Event) → BreakNoRule rec n
+    → MayRun (work_of rec n) es → StandsAt es i e → Stores e p
+    → AgreeOn (areas_read (action_at (first_actions rec n) p)) (after (work_of rec n) (take i es)).memory
+    (memory_before (first_actions rec n) p)
+
+-- so its action is ready there where it was at its fetch
+abbrev pub StoresAreReady : Type 0
+StoresAreReady =
+    (rec : List Command) (n : ℕ) (es : List Event) (i p : ℕ) (e : Event) → BreakNoRule rec n
+    → MayRun (work_of rec n) es → StandsAt es i e → Stores e p
+    → IsReady (action_at (first_actions rec n) p) (memory_before (first_actions rec n) p)
+    → IsReady (action_at (first_actions rec n) p) (after (work_of rec n) (take i es)).memory
+
+-- each store along a permitted schedule
+pub record AtEachStore : Type 0 where
+  pub reads : StoresFindTheSame
+  pub ready : StoresAreReady
+
+-- ---- in waves
+
+-- a run in waves, up to the first fault, as schedules say it
+abbrev pub WavesOfCommandsRun : Type 0
+WavesOfCommandsRun = (rec : List Command) (n : ℕ) → WavesRun (work_of rec n)
+
+-- before each wave its actions read what they read in recording order
+abbrev pub WavesReadTheSame : Type 0
+WavesReadTheSame =
+    (rec : List Command) (n : ℕ) (number : ℕ → ℕ) (v bound p : ℕ) (memory : Memory)
+    → AreRising (work_of rec n).device number (work_of rec n).count
+    → IsDoneTo (work_of rec n) number v bound memory → p < bound → number p ≡ v
+    → AgreeOn (areas_read (action_at (first_actions rec n) p)) memory (memory_before (first_actions rec n) p)
+
+-- the outcomes of recording order, up to the first one that stores nothing, tell the run
+abbrev pub OutcomesTellTheRun : Type 0
+OutcomesTellTheRun =
+    (rec : List Command) (n b : ℕ) (kept : ℕ → Option Outcome)
+    → IsFirstFault (is_at_fault (work_of rec n)) (work_of rec n).count b
+    → ((p : ℕ) → p < (work_of rec n).count → p ≤ b → kept p ≡ Some (outcome_of (work_of rec n) p))
+    → run_kept kept (first_actions rec n) ≡ run_from nothing_live (first_actions rec n)
 
 -- ---- what is refused, and what isn't
 

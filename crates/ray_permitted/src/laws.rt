@@ -1,4 +1,6 @@
-ghost use Rattle.ray_permitted.specs.Laws.{RulesGiveOrder, SchedulesComeToTheRun, SchedulesLeaveTheSame, RecordingOrderIsTheRun, SomeArePermitted, LongestChainsRise, WavesOfCommandsRun, AtEachFetch, UnrefusedBreakNoRule};
+ghost use Rattle.ray_permitted.specs.Laws.{RulesGiveOrder, SchedulesComeToTheRun, SchedulesLeaveTheSame, RecordingOrderIsTheRun};
+ghost use Rattle.ray_permitted.specs.Laws.{SomeArePermitted, LongestChainsRise, WavesOfCommandsRun, WavesReadTheSame, OutcomesTellTheRun};
+ghost use Rattle.ray_permitted.specs.Laws.{AtEachFetch, AtEachStore, UnrefusedBreakNoRule};
 
 /// A law: of commands that break no rule, outcomes are told by what is read, conflicting actions
 /// are ordered, and the order goes forward. It does nothing. Own.
@@ -19,13 +21,22 @@ pub fn schedules_come_to_the_run()
 pub fn some_are_permitted()
     ensures permitted { SomeArePermitted }
     ensures chains { LongestChainsRise }
+{}
+
+/// A law: a run of commands in waves goes as in recording order, up to the first fault, and its
+/// outcomes tell the run. It does nothing. Own.
+pub fn commands_run_in_waves()
     ensures waves { WavesOfCommandsRun }
+    ensures reads { WavesReadTheSame }
+    ensures outcomes { OutcomesTellTheRun }
 {}
 
 /// A law: along a permitted schedule each fetch reads what its action reads in recording order, and
-/// the action is ready there, where what it depends on gave an output. It does nothing. Own.
+/// the action is ready there, where what it depends on gave an output. Each store still finds it so.
+/// It does nothing. Own.
 pub fn fetches_are_ready()
-    ensures { AtEachFetch }
+    ensures fetches { AtEachFetch }
+    ensures stores { AtEachStore }
 {}
 
 /// A law: the commands before the one that is refused by the rules on the recording alone break no

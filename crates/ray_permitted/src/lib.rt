@@ -11,6 +11,6 @@
 mod laws;
 
 pub use crate::laws::{
-    fetches_are_ready, rules_give_order, schedules_come_to_the_run, some_are_permitted,
-    unrefused_break_no_rule,
+    commands_run_in_waves, fetches_are_ready, rules_give_order, schedules_come_to_the_run,
+    some_are_permitted, unrefused_break_no_rule,
 };

@@ -1,12 +1,8 @@
-use Rattle.ray_schedule.proofs.Whole.{are_permitted, waves_run}
+use Rattle.ray_schedule.proofs.Whole.{are_permitted}
 use Rattle.ray_permitted.specs.Work.{work_of}
-use Rattle.ray_permitted.proofs.Fetching.{chains_rise, local_work}
+use Rattle.ray_permitted.proofs.Fetching.{chains_rise}
 use Rattle.ray_permitted.proofs.Ordered.{is_forward}
 use Rattle.ray_permitted.proofs.laws.some_are_permitted.Goals as goal
 
 pub returns : goal.returns
-returns c = record {
-  permitted = λ rec n. are_permitted (work_of rec n) (is_forward rec n);
-  chains = chains_rise;
-  waves = λ rec n. waves_run (work_of rec n) (local_work rec n);
-}
+returns c = record { permitted = λ rec n. are_permitted (work_of rec n) (is_forward rec n); chains = chains_rise }

@@ -1,0 +1,128 @@
+-- What each store along a permitted schedule finds, and what the actions of a wave read.
+use Rattle.std.proofs.Common.{◌≡◌, ◌<◌, ◌≤◌, ℕ, Bool, true, List, inl, inr, refl, sym, ◌∙◌, ap, subst, arith, length, take}
+use Rattle.std.proofs.lemmas.Bool.{cases_eq}
+use Rattle.std.proofs.lemmas.Option.{slice_get_within}
+use Rattle.ray_schedule.specs.Units.{Device, Memory, Work, memory_before}
+use Rattle.ray_schedule.specs.Conflicts.{AreOrdered, IsLocal, ReadAfterWrite, WriteAfterRead}
+use Rattle.ray_schedule.specs.Events.{Event, Stores, beginning, run, unit_of}
+use Rattle.ray_schedule.specs.Progress.{AreRising, IsDoneTo}
+use Rattle.ray_schedule.specs.Schedules.{IsPermitted, StandsAt}
+use Rattle.ray_schedule.proofs.Course.{MayFetch, reads_in_order}
+use Rattle.ray_schedule.proofs.Permitted.{may_store, on_course, storing, unit-stores, unit_below}
+use Rattle.ray_schedule.proofs.Places.{StoredBefore}
+use Rattle.ray_action.specs.Running.{action_at}
+use Rattle.ray_action.specs.Running as running
+use Rattle.ray_ready.specs.Laws.{first_actions}
+use Rattle.ray_ready.proofs.Local.{ready_local}
+use Rattle.ray_permitted.specs.Laws.{AtEachStore, StoresAreReady, StoresFindTheSame, WavesReadTheSame}
+use Rattle.ray_permitted.specs.Work.{device_of, work_of}
+use Rattle.ray_permitted.proofs.Fetching.{orderly}
+use Rattle.ray_permitted.proofs.Runs.{memory_is}
+
+-- ---- any device
+
+module _ {Location : Type 0} {Held : Location → Type 0} {Outcome : Type 0} (d : Device Held Outcome) (start : Memory Held) (before : ℕ → ℕ → Bool) (n : ℕ) (es : List Event) where
+  -- of two events whose units are ordered, the first stands before the second
+  ordered_places :
+      (i j p q : ℕ) (e f : Event) → IsPermitted d before n es → StandsAt es i e → StandsAt es j f
+      → unit_of e ≡ p → unit_of f ≡ q → before (d.command p) (d.command q) ≡ true → i < j
+  ordered_places i j p q e f permitted at to is it h =
+      permitted.ordered e f
+      (subst (λ a. before (d.command a) (d.command (unit_of f)) ≡ true) (sym is)
+      (subst (λ b. before (d.command p) (d.command b) ≡ true) (sym it) h))
+      i j at to
+
+  -- a unit that is being stored could be fetched once more
+  may_fetch_again :
+      (i p : ℕ) (e : Event) → AreOrdered d before n → IsPermitted d before n es → StandsAt es i e → Stores e p → MayFetch d (StoredBefore es i) p
+  may_fetch_again i p e ordered permitted at stores =
+      let is : unit_of e ≡ p = unit-stores e p stores in
+      let within : unit_of e < n = unit_below d n e (permitted.schedule.only i e at) in
+      let store = may_store d before n es i p e ordered permitted at stores in
+      record {
+        earlier = λ l q r m w.
+            let f = storing d n q (omega (arith, m, is, within)) in
+            let stands = permitted.schedule.all f.0 f.1 in
+            record {
+              place = stands.0;
+              event = f.0;
+              below = ordered_places stands.0 i q p f.0 e permitted stands.1 at (unit-stores f.0 q f.2) is
+                  (ordered q p l m (omega (arith, is, within)) (ReadAfterWrite w r));
+              stands = stands.1;
+              stores = f.2;
+            };
+        later = λ l q r g w s. elim (cases_eq q p) [
+          | inl same ↦ store.fresh (subst (StoredBefore es i) same s)
+          | inr differs ↦
+              (let it : unit_of s.event ≡ q = unit-stores s.event q s.stores in
+              let inside : unit_of s.event < n = unit_below d n s.event (permitted.schedule.only s.place s.event s.stands) in
+              let below : s.place < i = s.below in
+              let after : i < s.place = ordered_places i s.place p q e s.event permitted at s.stands is it
+              (ordered p q l (omega arith) (omega arith) (WriteAfterRead r w)) in
+              absurd (omega (arith, below, after)))
+        ];
+      }
+
+  store_finds_all :
+      IsLocal d → AreOrdered d before n → IsPermitted d before n es
+      → (i p : ℕ) (e : Event) (l : Location) → StandsAt es i e → Stores e p → d.reads p l ≡ true
+      → (run d (take i es) (beginning d start)).memory l ≡ memory_before d start p l
+  store_finds_all local ordered permitted i p e l at stores reads =
+      let within : i < length es = slice_get_within es i e at in
+      reads_in_order d start (StoredBefore es i) (run d (take i es) (beginning d start)).memory p
+      (on_course d start before n es i local ordered permitted (omega arith)).sound
+      (may_fetch_again i p e ordered permitted at stores) l reads
+
+module _ {Location : Type 0} {Held : Location → Type 0} {Outcome : Type 0} (work : Work Held Outcome) where
+  -- a unit of the next wave may be fetched
+  may_fetch_next :
+      (number : ℕ → ℕ) (v bound p : ℕ) (memory : Memory Held) → AreRising work.device number work.count
+      → (done : IsDoneTo work number v bound memory) → p < bound → number p ≡ v
+      → MayFetch work.device (λ q. done.stored q ≡ true) p
+  may_fetch_next number v bound p memory rising done below is =
+      let within : bound ≤ work.count = done.within in
+      record {
+        earlier = λ l q r m w.
+            let rises : number q < number p = rising q p l m (omega arith) (ReadAfterWrite w r) in
+            done.all q (omega arith) (omega arith);
+        later = λ l q r g w s.
+            let of = done.only q s in
+            let inside : q < work.count = of.0 in
+            let before : number q < v = of.1 in
+            elim (cases_eq q p) [
+              | inl same ↦ (let e : number q ≡ number p = ap number same in absurd (omega arith))
+              | inr differs ↦
+                  (let rises : number p < number q = rising p q l (omega arith) inside (WriteAfterRead r w) in
+                  absurd (omega arith))
+            ];
+      }
+
+  waves_read :
+      (number : ℕ → ℕ) (v bound p : ℕ) (memory : Memory Held) → AreRising work.device number work.count
+      → IsDoneTo work number v bound memory → p < bound → number p ≡ v
+      → (l : Location) → work.device.reads p l ≡ true → memory l ≡ memory_before work.device work.start p l
+  waves_read number v bound p memory rising done below is l reads =
+      reads_in_order work.device work.start (λ q. done.stored q ≡ true) memory p done.sound
+      (may_fetch_next number v bound p memory rising done below is) l reads
+
+-- ---- the work of commands
+
+stores_find : StoresFindTheSame
+stores_find rec n es i p e rules permitted at stores = λ l reads.
+    let o = orderly rec n rules in
+    let w = work_of rec n in
+    store_finds_all w.device w.start w.before w.count es o.local o.ordered permitted i p e l at stores reads
+    ∙ (λ j. memory_is rec (first_actions rec n) p j l)
+
+stores_ready : StoresAreReady
+stores_ready rec n es i p e rules permitted at stores ready =
+    ready_local (action_at (first_actions rec n) p) (running.memory_before (first_actions rec n) p) _
+    (λ l reads. sym (stores_find rec n es i p e rules permitted at stores l reads)) ready
+
+pub at_each_store : AtEachStore
+at_each_store = record { reads = stores_find; ready = stores_ready }
+
+pub waves_read_the_same : WavesReadTheSame
+waves_read_the_same rec n number v bound p memory rising done below is = λ l reads.
+    waves_read (work_of rec n) number v bound p memory rising done below is l reads
+    ∙ (λ j. memory_is rec (first_actions rec n) p j l)
