@@ -1,5 +1,5 @@
 -- What each store along a permitted schedule finds, and what the actions of a wave read.
-use Rattle.std.proofs.Common.{◌≡◌, ◌<◌, ◌≤◌, ℕ, Bool, true, List, inl, inr, refl, sym, ◌∙◌, ap, subst, arith, length, take}
+use Rattle.std.proofs.Common.{◌≡◌, ◌<◌, ◌≤◌, ℕ, Bool, true, List, inl, inr, sym, ◌∙◌, ap, subst, arith, length, take}
 use Rattle.std.proofs.lemmas.Bool.{cases_eq}
 use Rattle.std.proofs.lemmas.Option.{slice_get_within}
 use Rattle.ray_schedule.specs.Units.{Device, Memory, Work, memory_before}
@@ -15,7 +15,7 @@ use Rattle.ray_action.specs.Running as running
 use Rattle.ray_ready.specs.Laws.{first_actions}
 use Rattle.ray_ready.proofs.Local.{ready_local}
 use Rattle.ray_permitted.specs.Laws.{AtEachStore, StoresAreReady, StoresFindTheSame, WavesReadTheSame}
-use Rattle.ray_permitted.specs.Work.{device_of, work_of}
+use Rattle.ray_permitted.specs.Work.{work_of}
 use Rattle.ray_permitted.proofs.Fetching.{orderly}
 use Rattle.ray_permitted.proofs.Runs.{memory_is}
 

@@ -15,4 +15,5 @@ pub mod Ordered
 pub mod Fetching
 pub mod Finding
 pub mod Refused
+pub mod All
 pub mod Sample

@@ -1,5 +1,5 @@
 -- What holds of the schedules of a recording. (Own.)
-use Rattle.std.specs.Prelude.{ℕ, ◌≡◌, ◌<◌, ◌≤◌, List, Option, Some, Bool, true, take, length}
+use Rattle.std.specs.Prelude.{ℕ, ◌≡◌, ◌<◌, ◌≤◌, List, Option, Some, None, Bool, true, take, length}
 use Rattle.ray_schedule.specs.Conflicts.{AreOrdered, IsForward, IsLocal}
 use Rattle.ray_schedule.specs.Events.{Event, Fetches, Stores}
 use Rattle.ray_schedule.specs.Faults.{IsFirstFault}
@@ -15,7 +15,7 @@ use Rattle.ray_action.specs.Areas.{AgreeOn}
 use Rattle.ray_action.specs.Action.{areas_read}
 use Rattle.ray_action.specs.Outcomes.{Outcome}
 use Rattle.ray_action.specs.Readiness.{IsReady}
-use Rattle.ray_action.specs.Running.{action_at, memory_before, run_from}
+use Rattle.ray_action.specs.Running.{action_at, memory_before, run_from, run_of}
 use Rattle.ray_ready.specs.Accepted.{refused_from}
 use Rattle.ray_ready.specs.Laws.{AreSources, GaveBefore, first_actions}
 use Rattle.ray_permitted.specs.Along.{run_along, run_kept}
@@ -28,8 +28,8 @@ use Rattle.ray_permitted.specs.Work.{work_of}
 -- ordered, and the order goes forward
 pub record IsOrderly (rec : List Command) (n : ℕ) : Type 0 where
   pub local : IsLocal (work_of rec n).device
-  pub ordered : AreOrdered (work_of rec n).device (before rec) (work_of rec n).count
-  pub forward : IsForward (work_of rec n).device (before rec) (work_of rec n).count
+  pub ordered : AreOrdered (work_of rec n).device (work_of rec n).before (work_of rec n).count
+  pub forward : IsForward (work_of rec n).device (work_of rec n).before (work_of rec n).count
 
 -- commands that break no rule ask for orderly work
 abbrev pub RulesGiveOrder : Type 0
@@ -44,7 +44,14 @@ SchedulesComeToTheRun =
     (rec : List Command) (n : ℕ) (es : List Event) → BreakNoRule rec n → MayRun (work_of rec n) es
     → run_along rec n es ≡ run_from nothing_live (first_actions rec n)
 
--- and has the outcomes, the memory and the first fault of recording order
+-- so does every permitted schedule of a whole recording that no rule on the recording alone refuses, whose
+-- forms are built and whose updates have sources
+abbrev pub RecordingsComeToTheirRun : Type 0
+RecordingsComeToTheirRun =
+    (rec : List Command) (es : List Event) → rule_refusal rec ≡ None → AreOfBuiltForms rec (length rec)
+    → MayRun (work_of rec (length rec)) es → run_along rec (length rec) es ≡ run_of rec
+
+-- each has the outcomes, the memory and the first fault of recording order
 abbrev pub SchedulesLeaveTheSame : Type 0
 SchedulesLeaveTheSame = (rec : List Command) (n : ℕ) → BreakNoRule rec n → EverySchedule (work_of rec n)
 
@@ -65,7 +72,7 @@ abbrev pub LongestChainsRise : Type 0
 LongestChainsRise =
     (rec : List Command) (n : ℕ) (longest : ℕ → ℕ)
     → ((i : ℕ) → i < n → IsLongest (before rec) i (longest i))
-    → RisesAlong (work_of rec n).device (before rec) (λ p. longest ((work_of rec n).device.command p)) (work_of rec n).count
+    → RisesAlong (work_of rec n).device (work_of rec n).before (λ p. longest ((work_of rec n).device.command p)) (work_of rec n).count
 
 -- ---- at each fetch
 

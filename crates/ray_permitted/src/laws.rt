@@ -1,4 +1,5 @@
-ghost use Rattle.ray_permitted.specs.Laws.{RulesGiveOrder, SchedulesComeToTheRun, SchedulesLeaveTheSame, RecordingOrderIsTheRun};
+ghost use Rattle.ray_permitted.specs.Laws.{RulesGiveOrder, SchedulesComeToTheRun, RecordingsComeToTheirRun};
+ghost use Rattle.ray_permitted.specs.Laws.{SchedulesLeaveTheSame, RecordingOrderIsTheRun};
 ghost use Rattle.ray_permitted.specs.Laws.{SomeArePermitted, LongestChainsRise, WavesOfCommandsRun, WavesReadTheSame, OutcomesTellTheRun};
 ghost use Rattle.ray_permitted.specs.Laws.{AtEachFetch, AtEachStore, UnrefusedBreakNoRule};
 
@@ -9,9 +10,11 @@ pub fn rules_give_order()
 {}
 
 /// A law: every permitted schedule of commands that break no rule comes to the run of recording
-/// order, and leaves its outcomes, its memory and its first fault. It does nothing. Own.
+/// order, and leaves its outcomes, its memory and its first fault. So it is with all commands of a
+/// recording that isn't refused. It does nothing. Own.
 pub fn schedules_come_to_the_run()
     ensures run { SchedulesComeToTheRun }
+    ensures whole { RecordingsComeToTheirRun }
     ensures same { SchedulesLeaveTheSame }
     ensures order { RecordingOrderIsTheRun }
 {}
