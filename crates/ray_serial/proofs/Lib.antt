@@ -7,3 +7,4 @@ pub mod KeptLines
 pub mod Headers
 pub mod BottomForms
 pub mod Restore
+pub mod TopSteps

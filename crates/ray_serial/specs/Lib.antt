@@ -4,3 +4,5 @@ pub mod InstanceBytes
 pub mod Form
 pub mod Meaning
 pub mod Written
+pub mod TopWritten
+pub mod TopMeaning

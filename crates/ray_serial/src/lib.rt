@@ -4,12 +4,14 @@
 
 mod fields;
 mod geometry;
+mod handles;
 mod instances;
 mod lines;
 mod restoring;
 mod rows;
 mod serial_fault;
 mod texts;
+mod top_writing;
 mod view;
 mod writing;
 
