@@ -8,3 +8,4 @@ pub mod Headers
 pub mod BottomForms
 pub mod Restore
 pub mod TopSteps
+pub mod TopForms

@@ -1,6 +1,8 @@
 -- What bytes that are the form of a top structure stand for: its instances, each with the reference that its handle is; and
 -- the structure that it stands for where these structures are in use. (Own: the form, the rules X5 and X7.)
-use Rattle.std.specs.Prelude.{ℕ, ◌-◌, ◌==◌, if◌then◌else◌, Result, Ok, Err, Option, Some, None, option_and_then, List, length, map, slice_get}
+use Rattle.std.specs.Prelude.{ℕ, ◌-◌, ◌==◌, if◌then◌else◌, Result, Ok, Err, Option, Some, None, option_and_then, unwrap_or, List, ◌++◌, length, map, slice_get, take}
+use Rattle.std.specs.List.{flat_map}
+use Rattle.byteorder.specs.Endian.{little_bytes}
 use Rattle.ray_geom.specs.Boxes.{BoxValue}
 use Rattle.ray_bytes.specs.declared.data_rule.DataRule.{DataRule}
 use Rattle.ray_bytes.specs.declared.data_rule.DataRule.TheVariants.{X5, X7}
@@ -18,7 +20,7 @@ use Rattle.ray_top.specs.Instances.{InstanceValue}
 use Rattle.ray_top.specs.InstanceReading.{bounds_in, in_use}
 use Rattle.ray_serial.specs.InstanceBytes.{is_active, instance_parts}
 use Rattle.ray_serial.specs.Form.{payload_in, flags_of_payload, instances_of_payload}
-use Rattle.ray_serial.specs.Meaning.{handle_at}
+use Rattle.ray_serial.specs.Meaning.{handle_in}
 
 -- ---- the instances
 
@@ -26,9 +28,9 @@ use Rattle.ray_serial.specs.Meaning.{handle_at}
 abbrev pub with_reference : ℕ → InstanceRecord → InstanceRecord
 with_reference reference from = record from { reference = reference }
 
--- the reference of an active instance: number k stands for handle k - 1
+-- the reference of an active instance: number k stands for handle k - 1. (That there is such a handle the form's line 8 says.)
 unfoldable pub reference_in : List ℕ → InstanceRecord → ℕ
-reference_in bytes from = handle_at bytes (from.reference - 1)
+reference_in bytes from = unwrap_or (handle_in bytes (from.reference - 1)) 0
 
 -- an instance with the reference that its handle is; none where it is inactive
 abbrev pub referring_instance : List ℕ → InstanceRecord → Option InstanceRecord
@@ -68,3 +70,20 @@ abbrev pub IsLinkRule : DataRule → Type 0
 IsLinkRule X5 = Unit {0}
 IsLinkRule X7 = Unit {0}
 IsLinkRule other = ⊥
+
+-- ---- words of private calls alone
+
+-- the reference that is put into a buffer of instances, so that it is read as the form means it: 0 makes an instance
+-- inactive there, and so 1, which is the reference of no structure, stands for a handle that is 0
+abbrev pub not_zero : ℕ → ℕ
+not_zero reference = if reference == 0 then 1 else reference
+
+unfoldable pub put_reference : List ℕ → InstanceRecord → ℕ
+put_reference bytes from = if is_active from then not_zero (reference_in bytes from) else 0
+
+-- the 64 bytes of an instance, and those of all, with these references
+unfoldable pub put_part : List ℕ → List ℕ → List ℕ
+put_part bytes part = take 56 part ++ little_bytes 8 (put_reference bytes (instance_of part))
+
+unfoldable pub put_parts : List ℕ → List (List ℕ) → List ℕ
+put_parts bytes parts = flat_map (put_part bytes) parts

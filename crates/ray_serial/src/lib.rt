@@ -7,6 +7,7 @@ mod geometry;
 mod handles;
 mod instances;
 mod lines;
+mod linking;
 mod restoring;
 mod rows;
 mod serial_fault;
@@ -15,7 +16,9 @@ mod top_writing;
 mod view;
 mod writing;
 
+pub use crate::top_writing::serialize_top;
 pub use crate::serial_fault::SerialFault;
 pub use crate::view::SerialView;
 pub use crate::writing::{serialize, serialized_size};
+pub use ray_top::BuildFault;
 pub use std::alloc::AllocError as NoMemory;

@@ -1,5 +1,7 @@
-ghost use Rattle.std.specs.Prelude.{◌≡◌, ◌≤◌, Some, IfOk, false, length};
+ghost use Rattle.std.specs.Prelude.{◌≡◌, ◌≤◌, Some, IfOk, false, true, length};
+ghost use Rattle.ray_primitives.specs.Outcomes.{Gives};
 ghost use Rattle.ray_serial.specs.Form.{payload_in};
+ghost use Rattle.ray_serial.specs.TopMeaning.{top_in};
 ghost use Rattle.ray_serial.specs.Meaning.{IsForm, opened, is_top_form, deserialized_in};
 ghost use Rattle.ray_serial.specs.Meaning.{handle_in, bottom_in, HasRoom};
 ghost use Rattle.ray_serial.specs.Written.{bottom_form};
@@ -9,9 +11,11 @@ use crate::lines::{
     broken_line, flags_of_payload, geometry_count, handle_count_in, is_top_payload, payload_in,
     row_of,
 };
+use crate::linking::top_of;
 use crate::restoring::restored;
 use crate::serial_fault::SerialFault;
 use ray_bottom::Bottom;
+use ray_top::{BuildFault, Top, Used};
 use std::alloc::{AllocError as NoMemory, Global};
 use std::marker::Model;
 use std::thread::Threads;
@@ -66,7 +70,7 @@ impl<'a> SerialView<'a> {
     pub fn handle(&self, i: u32) -> Option<u64>
         ensures { result ≡ handle_in self.now i }
     {
-        handle(self.whole(), i)
+        handle(self.whole(), u64::from(i))
     }
 
     /// The bottom structure that it stands for. It isn't the form of a top structure. What the
@@ -77,6 +81,21 @@ impl<'a> SerialView<'a> {
         ensures again { IfOk result (λ bottom. bottom_form bottom ≡ self.now) }
     {
         bottom_of(rt, alloc, self.whole())
+    }
+
+    /// The top structure that it stands for, where each handle is the reference of a structure in
+    /// use. It is the form of a top structure. Data comes exactly where X5 or X7 is broken, and is
+    /// the first: by instance.
+    pub fn to_top<R: Threads + Sync>(
+        &self,
+        rt: &R,
+        alloc: Global,
+        used: &[Used],
+    ) -> Result<Top, BuildFault>
+        requires { is_top_form self.now ≡ true }
+        ensures value { Gives (top_in used.now self.now) result }
+    {
+        top_of(rt, alloc, self.whole(), used)
     }
 
     // The bytes.
@@ -117,11 +136,11 @@ fn bottom_of<R: Threads + Sync>(rt: &R, alloc: Global, bytes: &[u8]) -> Result<B
 
 // A handle by its number.
 #[tactic(auto, unfolding(crate::specs::Meaning::handle_at, crate::specs::Form::lacks_room))]
-fn handle(bytes: &[u8], i: u32) -> Option<u64>
+pub(crate) fn handle(bytes: &[u8], i: u64) -> Option<u64>
     requires { HasRoom bytes.now }
     ensures { result ≡ handle_in bytes.now i }
 {
-    if u64::from(i) < handle_count_in(bytes) {
+    if i < handle_count_in(bytes) {
         Some(long(bytes, 56 + 8 * i as usize))
     } else {
         None
