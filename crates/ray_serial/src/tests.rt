@@ -1,0 +1,195 @@
+use crate::{
+    BuildFault, SerialFault, SerialView, serialize, serialize_top, serialized_size,
+};
+use ray_bottom::{Bottom, Builder, TriangleInfo};
+use ray_bytes::{DataRule, Format, InstanceView, VertexView};
+use ray_flags::BuildFlags;
+use ray_geom::{Box3, Vec3};
+use ray_top::{Top, Used};
+use std::alloc::{AllocError, Global};
+use std::test::Fail;
+use std::thread::Threads;
+
+// The form of one opaque triangle (0,0,0), (4,0,0), (0,4,0), in the format s32x3 without indices.
+const TEXTS: &[u8] = b"vkray-software-1vkray-form-00001";
+
+const SIZES: [u64; 3] = [152, 512, 0];
+
+const WORDS: [u32; 24] = [
+    0, 0, 1, 0, //
+    0, 1, 0, 0, 1, 0, 0, 0, //
+    0, 0, 0, 4, 0, 0, 0, 4, 0, 0, 0, 0,
+];
+
+// The instance of identity, mask 255 and the structure 0.
+const INSTANCE: [u32; 16] = [
+    1, 0, 0, 0, 0, 1, 0, 0, 0, 0, 1, 0, 0xff00_0000, 0, 256, 0,
+];
+
+// The bytes of words.
+fn bytes_of(alloc: Global, words: &[u32]) -> Result<Vec<u8>, AllocError> {
+    let mut bytes = Vec::new(alloc);
+    for word in words {
+        bytes.extend_from_slice(&word.to_le_bytes())?;
+    }
+    Ok(bytes)
+}
+
+// The 152 bytes.
+fn form(alloc: Global) -> Result<Vec<u8>, AllocError> {
+    let mut bytes = Vec::new(alloc);
+    bytes.extend_from_slice(TEXTS)?;
+    for size in &SIZES {
+        bytes.extend_from_slice(&size.to_le_bytes())?;
+    }
+    bytes.extend_from_slice(bytes_of(alloc, &WORDS)?.as_slice())?;
+    Ok(bytes)
+}
+
+// The structure of the triangle.
+fn triangle<R: AllocGlobal + Threads + Sync>(rt: &R) -> Result<Bottom, BuildFault> {
+    let vertices = bytes_of(rt.alloc(), &[0, 0, 0, 4, 0, 0, 0, 4, 0])?;
+    let info = TriangleInfo {
+        opaque: true,
+        format: Format::S32x3,
+        index_size: 0,
+        count: 1,
+        first_vertex: 0,
+        max_vertex: 2,
+    };
+    let mut builder = Builder::new(rt.alloc(), BuildFlags(0));
+    let view = VertexView::new(vertices.as_slice(), 0, 12, Format::S32x3);
+    builder.triangles(&info, view, None, None)?;
+    Ok(builder.finish(rt)?)
+}
+
+#[test]
+fn writes_the_triangle(rt: HostRuntime) -> Result<(), Fail> {
+    let bottom = triangle(&rt)?;
+    let bytes = serialize(rt.alloc(), &bottom)?;
+    assert!(rt; bytes.as_slice() == form(rt.alloc())?.as_slice());
+    assert!(rt; serialized_size(&bottom) == 152);
+    Ok(())
+}
+
+// The fault of bytes, if they aren't a form.
+fn fault_of(bytes: &[u8]) -> u8 {
+    match SerialView::open(bytes) {
+        Ok(_) => 0,
+        Err(SerialFault(line)) => line,
+    }
+}
+
+// Cut short, the form breaks line 1 and then line 4.
+#[test]
+fn refuses_what_is_cut(rt: HostRuntime) -> Result<(), Fail> {
+    let bytes = form(rt.alloc())?;
+    for n in 0..bytes.len() {
+        let want = if n < 56 { 1 } else { 4 };
+        assert!(rt; fault_of(&bytes.as_slice()[..n]) == want, "{n}");
+    }
+    assert!(rt; fault_of(bytes.as_slice()) == 0);
+    Ok(())
+}
+
+// Whether bytes are refused, or are a form that is written again as it was.
+fn refused_or_again<R: AllocGlobal + Threads + Sync>(
+    rt: &R,
+    bytes: &[u8],
+) -> Result<bool, AllocError> {
+    match SerialView::open(bytes) {
+        Ok(view) => {
+            if view.is_top() {
+                return Ok(false);
+            }
+            let bottom = view.to_bottom(rt, rt.alloc())?;
+            let again = serialize(rt.alloc(), &bottom)?;
+            Ok(again.as_slice() == bytes)
+        }
+        Err(_) => Ok(true),
+    }
+}
+
+// Each bit of the form changed: refused, or written again as it was.
+#[test]
+fn keeps_each_changed_bit(rt: HostRuntime) -> Result<(), Fail> {
+    let mut bytes = form(rt.alloc())?;
+    assert!(rt; refused_or_again(&rt, bytes.as_slice())?);
+    for at in 0..bytes.len() {
+        for bit in 0..8_u32 {
+            let whole = bytes.as_slice()[at];
+            bytes[at] = whole ^ (1 << bit);
+            assert!(rt; refused_or_again(&rt, bytes.as_slice())?, "{at} {bit}");
+            bytes[at] = whole;
+        }
+    }
+    Ok(())
+}
+
+// A count of handles of 2^64 - 1.
+#[test]
+fn refuses_a_hostile_count(rt: HostRuntime) -> Result<(), Fail> {
+    let mut bytes = form(rt.alloc())?;
+    for at in 48..56 {
+        if at < bytes.len() {
+            bytes[at] = 255;
+        }
+    }
+    assert!(rt; fault_of(bytes.as_slice()) == 5);
+    Ok(())
+}
+
+// The bounds of the triangle.
+fn used(alloc: Global, id: u32) -> Result<Vec<Used>, AllocError> {
+    let lo = Vec3 { x: 0, y: 0, z: 0 };
+    let hi = Vec3 { x: 4, y: 4, z: 0 };
+    let mut used = Vec::new(alloc);
+    used.push(Used {
+        id,
+        bounds: Box3::new(lo, hi),
+    })?;
+    Ok(used)
+}
+
+// The structure of one instance of the triangle.
+fn instance<R: AllocGlobal + Threads + Sync>(rt: &R) -> Result<Top, BuildFault> {
+    let bytes = bytes_of(rt.alloc(), &INSTANCE)?;
+    let used = used(rt.alloc(), 0)?;
+    let view = InstanceView::new(bytes.as_slice(), 0);
+    Top::build(rt, rt.alloc(), BuildFlags(0), view, 1, used.as_slice())
+}
+
+#[test]
+fn reads_a_top_again(rt: HostRuntime) -> Result<(), Fail> {
+    let top = instance(&rt)?;
+    let mut bytes = serialize_top(rt.alloc(), &top)?;
+    assert!(rt; bytes.len() == 176);
+    let view = SerialView::open(bytes.as_slice()).expect(&rt, "form");
+    assert!(rt; view.is_top() && view.deserialized() == 512);
+    assert!(rt; view.handle(0) == Some(256) && view.handle(1) == None);
+    let used_0 = used(rt.alloc(), 0)?;
+    let again = view.to_top(&rt, rt.alloc(), used_0.as_slice())?;
+    let first = again.instance(0).expect(&rt, "first");
+    assert!(rt; again.len() == 1 && first.active && first.id == 0 && first.mask == 255);
+    let used_1 = used(rt.alloc(), 1)?;
+    assert!(rt; told(view.to_top(&rt, rt.alloc(), used_1.as_slice())) == Some((DataRule::X5, Some(0))));
+    // The handle is replaced by the reference of structure 1, and by 0.
+    assert!(rt; bytes.len() > 57);
+    bytes[57] = 2;
+    let view = SerialView::open(bytes.as_slice()).expect(&rt, "form");
+    let linked = view.to_top(&rt, rt.alloc(), used_1.as_slice())?;
+    assert!(rt; linked.instance(0).expect(&rt, "first").id == 1);
+    bytes[57] = 0;
+    let view = SerialView::open(bytes.as_slice()).expect(&rt, "form");
+    assert!(rt; told(view.to_top(&rt, rt.alloc(), used_1.as_slice())) == Some((DataRule::X5, Some(0))));
+    Ok(())
+}
+
+// The rule that is broken, with the instance, if one is.
+fn told(built: Result<Top, BuildFault>) -> Option<(DataRule, Option<u32>)> {
+    match built {
+        Ok(_) => None,
+        Err(BuildFault::Data(fault)) => Some((fault.rule, fault.element)),
+        Err(BuildFault::NoMemory) => Some((DataRule::X13, None)),
+    }
+}
