@@ -1,4 +1,5 @@
--- Between a device command and a later command that touch one location there is a wait, or both touch one thing.
+-- Between a device command and a later command that touch one location there is a wait, or both touch
+-- one thing.
 use Rattle.std.proofs.Common.{◌≡◌, ◌<◌, ◌≤◌, ℕ, true, false, List, Option, Some, None, IsSome, ◌⊎◌, inl, inr, refl, sym, ◌∙◌, ap, subst, arith}
 use Rattle.std.specs.Prelude.{◌||◌, not, slice_get, option_map, is_some}
 use Rattle.std.proofs.lemmas.Bool.{cases_lt}

@@ -1,4 +1,5 @@
--- Recording order in the words of schedules is that of the run, so each permitted schedule comes to the run.
+-- Recording order in the words of schedules is that of the run, so each permitted schedule comes to the
+-- run.
 use Rattle.std.proofs.Common.{◌≡◌, ◌<◌, ◌≤◌, ℕ, zero, suc, Bool, true, false, List, [], ◌∷◌, Option, Some, refl, sym, ◌∙◌, ap, arith, length}
 use Rattle.std.specs.Prelude.{◌&&◌, not, if◌then◌else◌}
 use Rattle.ray_schedule.specs.Events.{Event}

@@ -1,5 +1,5 @@
--- Commands that break no rule: a buffer is filled twice, with a barrier between, and shown. So what the laws ask
--- for can be met.
+-- Commands that break no rule: a buffer is filled twice, with a barrier between, and shown. So what the
+-- laws ask for can be met.
 use Rattle.std.proofs.Common.{◌≡◌, ◌<◌, ℕ, zero, suc, List, [], ◌∷◌, Some, None, refl, subst, arith}
 use Rattle.std.specs.Prelude.{slice_get}
 use Rattle.ray_cmd.specs.declared.command.Command.{Command}

@@ -44,8 +44,8 @@ SchedulesComeToTheRun =
     (rec : List Command) (n : ℕ) (es : List Event) → BreakNoRule rec n → MayRun (work_of rec n) es
     → run_along rec n es ≡ run_from nothing_live (first_actions rec n)
 
--- so does every permitted schedule of a whole recording that no rule on the recording alone refuses, whose
--- forms are built and whose updates have sources
+-- so does every permitted schedule of a whole recording that no rule on the recording alone refuses,
+-- whose forms are built and whose updates have sources
 abbrev pub RecordingsComeToTheirRun : Type 0
 RecordingsComeToTheirRun =
     (rec : List Command) (es : List Event) → rule_refusal rec ≡ None → AreOfBuiltForms rec (length rec)

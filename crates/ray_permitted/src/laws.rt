@@ -1,7 +1,9 @@
-ghost use Rattle.ray_permitted.specs.Laws.{RulesGiveOrder, SchedulesComeToTheRun, RecordingsComeToTheirRun};
+ghost use Rattle.ray_permitted.specs.Laws.{RulesGiveOrder, UnrefusedBreakNoRule};
+ghost use Rattle.ray_permitted.specs.Laws.{SchedulesComeToTheRun, RecordingsComeToTheirRun};
 ghost use Rattle.ray_permitted.specs.Laws.{SchedulesLeaveTheSame, RecordingOrderIsTheRun};
-ghost use Rattle.ray_permitted.specs.Laws.{SomeArePermitted, LongestChainsRise, WavesOfCommandsRun, WavesReadTheSame, OutcomesTellTheRun};
-ghost use Rattle.ray_permitted.specs.Laws.{AtEachFetch, AtEachStore, UnrefusedBreakNoRule};
+ghost use Rattle.ray_permitted.specs.Laws.{SomeArePermitted, LongestChainsRise};
+ghost use Rattle.ray_permitted.specs.Laws.{WavesOfCommandsRun, WavesReadTheSame, OutcomesTellTheRun};
+ghost use Rattle.ray_permitted.specs.Laws.{AtEachFetch, AtEachStore};
 
 /// A law: of commands that break no rule, outcomes are told by what is read, conflicting actions
 /// are ordered, and the order goes forward. It does nothing. Own.
