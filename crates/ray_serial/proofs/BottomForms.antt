@@ -239,7 +239,7 @@ lines_of c is known =
       room = omega arith;
       payload = (λ i. total_of_payload (h.count i) (h.payload_is i)) ∙ total_said c (payload_of c) is known s;
       structure = h.deserialized_is
-      ∙ ap (λ n. structure_size n (total_of c.geometries)) (sym (ap geometry_count h.payload_is ∙ count_said c (payload_of c) s));
+          ∙ ap (λ n. structure_size n (total_of c.geometries)) (sym (ap geometry_count h.payload_is ∙ count_said c (payload_of c) s));
       elements = (λ i. has_bad_element (h.count i) (h.payload_is i)) ∙ elements_said c (payload_of c) is s;
     }
 
@@ -503,8 +503,7 @@ CanRestore-form bytes fits is bottom =
     let read = is_there bytes k bottom in
     let again = form_contents bytes (with_flags (flags_of_payload (payload_in bytes)) read.value) fits k bottom (contents_are bytes read.value read.is_some) in
     let row = row_again keeps.kind (geometry_count (payload_in bytes)) (row_of (payload_in bytes)) read.value
-    (fits_row (payload_in bytes) (fits_payload bytes fits)) keeps.fill read.is_some in
-    (
+    (fits_row (payload_in bytes) (fits_payload bytes fits)) keeps.fill read.is_some in (
       keeps.not_both,
       record {
         all = read.value;

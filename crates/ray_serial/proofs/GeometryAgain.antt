@@ -208,8 +208,8 @@ again_of kind rest s fits whole head e =
       count_is = are.count_is;
       is = record { within = are.within };
       same = append_assoc (head_bytes k o f x (count_of_shapes s)) (element_bytes s) (after_first rest)
-      ∙ (ap (λ ys. head_bytes k o f x (count_of_shapes s) ++ ys) (ap (λ ys. ys ++ after_first rest) elements ∙ split rest)
-      ∙ head_again rest k o f x (count_of_shapes s) fits (long_enough rest whole) words);
+          ∙ (ap (λ ys. head_bytes k o f x (count_of_shapes s) ++ ys) (ap (λ ys. ys ++ after_first rest) elements ∙ split rest)
+          ∙ head_again rest k o f x (count_of_shapes s) fits (long_enough rest whole) words);
     }
 
 pub geometry_again : (kind : Kind) (rest : List ℕ) (g : Geometry) → AreBytes rest → is_geometry (kind_number kind) rest ≡ true → geometry_in rest ≡ Some g →

@@ -118,8 +118,8 @@ front g others few =
       words = head_back kind opaque format index (count_of g) (elements ++ others) (omega arith) (omega arith) (omega arith) (omega arith) (omega arith);
       elements = after_head kind opaque format index (count_of g) (elements ++ others);
       long = length-append (head_bytes kind opaque format index (count_of g)) (elements ++ others)
-      ∙ (λ i. length-head_bytes kind opaque format index (count_of g) i + length-append elements others i)
-      ∙ omega arith;
+          ∙ (λ i. length-head_bytes kind opaque format index (count_of g) i + length-append elements others i)
+          ∙ omega arith;
     })
 
 elements_are : (g : Geometry) (rest others : List ℕ) → IsFront g rest others → elements_size rest ≡ length (element_bytes g.shapes)
@@ -208,8 +208,8 @@ row_first kind g gs rest named is f others =
     let next = follows g rest (flat_map geometry_bytes gs) f in
     record {
       fill = both_true (is_geometry kind rest) (are_geometries kind (length gs) (after_first rest))
-      (is_geometry-front kind g rest (flat_map geometry_bytes gs) named f)
-      (ap (are_geometries kind (length gs)) next ∙ others.fill);
+          (is_geometry-front kind g rest (flat_map geometry_bytes gs) named f)
+          (ap (are_geometries kind (length gs)) next ∙ others.fill);
       total = (λ i. f.words.count_is i + (ap (total_in (length gs)) next ∙ others.total) i) ∙ sym (sum_by-cons count_of g gs);
       same = λ i. with_first (geometry_in-front g rest (flat_map geometry_bytes gs) is f i) ((ap (geometries_in (length gs)) next ∙ others.same) i);
     }

@@ -76,7 +76,7 @@ KeepsLines-unbroken bytes e =
       room = not_below (length bytes) (56 + 8 * h + 16) room.1;
       payload = six.is;
       structure = number_is (long_at bytes 40) (structure_size (geometry_count (payload_in bytes)) six.total)
-      (not_false (long_at bytes 40 == structure_size (geometry_count (payload_in bytes)) six.total) seven.0);
+          (not_false (long_at bytes 40 == structure_size (geometry_count (payload_in bytes)) six.total) seven.0);
       elements = eight.0;
     }
 

@@ -9,3 +9,4 @@ pub mod BottomForms
 pub mod Restore
 pub mod TopSteps
 pub mod TopForms
+pub mod Distinct

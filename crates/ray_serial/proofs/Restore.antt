@@ -147,7 +147,7 @@ goes_on i n rest row start now then_ below h can e =
       anew = h.anew;
       flags_is = h.flags_is;
       same = ap (option_map (append_to (now.contents.geometries ++ x.head ∷ []))) x.others_are
-      ∙ (ap Some (append_assoc now.contents.geometries (x.head ∷ []) x.tail ∙ x.all_are) ∙ sym can.read);
+          ∙ (ap Some (append_assoc now.contents.geometries (x.head ∷ []) x.tail ∙ x.all_are) ∙ sym can.read);
     })
 
 pub ends : (i n : ℕ) (rest row : List ℕ) (start now : BuilderValue) → i ≡ n → IsRestoring start now (geometries_in (n - i) rest) (geometries_in n row) →

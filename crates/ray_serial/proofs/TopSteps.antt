@@ -29,7 +29,9 @@ use Rattle.ray_geom.specs.Transform.{MatrixValue, IsMatrix, row_of, rows_of}
 use Rattle.ray_bytes.specs.References.{reference_of}
 use Rattle.ray_bottom.specs.Storing.{bytes_of_words}
 use Rattle.ray_serial.specs.Written.{form_size}
-use Rattle.ray_serial.specs.TopWritten.{with_handle, handles_of, handle_number, placed_bytes, instance_bytes, all_instance_bytes, top_head, top_payload, FitsBits, FitsRow, IsRising}
+use Rattle.ray_serial.specs.TopWritten.{with_handle, handles_of, handle_number, placed_bytes, instance_bytes, all_instance_bytes, top_head, top_payload, top_form, FitsBits, FitsRow, IsRising}
+use Rattle.ray_bytes.specs.StructureSizes.{structure_size}
+use Rattle.ray_serial.proofs.Headers.{length-form_bytes}
 
 -- ---- handles
 
@@ -243,3 +245,9 @@ pub FitsRow-entry : (rows : List (List ℤ)) (m : MatrixValue) → rows ≡ rows
 FitsRow-entry rows m e is =
     let P : List ℤ → Type 0 = λ row. FitsRow row in
     subst P (sym (ap (λ (rs : List (List ℤ)). get_or rs 2 []) e)) (FitsRow-row m.c m.t.z is.c_short is.t_short.z_within)
+
+pub length-top_form : (c : ContentsValue) → length (top_form c) ≡ 104 + 8 * length (handles_of c.instances) + 64 * length c.instances
+unfolding top_form
+length-top_form c =
+    length-form_bytes (structure_size 1 (length c.instances)) (handles_of c.instances) (top_payload (handles_of c.instances) c)
+    ∙ (let long = length-top_payload (handles_of c.instances) c in omega arith)

@@ -3,7 +3,7 @@
 --
 -- By hand, of an instance with the identity, mask 255 and the structure 0 alone: the one handle is 256, and the 64 bytes are
 -- those of the instance in a buffer, with 1 in place of the reference 256.
-use Rattle.std.specs.Prelude.{ℕ, ℤ, pos, ◌+◌, ◌*◌, ◌^◌, ◌<◌, ◌==◌, slice_index_or, if◌then◌else◌, Option, List, [], ◌∷◌, ◌++◌, length, fold, replicate}
+use Rattle.std.specs.Prelude.{ℕ, ℤ, pos, ◌+◌, ◌*◌, ◌^◌, ◌<◌, ◌==◌, ◌&&◌, Bool, slice_index_or, if◌then◌else◌, Option, List, [], ◌∷◌, ◌++◌, length, fold, replicate}
 use Rattle.std.specs.Int.{w32, cast_unsigned}
 use Rattle.std.specs.Int.RustNames.{FitsSigned}
 use Rattle.std.specs.List.{flat_map, position_or_len}
@@ -74,6 +74,10 @@ top_form c =
     form_bytes (structure_size 1 (length c.instances)) (handles_of c.instances) (top_payload (handles_of c.instances) c)
 
 -- ---- words of private calls alone
+
+-- whether an instance is active and refers to the structure of an id
+abbrev pub refers_to : ℕ → Option InstanceValue → Bool
+refers_to id i = (told_instance i).active && ((told_instance i).id == id)
 
 -- the numbers of a row fit 32 bits
 pub record FitsRow (row : List ℤ) : Type 0 where

@@ -2,6 +2,7 @@
 //! stand and refused at their first fault.
 #![tactic(auto)]
 
+mod counting;
 mod fields;
 mod geometry;
 mod handles;
@@ -18,8 +19,9 @@ mod top_writing;
 mod view;
 mod writing;
 
-pub use crate::top_writing::serialize_top;
+pub use crate::counting::{handle_count, serialized_size_top};
 pub use crate::serial_fault::SerialFault;
+pub use crate::top_writing::serialize_top;
 pub use crate::view::SerialView;
 pub use crate::writing::{serialize, serialized_size};
 pub use ray_top::BuildFault;

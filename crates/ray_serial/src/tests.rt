@@ -1,5 +1,6 @@
 use crate::{
-    BuildFault, SerialFault, SerialView, serialize, serialize_top, serialized_size,
+    BuildFault, SerialFault, SerialView, handle_count, serialize, serialize_top, serialized_size,
+    serialized_size_top,
 };
 use ray_bottom::{Bottom, Builder, TriangleInfo};
 use ray_bytes::{DataRule, Format, InstanceView, VertexView};
@@ -22,8 +23,38 @@ const WORDS: [u32; 24] = [
 ];
 
 // The instance of identity, mask 255 and the structure 0.
-const INSTANCE: [u32; 16] = [
-    1, 0, 0, 0, 0, 1, 0, 0, 0, 0, 1, 0, 0xff00_0000, 0, 256, 0,
+const INSTANCE: [u32; 16] = [1, 0, 0, 0, 0, 1, 0, 0, 0, 0, 1, 0, 0xff00_0000, 0, 256, 0];
+
+// The payload of a structure of it.
+const TOP_WORDS: [u32; 28] = [
+    1,
+    0,
+    1,
+    0, //
+    2,
+    0,
+    0,
+    0,
+    1,
+    0,
+    0,
+    0, //
+    1,
+    0,
+    0,
+    0,
+    0,
+    1,
+    0,
+    0,
+    0,
+    0,
+    1,
+    0,
+    0xff00_0000,
+    0,
+    1,
+    0,
 ];
 
 // The bytes of words.
@@ -159,37 +190,84 @@ fn instance<R: AllocGlobal + Threads + Sync>(rt: &R) -> Result<Top, BuildFault> 
     Top::build(rt, rt.alloc(), BuildFlags(0), view, 1, used.as_slice())
 }
 
+// What a form tells of its structure, where structures are in use.
+fn linked<R: AllocGlobal + Threads + Sync>(
+    rt: &R,
+    bytes: &[u8],
+    id: u32,
+) -> Result<Told, AllocError> {
+    let used = used(rt.alloc(), id)?;
+    match SerialView::open(bytes) {
+        Ok(view) => {
+            if view.is_top() {
+                Ok(told(view.to_top(rt, rt.alloc(), used.as_slice())))
+            } else {
+                Ok(Told::Other)
+            }
+        }
+        Err(_) => Ok(Told::Other),
+    }
+}
+
+// The form of the instance, with a handle.
+fn top_form(alloc: Global, handle: u64) -> Result<Vec<u8>, AllocError> {
+    let mut bytes = Vec::new(alloc);
+    bytes.extend_from_slice(TEXTS)?;
+    for number in &[176, 512, 1, handle] {
+        bytes.extend_from_slice(&number.to_le_bytes())?;
+    }
+    bytes.extend_from_slice(bytes_of(alloc, &TOP_WORDS)?.as_slice())?;
+    Ok(bytes)
+}
+
 #[test]
-fn reads_a_top_again(rt: HostRuntime) -> Result<(), Fail> {
+fn writes_the_instance(rt: HostRuntime) -> Result<(), Fail> {
     let top = instance(&rt)?;
-    let mut bytes = serialize_top(rt.alloc(), &top)?;
-    assert!(rt; bytes.len() == 176);
-    let view = SerialView::open(bytes.as_slice()).expect(&rt, "form");
-    assert!(rt; view.is_top() && view.deserialized() == 512);
-    assert!(rt; view.handle(0) == Some(256) && view.handle(1) == None);
-    let used_0 = used(rt.alloc(), 0)?;
-    let again = view.to_top(&rt, rt.alloc(), used_0.as_slice())?;
-    let first = again.instance(0).expect(&rt, "first");
-    assert!(rt; again.len() == 1 && first.active && first.id == 0 && first.mask == 255);
-    let used_1 = used(rt.alloc(), 1)?;
-    assert!(rt; told(view.to_top(&rt, rt.alloc(), used_1.as_slice())) == Some((DataRule::X5, Some(0))));
-    // The handle is replaced by the reference of structure 1, and by 0.
-    assert!(rt; bytes.len() > 57);
-    bytes[57] = 2;
-    let view = SerialView::open(bytes.as_slice()).expect(&rt, "form");
-    let linked = view.to_top(&rt, rt.alloc(), used_1.as_slice())?;
-    assert!(rt; linked.instance(0).expect(&rt, "first").id == 1);
-    bytes[57] = 0;
-    let view = SerialView::open(bytes.as_slice()).expect(&rt, "form");
-    assert!(rt; told(view.to_top(&rt, rt.alloc(), used_1.as_slice())) == Some((DataRule::X5, Some(0))));
+    let bytes = serialize_top(rt.alloc(), &top)?;
+    assert!(rt; bytes.as_slice() == top_form(rt.alloc(), 256)?.as_slice());
+    assert!(rt; serialized_size_top(&top) == 176 && handle_count(&top) == 1);
+    match SerialView::open(bytes.as_slice()) {
+        Ok(view) => {
+            assert!(rt; view.is_top() && view.deserialized() == 512);
+            assert!(rt; view.handle(0) == Some(256) && view.handle(1).is_none());
+        }
+        Err(_) => assert!(rt; false, "a form"),
+    }
     Ok(())
 }
 
-// The rule that is broken, with the instance, if one is.
-fn told(built: Result<Top, BuildFault>) -> Option<(DataRule, Option<u32>)> {
+// The handle is the reference of a structure in use, of one out of use, or 0.
+#[test]
+fn links_instances(rt: HostRuntime) -> Result<(), Fail> {
+    let x5 = Told::Broken(DataRule::X5, Some(0));
+    let cases: [(u64, u32, Told); 4] = [
+        (256, 0, Told::Built(Some(0))),
+        (256, 1, x5),
+        (512, 1, Told::Built(Some(1))),
+        (0, 0, x5),
+    ];
+    for (handle, id, want) in cases {
+        let bytes = top_form(rt.alloc(), handle)?;
+        assert!(rt; linked(&rt, bytes.as_slice(), id)? == want, "{handle} {id}");
+    }
+    Ok(())
+}
+
+// What is told of what is built: the structure of the first instance, or the broken rule.
+#[derive(Clone, Copy, Debug, PartialEq, Eq)]
+enum Told {
+    Built(Option<u32>),
+    Broken(DataRule, Option<u32>),
+    Other,
+}
+
+fn told(built: Result<Top, BuildFault>) -> Told {
     match built {
-        Ok(_) => None,
-        Err(BuildFault::Data(fault)) => Some((fault.rule, fault.element)),
-        Err(BuildFault::NoMemory) => Some((DataRule::X13, None)),
+        Ok(top) => match top.instance(0) {
+            Some(first) => Told::Built(Some(first.id)),
+            None => Told::Built(None),
+        },
+        Err(BuildFault::Data(fault)) => Told::Broken(fault.rule, fault.element),
+        Err(BuildFault::NoMemory) => Told::Other,
     }
 }

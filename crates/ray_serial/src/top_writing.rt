@@ -80,11 +80,7 @@ fn append_placed(bytes: &mut Vec<u8>, number: u64, told: Instance) -> Result<(),
 
 // An instance.
 #[tactic(auto, unfolding(crate::specs::TopWritten::instance_bytes))]
-fn append_instance(
-    bytes: &mut Vec<u8>,
-    handles: &[u64],
-    told: Instance,
-) -> Result<(), NoMemory>
+fn append_instance(bytes: &mut Vec<u8>, handles: &[u64], told: Instance) -> Result<(), NoMemory>
     requires fits { FitsBits told }
     requires rising { IsRising handles.now }
     ensures { OnOk result (bytes.new.items ≡ bytes.old.items ++ instance_bytes handles.now told) }
