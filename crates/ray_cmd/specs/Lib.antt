@@ -12,3 +12,4 @@ pub mod Json
 pub mod Counting
 pub mod Recordings
 pub mod Recorded
+pub mod Sources

@@ -120,7 +120,7 @@ from-none k = omega arith
 some-part : {X : Type 0} (f : X → Action) (found : Option X) (k : ℕ) (x : X) → found ≡ Some x → unwrap_or (option_map f found) Rest ≡ f x
 some-part f found k x e = ap (λ o. unwrap_or (option_map f o) Rest) e
 
-first-part : (a : Action) (k : ℕ) → k < 1 → unwrap_or (slice_get (a ∷ []) k) Rest ≡ a
+pub first-part : (a : Action) (k : ℕ) → k < 1 → unwrap_or (slice_get (a ∷ []) k) Rest ≡ a
 first-part a zero within = refl
 first-part a (suc k) within = absurd (omega arith)
 

@@ -1,4 +1,6 @@
+pub mod Adding
 pub mod Commands
+pub mod Free
 pub mod Hits
 pub mod Inputs
 pub mod Numbers

@@ -8,7 +8,8 @@ use Rattle.ray_action.specs.Seeing.{see_structure}
 use Rattle.ray_device.specs.declared.output.Output.{Output}
 use Rattle.ray_device.specs.declared.fetch_fault.FetchFault.{FetchFault}
 use Rattle.ray_device.specs.declared.fetch_fault.FetchFault.TheVariants.{Data, NoMemory}
-use Rattle.ray_device.specs.Fetched.{given}
+use Rattle.ray_device.specs.declared.piece.Piece.{Piece}
+use Rattle.ray_device.specs.Fetched.{Fetched, given}
 
 -- a fetch comes to this outcome: it gives the output, or tells the data rule that is broken, and where. Want
 -- of memory is free
@@ -16,6 +17,12 @@ abbrev pub IsFetched : Outcome → Result Output FetchFault → Type 0
 IsFetched outcome (Ok output) = outcome ≡ Gives (given output)
 IsFetched outcome (Err (Data rule place)) = outcome ≡ Breaks (record { rule = rule; place = place })
 IsFetched outcome (Err NoMemory) = Unit {0}
+
+-- the same of a piece, which is kept beside its output
+abbrev pub IsPieceFetched : Piece → Outcome → Result Fetched FetchFault → Type 0
+IsPieceFetched piece outcome (Ok out) = (out.piece ≡ piece) × (outcome ≡ Gives out.output)
+IsPieceFetched piece outcome (Err (Data rule place)) = outcome ≡ Breaks (record { rule = rule; place = place })
+IsPieceFetched piece outcome (Err NoMemory) = Unit {0}
 
 -- what a clone of contents gives
 abbrev pub clone_outcome : Option Contents → Outcome

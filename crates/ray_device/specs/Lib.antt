@@ -1,6 +1,9 @@
+pub mod Bottoms
 pub mod Fetched
 pub mod Fetching
+pub mod Infos
 pub mod Laws
+pub mod Parts
 pub mod Pieces
 pub mod Ranges
 pub mod Storing

@@ -1,20 +1,22 @@
 //! What the pieces of device commands do to the device's memory, in code: how many a command has,
-//! what each does (`piece_action` of `specs/Pieces`), what copies, properties, rays and top
-//! structures give, and the store of an output. A piece is fetched at one moment, when all that it
-//! reads is read, and stored at a later one; between them its output is a [`PieceOut`]. The fetch
-//! of a piece, which chooses among what gives outputs, and what bottom structures give come with
-//! the work that needs them.
+//! what each gives at its fetch, and what its store leaves. A piece is fetched at one moment, when
+//! all that it reads is read, and stored at a later one; between them its output is a [`PieceOut`].
 //!
-//! Contracts speak of the actions of ray_action and of the memory that a [`ray_memory::State`]
-//! holds.
+//! Contracts speak of the actions of ray_action (`piece_action` of `specs/Pieces`) and of the memory
+//! that a [`ray_memory::State`] holds, as it is. The layer above uses [`fetch`] and [`store`], each
+//! with one condition, that the action is ready there or its output can be stored there, and the law
+//! that what is given where an action is ready can be stored, [`outputs_are_storable`].
 //!
 //! It stands on ray_memory (what a state lends, and how it is changed), on ray_action (what each
 //! command does), on ray_bottom and ray_top (what structures hold), and on ray_walk and ray_script
 //! (what a trace answers).
 #![tactic(auto)]
 
+mod bottoms;
 mod copying;
 mod fetch_fault;
+mod fetching;
+mod infos;
 mod laws;
 mod output;
 mod parts;
@@ -27,8 +29,10 @@ mod tests;
 mod tops;
 mod tracing;
 
+pub use crate::bottoms::{built_bottom, updated_bottom};
 pub use crate::copying::{copied_bytes, copied_structure, told_numbers};
 pub use crate::fetch_fault::FetchFault;
+pub use crate::fetching::fetch;
 pub use crate::laws::{outputs_are_storable, parts_are_actions, traces_are_free};
 pub use crate::output::Output;
 pub use crate::parts::pieces;

@@ -72,7 +72,7 @@ fn store_part(state: &mut State, command: &Command, part: u32, output: Output)
 }
 
 // So many bytes of a buffer from an offset on.
-fn range(buffer: u32, from: u64, size: u64) -> ByteRange
+pub(crate) fn range(buffer: u32, from: u64, size: u64) -> ByteRange
     ensures { result ≡ record { buffer = buffer; from = from; size = size } }
 {
     ByteRange {

@@ -114,7 +114,7 @@ pub fn updated_top<R: Threads + Sync>(
 }
 
 // The fault of a geometry of info number `info`.
-fn fault_in(info: u32, fault: DataFault) -> FetchFault
+pub(crate) fn fault_in(info: u32, fault: DataFault) -> FetchFault
     ensures { result ≡ Data fault.rule (place_in info fault.geometry fault.element) }
 {
     let place = match fault.element {

@@ -1,0 +1,55 @@
+use Rattle.std.proofs.Common.{◌<◌, ◌*◌, ◌∙◌, length, ap, subst, sym}
+use Rattle.ray_cmd.specs.declared.command.Command.{Command}
+use Rattle.ray_cmd.specs.declared.command.Command.TheVariants as commands
+use Rattle.ray_action.specs.Memory.{bytes_at}
+use Rattle.ray_action.specs.Outcomes.{Outcome, bytes_outcome}
+use Rattle.ray_action.specs.Pieces.{cull_mask}
+use Rattle.ray_memory.specs.State.{memory_of}
+use Rattle.ray_device.specs.Fetching.{IsFetched}
+use Rattle.ray_device.specs.Infos.{info_now}
+use Rattle.ray_device.specs.Parts.{part_given}
+use Rattle.ray_device.specs.Pieces.{piece_count}
+use Rattle.ray_device.specs.Tracing.{traced}
+use Rattle.ray_device.proofs.Free.{copy_is, info_is, region_is, trace_is}
+use Rattle.ray_device.proofs.fetching.fetch_part.Goals as goal
+
+pub returns-in-Copy-clause-value : goal.returns-in-Copy-clause-value
+returns-in-Copy-clause-value g c =
+    let m = memory_of c.args.state.now in
+    let k = c.args.part in
+    let rs = c.as_slice.result.now in
+    let src = c.in-Copy.src in
+    let dst = c.in-Copy.dst in
+    let is = ap (commands.Copy src dst) c.as_slice.ensures.items ∙ sym c.in-Copy.is in
+    let below : k < length rs = subst (λ (x : Command). k < piece_count x) (sym is) c.requires.within in
+    subst (λ (o : Outcome). IsFetched o c.copied_bytes.result)
+    (ap (λ r. bytes_outcome (bytes_at m r)) c.range.ensures ∙ (region_is m src dst rs k _ below ∙ ap (λ x. part_given m x k) is))
+    c.copied_bytes.ensures
+
+pub returns-in-Build-clause-value : goal.returns-in-Build-clause-value
+returns-in-Build-clause-value g c =
+    let m = memory_of c.args.state.now in
+    let k = c.args.part in
+    let infos = c.as_slice-in-Build.result.now in
+    let is = ap commands.Build c.as_slice-in-Build.ensures.items ∙ sym c.in-Build.is in
+    let below : k < length infos = subst (λ (x : Command). k < piece_count x) (sym is) c.requires.within in
+    subst (λ (o : Outcome). IsFetched o c.built.result)
+    (ap (λ info. info_now m k info) c.index-as_slice-part.is ∙ (info_is m infos k c.index-as_slice-part.result below ∙ ap (λ x. part_given m x k) is))
+    c.built.ensures
+
+pub returns-in-CopyStructure-clause-value : goal.returns-in-CopyStructure-clause-value
+returns-in-CopyStructure-clause-value g c =
+    let m = memory_of c.args.state.now in
+    subst (λ (o : Outcome). IsFetched o c.copied_structure.result)
+    (copy_is m c.in-CopyStructure.mode c.in-CopyStructure.src c.in-CopyStructure.dst c.args.part ∙ ap (λ x. part_given m x c.args.part) (sym c.in-CopyStructure.is))
+    c.copied_structure.ensures
+
+pub returns-in-Trace-clause-value : goal.returns-in-Trace-clause-value
+returns-in-Trace-clause-value g c =
+    let m = memory_of c.args.state.now in
+    let k = c.args.part in
+    let t = c.in-Trace in
+    subst (λ (o : Outcome). IsFetched o c.traced_rays.result)
+    ((λ i. traced m t.top (c.rays_of_part.ensures i) (64 * k) (c.rays_in_part.ensures i) t.flags (cull_mask t.mask) (c.as_slice-in-Trace.ensures.items i))
+    ∙ (trace_is m t.top t.rays t.count t.hits t.flags t.mask t.script k ∙ ap (λ x. part_given m x k) (sym t.is)))
+    c.traced_rays.ensures.value

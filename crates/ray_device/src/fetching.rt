@@ -1,0 +1,128 @@
+ghost use Rattle.std.specs.Prelude.{◌≡◌, ◌<◌, ◌≤◌, IfOk};
+ghost use Rattle.ray_action.specs.Outcomes.{outcome_of};
+ghost use Rattle.ray_action.specs.Readiness.{IsReady};
+ghost use Rattle.ray_memory.specs.State.{memory_of};
+ghost use Rattle.ray_device.specs.Fetching.{IsFetched, IsPieceFetched};
+ghost use Rattle.ray_device.specs.Parts.{part_given, rays_range, CanFetch};
+ghost use Rattle.ray_device.specs.Pieces.{IsPiece, piece_action, piece_count};
+ghost use Rattle.ray_rules.specs.Access.{rays_of_piece};
+
+use crate::copying::{copied_bytes, copied_structure, told_numbers};
+use crate::fetch_fault::FetchFault;
+use crate::infos::built;
+use crate::output::Output;
+use crate::parts::RAYS_A_PIECE;
+use crate::piece::Piece;
+use crate::piece_out::PieceOut;
+use crate::storing::range;
+use crate::tracing::traced_rays;
+use ray_cmd::{Command, Recording, Spot};
+use ray_geom::Steps;
+use ray_memory::State;
+use ray_rules::ByteRange;
+use std::alloc::Global;
+use std::sync::ledger::Ledger;
+use std::thread::Threads;
+
+/// What a piece gives of the memory as it is, or the first data rule that what it reads breaks, with
+/// its place. The piece's action is ready there. A piece of a trace takes a step for each primitive
+/// that it tests; every other piece takes none of them. (The operations of each device command of
+/// Vulkan.)
+#[tactic(auto, using(crate::proofs::Commands::part_within))]
+pub fn fetch<R: Threads + Sync, L: Ledger>(
+    rt: &R,
+    alloc: Global,
+    state: &State,
+    rec: &Recording,
+    piece: Piece,
+    steps: &mut Steps<L>,
+) -> Result<PieceOut, FetchFault>
+    requires piece { IsPiece rec.now piece }
+    requires ready { IsReady (piece_action rec.now piece) (memory_of state.now) }
+    ensures value { IsPieceFetched piece (outcome_of (piece_action rec.now piece)
+        (memory_of state.now)) result }
+    ensures rising { steps.old ≤ steps.new }
+{
+    let command = rec.command(piece.command);
+    match fetch_part(rt, alloc, state, command, piece.part, steps) {
+        Ok(output) => Ok(PieceOut { piece, output }),
+        Err(fault) => Err(fault),
+    }
+}
+
+// What part number `part` of a command gives.
+#[tactic(auto, unfolding(crate::specs::Parts::part_given))]
+fn fetch_part<R: Threads + Sync, L: Ledger>(
+    rt: &R,
+    alloc: Global,
+    state: &State,
+    command: &Command,
+    part: u32,
+    steps: &mut Steps<L>,
+) -> Result<Output, FetchFault>
+    requires within { part < piece_count command.now }
+    requires can { CanFetch (memory_of state.now) command.now part }
+    ensures value { IsFetched (part_given (memory_of state.now) command.now part) result }
+    ensures rising { steps.old ≤ steps.new }
+{
+    match command {
+        Command::Copy { src, regions, .. } => {
+            let region = &regions.as_slice()[part as usize];
+            copied_bytes(alloc, state, range(*src, region.src_offset, region.size))
+        }
+        Command::Build { infos } => {
+            built(rt, alloc, state, part, &infos.as_slice()[part as usize])
+        }
+        Command::CopyStructure { mode, src, dst } => {
+            copied_structure(alloc, state, *mode, *src, *dst)
+        }
+        Command::Property {
+            what, structures, ..
+        } => told_numbers(alloc, state, *what, structures.as_slice()),
+        Command::Trace {
+            top,
+            rays,
+            count,
+            flags,
+            mask,
+            script,
+            ..
+        } => traced_rays(
+            alloc,
+            state,
+            *top,
+            rays_of_part(*rays, *count, part),
+            RAYS_A_PIECE * part,
+            rays_in_part(*count, part),
+            *flags,
+            (*mask % 256) as u8,
+            script.as_slice(),
+            steps,
+        ),
+        Command::Serialize { .. } | Command::Deserialize { .. } => {
+            unreachable!("the form of the command is built")
+        }
+        _ => Ok(Output::Nothing),
+    }
+}
+
+// Where the rays of a part of a trace stand.
+fn rays_of_part(rays: Spot, count: u32, part: u32) -> ByteRange
+    ensures { result ≡ rays_range rays count part }
+{
+    let first = u128::from(RAYS_A_PIECE) * u128::from(part);
+    let count = u128::from(RAYS_A_PIECE).min(u128::from(count).saturating_sub(first));
+    ByteRange {
+        buffer: rays.buffer,
+        from: u128::from(rays.offset) + 40 * first,
+        size: 40 * count,
+    }
+}
+
+// How many rays a part of a trace has.
+fn rays_in_part(count: u32, part: u32) -> u32
+    ensures { result ≡ rays_of_piece count part }
+{
+    let first = u64::from(RAYS_A_PIECE) * u64::from(part);
+    u64::from(RAYS_A_PIECE).min(u64::from(count).saturating_sub(first)) as u32
+}
