@@ -4,7 +4,8 @@ use Rattle.ray_cmd.specs.declared.command.Command.{Command}
 use Rattle.ray_rules.specs.Refusals.{AreKept}
 use Rattle.ray_rules.specs.Verdict.{hazard_table}
 use Rattle.ray_action.specs.Pieces.{is_built_form}
-use Rattle.ray_ready.specs.Accepted.{IsAccepted, have_their_sources}
+use Rattle.ray_cmd.specs.Sources.{have_their_sources}
+use Rattle.ray_ready.specs.Accepted.{IsAccepted}
 
 -- the first n commands may be run one by one, and keep the rules on hazards among them
 pub record BreakNoRule (rec : List Command) (n : ℕ) : Type 0 where

@@ -29,7 +29,7 @@ use Rattle.ray_rules.specs.Status.{Status, built_at}
 use Rattle.ray_rules.specs.Structures.{differ_in_kind, is_bottom_at, is_top_at}
 use Rattle.ray_action.specs.Areas.{has}
 use Rattle.ray_action.specs.Pieces.{bottom_action, building, info_action, info_action_by, info_action_on, top_action, top_action_of}
-use Rattle.ray_ready.specs.Accepted.{has_its_source}
+use Rattle.ray_cmd.specs.Sources.{has_its_source}
 use Rattle.ray_ready.proofs.Allowed.{AreReadable, IsAllowed, IsBuiltOf, IsLiveOf, MayBuildBottom, MayBuildTop}
 use Rattle.ray_ready.proofs.Kept.{Fail, Keeps, both_first, both_second, bottom_of, built_of, fails_at, is_so, is_there, neither_first, neither_second, no_part, none_any, not_second, readable, says_bottom, says_top, top_of}
 use Rattle.ray_ready.proofs.Infos.{AreAllowedFrom}

@@ -1,0 +1,4 @@
+pub mod Hosting
+pub mod Progress
+pub mod Silent
+pub mod Stepping
