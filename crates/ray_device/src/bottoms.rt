@@ -190,19 +190,17 @@ fn index_size(index: Option<Index>) -> u8
     ensures { result ≡ size_of_indices (option_map (indices_in None) index) }
 {
     match index {
-        Some(index) => {
-            if index.index_size == 4 {
-                4
-            } else {
-                2
-            }
-        }
+        Some(index) => { if index.index_size == 4 { 4 } else { 2 } }
         None => 0,
     }
 }
 
 // The indices that stand in a range, where there are any.
-fn indices_at(state: &State, range: Option<ByteRange>, index: Option<Index>) -> Option<IndexView<'_>>
+fn indices_at(
+    state: &State,
+    range: Option<ByteRange>,
+    index: Option<Index>,
+) -> Option<IndexView<'_>>
     ensures { result ≡ option_map (indices_in (see_range (memory_of state.now) range)) index }
 {
     let wide = index?.index_size == 4;

@@ -77,7 +77,9 @@ fn fetch_part<R: Threads + Sync, L: Ledger>(
             copied_structure(alloc, state, *mode, *src, *dst)
         }
         Command::Property {
-            what, structures, ..
+            what,
+            structures,
+            ..
         } => told_numbers(alloc, state, *what, structures.as_slice()),
         Command::Trace {
             top,

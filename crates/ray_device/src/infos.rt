@@ -113,7 +113,9 @@ fn top<R: Threads + Sync>(
     ensures { IsFetched (one_top_now (memory_of state.now) number info.now info.now.geometries) result }
 {
     match info.geometries.as_slice() {
-        [instances] => top_of(rt, alloc, state, number, info, instances, info.mode, info.src),
+        [instances] => top_of(
+            rt, alloc, state, number, info, instances, info.mode, info.src,
+        ),
         _ => unreachable!("a top structure has one geometry"),
     }
 }

@@ -102,12 +102,7 @@ fn is_host(command: &Command) -> bool
 
 // Does a command of the host: its text is appended, and what it makes is in the state.
 #[tactic(auto, using(crate::proofs::Hosting::is_shown))]
-fn act(
-    state: &mut State,
-    rec: &Recording,
-    command: u32,
-    text: &mut Vec<u8>,
-) -> Result<(), RunFault>
+fn act(state: &mut State, rec: &Recording, command: u32, text: &mut Vec<u8>) -> Result<(), RunFault>
     requires within { command < length rec.now }
     requires ready { IsReady (host_action (command_at rec.now command)) (memory_of state.old) }
     ensures ok { OnOk result (IsShown (host_action (command_at rec.now command)) (memory_of state.old)

@@ -1,48 +1,71 @@
 -- A good call is answered: each other answer is contradicted.
-use Rattle.std.proofs.Common.{◌≡◌, [], ◌∷◌, refl, ℕ, ◌+◌, ◌<◌, List, length, drop, Option, Some, None, Ok, Err, ap, sym, subst, ◌∙◌, inl, inr, arith, Global}
-use Rattle.std.specs.Prelude.{String, IfSome, codes, decimal}
+use Rattle.std.proofs.Common.{◌≡◌, [], ◌∷◌, refl, ℕ, ◌+◌, ◌<◌, List, length, drop, Option, Some, None, Result, Ok, Err, ap, sym, subst, ◌∙◌, inl, inr, arith, Global}
+use Rattle.std.specs.Prelude.{String, IfSome, codes, decimal, map, string_bytes}
 use Rattle.std.proofs.lemmas.Fmt.{decimal_injective}
 use Rattle.ray_cmd.specs.declared.command.Command.{Command}
 use Rattle.ray_rules.specs.Verdict.{rule_refusal}
-use Rattle.ray_state.specs.Run.{text_before}
+use Rattle.ray_cmd.specs.declared.fault.RecordingFault.{RecordingFault}
+use Rattle.ray_cmd.specs.declared.fault.RecordingFault.TheVariants as recordings
+use Rattle.ray_cmd.specs.Recordings.{recording_of}
 use Rattle.vkray.specs.declared.status.Status.{Status}
 use Rattle.vkray.specs.declared.status.Status.TheVariants as statuses
 use Rattle.vkray.specs.declared.stop.Stop.{Stop}
 use Rattle.vkray.specs.declared.stop.Stop.TheVariants.{BadWords, ReadFault, TooLong, NotJson, BadShape, Unbuilt, Refused, NoMemory}
 use Rattle.vkray.specs.declared.asked.Asked.{Asked}
 use Rattle.vkray.specs.declared.asked.Asked.TheVariants.{Run, Check}
-use Rattle.vkray.specs.Answer.{Ending, answer_of, check_of, data_refusal, ending_of, ending_of_reading, refused_or, run_of, run_with, unbuilt_in}
+use Rattle.vkray.specs.Answer.{Ending, answer_of, checked, ending_of, ending_of_reading, ending_of_run, ran, refused_or, run_with, unbuilt_in}
 use Rattle.ray_scene.specs.Recording.{scene_text}
 use Rattle.vkray.specs.declared.request.Request.TheVariants.{Input, Generate}
 use Rattle.vkray.specs.declared.request.Scene.{Scene}
-use Rattle.vkray.specs.Words.{AskInput, Asks, AsksFor, word_of}
-use Rattle.vkray.specs.Call.{Reading, Writing, Answers, HasFailed, IsAnswerOfInput, IsCompleted, IsEnding, IsGoodCall, IsRead, IsSent, IsTooLong, most_bytes, text_of_scene}
+use Rattle.vkray.specs.Words.{AskInput, AskRun, Asks, AsksFor, IsWord}
+use Rattle.vkray.specs.Call.{Reading, Writing, Answers, HasFailed, IsAnswerOfInput, IsCompleted, IsEnding, IsGoodCall, IsRead, IsSent, IsTooLong, Runs, most_bytes, text_of_scene}
 use Rattle.vkray.specs.Written.{status_of, text_of}
 
 -- the run of a recording that breaks no rule and whose commands have built forms is its text
-pub run_is_text : (rec : List Command) → rule_refusal rec ≡ None → unbuilt_in rec ≡ None → data_refusal rec (length rec) ≡ None
-    → run_of rec ≡ Ok (text_before rec (length rec))
-run_is_text rec kept built clean =
+pub run_is_text : (rec : List Command) (text : List ℕ) → rule_refusal rec ≡ None → Runs rec text → ran rec ≡ Ok text
+run_is_text rec text kept runs =
     ap (λ refusal. run_with rec refusal (unbuilt_in rec)) kept
-    ∙ (ap (run_with rec None) built ∙ ap (λ refusal. refused_or refusal (Ok (text_before rec (length rec)))) clean)
+    ∙ (ap (run_with rec None) runs.built ∙ ap ending_of_run runs.run)
 
 -- the check of a recording that breaks no rule is `ok`
-pub check_is_ok : (rec : List Command) → rule_refusal rec ≡ None → check_of rec ≡ Ok (codes "ok\n")
+pub check_is_ok : (rec : List Command) → rule_refusal rec ≡ None → checked rec ≡ Ok (codes "ok\n")
 check_is_ok rec kept = ap (λ refusal. refused_or refusal (Ok (codes "ok\n"))) kept
 
 -- words that ask an input ask for no scene
-not_both : (words : List (String Global)) (asked : Asked) (scene : Scene) → Asks words asked → AsksFor words scene → ⊥
-not_both words asked scene asks other =
-    let same : word_of asked ∷ [] ≡ codes "gen" ∷ decimal scene.side ∷ decimal scene.layers ∷ decimal scene.rays ∷ [] =
-    sym asks ∙ other.are in
-    cc
+pub not_both : (words : List (String Global)) (asked : Asked) (scene : Scene) → Asks words asked → AsksFor words scene → ⊥
+not_both words (Run workers) scene (inl alone) other =
+    let four : length (map string_bytes words) ≡ 4 = ap length other.are in
+    let one : length (map string_bytes words) ≡ 1 = ap length alone.0 in
+    absurd (omega arith)
+not_both words (Run workers) scene (inr three) other =
+    let four : length (map string_bytes words) ≡ 4 = ap length other.are in
+    let third : length (map string_bytes words) ≡ 3 = ap length three.1 in
+    absurd (omega arith)
+not_both words Check scene asks other =
+    let four : length (map string_bytes words) ≡ 4 = ap length other.are in
+    let one : length (map string_bytes words) ≡ 1 = ap length asks in
+    absurd (omega arith)
 
--- an input is asked for one thing
-one_asked : (words : List (String Global)) (a b : Asked) → Asks words a → Asks words b → a ≡ b
-one_asked words Run Run e f = refl
-one_asked words Run Check e f = let same : codes "run" ∷ [] ≡ codes "check" ∷ [] = sym e ∙ f in absurd cc
-one_asked words Check Run e f = let same : codes "check" ∷ [] ≡ codes "run" ∷ [] = sym e ∙ f in absurd cc
-one_asked words Check Check e f = refl
+-- an input is asked for one thing, but for the number of workers, on which no answer depends
+workers-alike : (a b : ℕ) (read : Result (List Command) RecordingFault) → ending_of_reading (Run a) read ≡ ending_of_reading (Run b) read
+workers-alike a b (Ok rec) = refl
+workers-alike a b (Err recordings.NotJson) = refl
+workers-alike a b (Err (recordings.BadShape command)) = refl
+workers-alike a b (Err recordings.NoMemory) = refl
+
+not-run-and-check : (words : List (String Global)) (workers : ℕ) → AskRun words workers → IsWord words (codes "check") → ⊥
+not-run-and-check words workers (inl alone) check = let same : codes "run" ∷ [] ≡ codes "check" ∷ [] = sym alone.0 ∙ check in absurd cc
+not-run-and-check words workers (inr three) check =
+    let third : length (map string_bytes words) ≡ 3 = ap length three.1 in
+    let one : length (map string_bytes words) ≡ 1 = ap length check in
+    absurd (omega arith)
+
+pub one_answer : (words : List (String Global)) (a b : Asked) (input : List ℕ) → Asks words a → Asks words b → answer_of a input ≡ answer_of b input
+unfolding answer_of
+one_answer words (Run n) (Run m) input e f = workers-alike n m (recording_of input)
+one_answer words (Run n) Check input e f = absurd (not-run-and-check words n e f)
+one_answer words Check (Run m) input e f = absurd (not-run-and-check words m f e)
+one_answer words Check Check input e f = refl
 
 module _ (asked : Asked) (words : List (String Global)) (reading : Reading) (writing : Writing) (input : List ℕ) (commands : List Command) (good : IsGoodCall asked words reading writing input commands) (text : List ℕ) (answers : ending_of asked commands ≡ Ok text) where
   -- the answer of the input is the text
@@ -61,7 +84,7 @@ module _ (asked : Asked) (words : List (String Global)) (reading : Reading) (wri
   same_answer : (ending : Ending) → IsAnswerOfInput words reading ending → ending ≡ Ok text
   same_answer ending h =
       sym h.is
-      ∙ (ap (λ (a : Asked). answer_of a h.input) (one_asked words h.asked asked h.asks good.asks)
+      ∙ (one_answer words h.asked asked h.input h.asks good.asks
       ∙ (ap (answer_of asked) (same_input h.input h.read) ∙ answer_is_text))
 
   -- there aren't too many bytes

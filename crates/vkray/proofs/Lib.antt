@@ -1,8 +1,5 @@
-pub mod Runs
-pub mod Texts
-pub mod Firsts
-pub mod Forms
-pub mod Meant
-pub mod Steps
-pub mod Telling
 pub mod Completeness
+pub mod EveryOrder
+pub mod Firsts
+pub mod Telling
+pub mod Texts

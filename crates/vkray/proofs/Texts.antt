@@ -33,3 +33,21 @@ four_are words a b c d p q r s are = (
   λ each. are ∙ (λ i. each.0 i ∷ each.1 i ∷ each.2 i ∷ each.3 i ∷ []),
   λ all. let same : a ∷ b ∷ c ∷ d ∷ [] ≡ p ∷ q ∷ r ∷ s ∷ [] = sym are ∙ all in (cc, cc, cc, cc),
 )
+
+-- three words
+pub three_words : (words : List (String Global)) (a b c : String Global) → length words ≡ 3
+    → a ≡ get_or words 0 a → b ≡ get_or words 1 b → c ≡ get_or words 2 c
+    → map string_bytes words ≡ string_bytes a ∷ string_bytes b ∷ string_bytes c ∷ []
+three_words [] a b c three p q r = absurd (omega arith)
+three_words (w ∷ []) a b c three p q r = absurd (omega arith)
+three_words (w ∷ x ∷ []) a b c three p q r = absurd (omega arith)
+three_words (w ∷ x ∷ y ∷ []) a b c three p q r = λ i. string_bytes (sym p i) ∷ string_bytes (sym q i) ∷ string_bytes (sym r i) ∷ []
+three_words (w ∷ x ∷ y ∷ z ∷ rest) a b c three p q r = absurd (omega arith)
+
+-- three words are these where each is
+pub three_are : (words : List (List ℕ)) (a b c p q r : List ℕ) → words ≡ a ∷ b ∷ c ∷ []
+    → ((a ≡ p) × (b ≡ q) × (c ≡ r)) ↔ (words ≡ p ∷ q ∷ r ∷ [])
+three_are words a b c p q r are = (
+  λ each. are ∙ (λ i. each.0 i ∷ each.1 i ∷ each.2 i ∷ []),
+  λ all. let same : a ∷ b ∷ c ∷ [] ≡ p ∷ q ∷ r ∷ [] = sym are ∙ all in (cc, cc, cc),
+)

@@ -7,13 +7,14 @@ use Rattle.ray_io.specs.Faults.{HasRisen}
 use Rattle.ray_io.specs.ReadAll.{LeavesAllBut}
 use Rattle.ray_rules.specs.Verdict.{rule_refusal}
 use Rattle.ray_scene.specs.Recording.{scene_text}
-use Rattle.ray_state.specs.Run.{text_before}
+use Rattle.ray_action.specs.Running.{Text}
+use Rattle.ray_exec.specs.Runs.{run_below}
 use Rattle.vkray.specs.declared.asked.Asked.{Asked}
 use Rattle.vkray.specs.declared.request.Scene.{Scene}
 use Rattle.vkray.specs.declared.status.Status.{Status}
 use Rattle.vkray.specs.declared.status.Status.TheVariants as statuses
 use Rattle.vkray.specs.declared.stop.Stop.TheVariants.{BadWords, ReadFault, TooLong, NotJson, BadShape, Unbuilt, Refused, NoMemory}
-use Rattle.vkray.specs.Answer.{Ending, answer_of, data_refusal, unbuilt_in}
+use Rattle.vkray.specs.Answer.{Ending, answer_of, unbuilt_in}
 use Rattle.vkray.specs.Words.{AreWords, AskInput, Asks, AsksFor}
 use Rattle.vkray.specs.Written.{status_of, text_of}
 
@@ -150,15 +151,11 @@ pub record IsGoodCall (asked : Asked) (words : List (String Global)) (reading : 
   pub reads : recording_of input ≡ Ok commands
   pub rules : rule_refusal commands ≡ None
 
--- a recording whose commands have built forms, and that breaks no data rule
-pub record Runs (commands : List Command) : Type 0 where
+-- a recording whose commands have built forms, and whose run has this text
+pub record Runs (commands : List Command) (text : List ℕ) : Type 0 where
   pub built : unbuilt_in commands ≡ None
-  pub data_rules : data_refusal commands (length commands) ≡ None
+  pub run : run_below commands (length commands) ≡ Text text
 
 -- a whole text is written, or memory ran out
 abbrev pub IsCompleted : Writing → List ℕ → Status → Type 0
 IsCompleted writing text result = (result ≡ statuses.NoMemory) ⊎ ((result ≡ statuses.Done) × IsWritten writing text)
-
--- the text of the run of a good recording
-abbrev pub run_text : List Command → List ℕ
-run_text commands = text_before commands (length commands)

@@ -1,18 +1,22 @@
 -- Words that private contracts cite: no page of definitions.
-use Rattle.std.specs.Prelude.{◌≡◌, ℕ, Bool, true, false, List, Vec, Result, Ok, Err, None, Some, String}
+use Rattle.std.specs.Prelude.{◌≡◌, ◌≤◌, ℕ, Bool, true, false, length, List, Vec, Result, Ok, Err, Option, None, Some, String, unwrap_or}
 use Rattle.std.specs.declared.alloc.Global.{Global}
 use Rattle.ray_cmd.specs.declared.command.Command.{Command}
 use Rattle.ray_cmd.specs.declared.fault.RecordingFault.{RecordingFault}
 use Rattle.ray_cmd.specs.declared.fault.RecordingFault.TheVariants as recordings
+use Rattle.ray_cmd.specs.declared.refusal.Refusal.{Refusal}
 use Rattle.ray_io.specs.declared.read_error.ReadError.{ReadError}
 use Rattle.ray_io.specs.declared.read_error.ReadError.TheVariants as reads
-use Rattle.ray_state.specs.Run.{text_before}
-use Rattle.vkray.specs.declared.run_fault.RunFault.{RunFault}
-use Rattle.vkray.specs.declared.run_fault.RunFault.TheVariants as runs
+use Rattle.ray_exec.specs.declared.run_fault.RunFault.{RunFault}
+use Rattle.ray_exec.specs.declared.run_fault.RunFault.TheVariants as runs
+use Rattle.ray_permitted.specs.Rules.{BreakNoRule}
+use Rattle.ray_ready.specs.Accepted.{refused_from}
+use Rattle.vkray.specs.declared.asked.Asked.{Asked}
+use Rattle.vkray.specs.declared.asked.Asked.TheVariants.{Run, Check}
 use Rattle.vkray.specs.declared.request.Scene.{Scene}
 use Rattle.vkray.specs.declared.stop.Stop.{Stop}
 use Rattle.vkray.specs.declared.stop.Stop.TheVariants.{BadWords, ReadFault, TooLong, NotJson, BadShape, Unbuilt, Refused, NoMemory}
-use Rattle.vkray.specs.Answer.{Ending, data_refusal}
+use Rattle.vkray.specs.Answer.{Ending}
 use Rattle.vkray.specs.Call.{Reading, IsEnding, text_of_scene}
 
 -- the stop of each fault
@@ -29,12 +33,6 @@ stop_of_recording recordings.NoMemory = NoMemory
 abbrev pub stop_of_run : RunFault → Stop
 stop_of_run (runs.Refused refusal) = Refused refusal
 stop_of_run runs.NoMemory = NoMemory
-
--- the run of the commands below a number gives their text, or its refusal; want of memory is free
-abbrev pub IsRunBelow : List Command → ℕ → Result (Vec ℕ Global) RunFault → Type 0
-IsRunBelow rec n (Ok text) = (data_refusal rec n ≡ None) × (text.items ≡ text_before rec n)
-IsRunBelow rec n (Err (runs.Refused refusal)) = data_refusal rec n ≡ Some refusal
-IsRunBelow rec n (Err runs.NoMemory) = Unit {0}
 
 -- the answer of an input is this stop, which is none of the words or the source; want of memory is free
 abbrev pub StopsSo : Ending → Stop → Type 0
@@ -83,3 +81,18 @@ StopsCall words reading NoMemory = Unit {0}
 abbrev pub EndsCall : List (String Global) → Reading → Result (Vec ℕ Global) Stop → Type 0
 EndsCall words reading (Ok text) = IsEnding words reading (Ok text.items)
 EndsCall words reading (Err stop) = StopsCall words reading stop
+
+-- ---- what a run asks for
+
+-- a number of workers is from 1 to 64, and so is that of what is asked
+abbrev pub AreWorkers : ℕ → Type 0
+AreWorkers workers = (1 ≤ workers) × (workers ≤ 64)
+
+abbrev pub IsWithinLimits : Asked → Type 0
+IsWithinLimits (Run workers) = AreWorkers workers
+IsWithinLimits Check = Unit {0}
+
+-- the commands of a recording below its refusal by a rule and below the first whose form isn't built, where
+-- there are these, break no rule and have built forms
+pub record BreakNone (rec : List Command) (refusal : Option Refusal) (unbuilt : Option ℕ) : Type 0 where
+  pub below : (n : ℕ) → n ≤ refused_from (length rec) refusal → n ≤ unwrap_or unbuilt (length rec) → BreakNoRule rec n

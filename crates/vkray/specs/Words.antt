@@ -1,5 +1,5 @@
 -- The words after the program's name. (Own.)
-use Rattle.std.specs.Prelude.{◌≡◌, ℕ, List, [], ◌∷◌, map, codes, decimal, String, string_bytes}
+use Rattle.std.specs.Prelude.{◌≡◌, ◌≤◌, ◌⊎◌, ℕ, List, [], ◌∷◌, map, codes, decimal, String, string_bytes}
 use Rattle.std.specs.declared.alloc.Global.{Global}
 use Rattle.ray_scene.specs.Grid.{IsScene}
 use Rattle.vkray.specs.declared.asked.Asked.{Asked}
@@ -8,18 +8,26 @@ use Rattle.vkray.specs.declared.request.Request.{Request}
 use Rattle.vkray.specs.declared.request.Request.TheVariants.{Input, Generate}
 use Rattle.vkray.specs.declared.request.Scene.{Scene}
 
--- the word that asks an input for it
-abbrev pub word_of : Asked → List ℕ
-word_of Run = codes "run"
-word_of Check = codes "check"
-
 -- the words are one alone
 abbrev pub IsWord : List (String Global) → List ℕ → Type 0
 IsWord words word = map string_bytes words ≡ word ∷ []
 
--- the words ask an input for it: they are its word alone
+-- the words are `run`, `--workers` and a number in decimal digits, without a sign and a leading zero
+abbrev pub AreOfWorkers : List (String Global) → ℕ → Type 0
+AreOfWorkers words workers = map string_bytes words ≡ codes "run" ∷ codes "--workers" ∷ decimal workers ∷ []
+
+-- the words ask for a number of workers, 1 to 64
+abbrev pub HasWorkers : List (String Global) → ℕ → Type 0
+HasWorkers words workers = ((1 ≤ workers) × (workers ≤ 64)) × AreOfWorkers words workers
+
+-- the words ask for a run by so many workers: one where none are said
+abbrev pub AskRun : List (String Global) → ℕ → Type 0
+AskRun words workers = (IsWord words (codes "run") × (workers ≡ 1)) ⊎ HasWorkers words workers
+
+-- the words ask an input for it
 abbrev pub Asks : List (String Global) → Asked → Type 0
-Asks words asked = IsWord words (word_of asked)
+Asks words (Run workers) = AskRun words workers
+Asks words Check = IsWord words (codes "check")
 
 -- the words ask an input for something
 abbrev pub AskInput : List (String Global) → Type 0

@@ -1,11 +1,20 @@
-ghost use Rattle.std.specs.Prelude.{◌↔◌, IfNone, IfSome, IsTrue};
-ghost use Rattle.vkray.specs.Words.{AskInput, Asks, IsWord};
+ghost use Rattle.std.specs.Prelude.{◌≡◌, ◌↔◌, ℕ, IfNone, IfSome, IsTrue, Some, codes, decimal};
+ghost use Rattle.vkray.specs.Words.{AskInput, Asks, AreOfWorkers, HasWorkers, IsWord};
+
+use crate::words::{is_number, is_text, is_within, read_number};
+
+/// The greatest number of workers.
+const MOST_WORKERS: u32 = 64;
 
 /// What an input is asked for. (Own.)
 #[derive(Clone, Copy, Debug, PartialEq, Eq)]
 pub enum Asked {
-    /// `run`: the text of a recording.
-    Run,
+    /// `run`, or `run --workers N`: the text of a recording.
+    Run {
+        /// How many may fetch pieces at once, 1 to 64: 1 where none is said. The text doesn't
+        /// depend on it.
+        workers: u32,
+    },
     /// `check`: whether a recording breaks a rule V1 to V32.
     Check,
 }
@@ -17,11 +26,14 @@ impl Asked {
         ensures none { IfNone result (¬ AskInput words.now) }
     {
         if is_word(words, "run") {
-            Some(Asked::Run)
+            Some(Asked::Run { workers: 1 })
         } else if is_word(words, "check") {
             Some(Asked::Check)
         } else {
-            None
+            match workers_of(words) {
+                Some(workers) => Some(Asked::Run { workers }),
+                None => None,
+            }
         }
     }
 }
@@ -34,4 +46,50 @@ fn is_word(words: &[String], word: &str) -> bool
         [only] => only.as_str() == word,
         _ => false,
     }
+}
+
+// How many workers the words ask for, where they do.
+fn workers_of(words: &[String]) -> Option<u32>
+    ensures asked { IfSome result (λ workers. HasWorkers words.now workers) }
+    ensures none { IfNone result ((workers : ℕ) → ¬ HasWorkers words.now workers) }
+{
+    match third_number(words) {
+        Some(workers) if has_workers(words, workers) => Some(workers),
+        _ => None,
+    }
+}
+
+// The number that stands in the last of three words, however it is spelled.
+fn third_number(words: &[String]) -> Option<u32>
+    ensures { (workers : ℕ) → HasWorkers words.now workers → result ≡ Some workers }
+{
+    match words {
+        [_, _, number] => read_number(number.as_str()),
+        _ => None,
+    }
+}
+
+// Whether the words ask for so many workers.
+fn has_workers(words: &[String], workers: u32) -> bool
+    ensures { IsTrue result ↔ HasWorkers words.now workers }
+{
+    is_within(workers, MOST_WORKERS) && are_of_workers(words, workers)
+}
+
+// Whether the words are `run`, `--workers` and this number.
+fn are_of_workers(words: &[String], workers: u32) -> bool
+    ensures { IsTrue result ↔ AreOfWorkers words.now workers }
+{
+    match words {
+        [op, option, number] => { spells(op.as_str(), option.as_str(), number.as_str(), workers) }
+        _ => false,
+    }
+}
+
+// Whether three words are these.
+fn spells(op: &str, option: &str, number: &str, workers: u32) -> bool
+    ensures { IsTrue result ↔ ((op.now ≡ codes "run") × (option.now ≡ codes "--workers")
+        × (number.now ≡ decimal workers)) }
+{
+    is_text(op, "run") && is_text(option, "--workers") && is_number(number, workers)
 }

@@ -1,17 +1,17 @@
-ghost use Rattle.std.specs.Prelude.{◌≤◌, Err, IfSome, None, Some, length};
-ghost use Rattle.ray_state.specs.Run.{HaveMeaning};
-ghost use Rattle.vkray.specs.Answer.{answer_of, check_of, ending_of, run_below, run_of, run_with};
-ghost use Rattle.vkray.specs.Endings.{Ends, IsRunBelow, StopsSo};
+ghost use Rattle.std.specs.Prelude.{◌≡◌, ◌≤◌, ◌^◌, ◌<◌, Err, IfSome, None, Some, length};
+ghost use Rattle.ray_cmd.specs.Sources.{AreSourced};
+ghost use Rattle.ray_exec.specs.Runs.{run_below, IsRun};
+ghost use Rattle.ray_permitted.specs.Rules.{BreakNoRule};
+ghost use Rattle.vkray.specs.Answer.{answer_of, checked, ending_before, ending_of, ran, run_with};
+ghost use Rattle.vkray.specs.Endings.{Ends, StopsSo, BreakNone, AreWorkers, IsWithinLimits};
 
 use crate::asked::Asked;
-use crate::gate::Gate;
-use crate::path_form::first_unbuilt;
-use crate::run_fault::RunFault;
-use crate::running::run_waves;
+use crate::forms::first_unbuilt;
 use crate::stop::Stop;
 use ray_check::check_rules;
 use ray_cmd::{Recording, Refusal, read_recording};
-use ray_state::State;
+use ray_exec::{Gate, RunFault, run_waves};
+use ray_memory::State;
 use std::alloc::Global;
 use std::thread::Threads;
 
@@ -24,6 +24,7 @@ pub(crate) fn execute<R: Threads + Sync, G: Gate + Sync>(
     bytes: &[u8],
     gate: &G,
 ) -> Result<Vec<u8>, Stop>
+    requires { IsWithinLimits asked }
     ensures { Ends (answer_of asked bytes.now) result }
 {
     match read_recording(alloc, bytes) {
@@ -40,17 +41,19 @@ fn execute_recording<R: Threads + Sync, G: Gate + Sync>(
     recording: &Recording,
     gate: &G,
 ) -> Result<Vec<u8>, Stop>
+    requires sourced { AreSourced recording.now }
+    requires limits { IsWithinLimits asked }
     ensures { Ends (ending_of asked recording.now) result }
 {
     match asked {
-        Asked::Run => run(rt, alloc, recording, gate),
+        Asked::Run { workers } => run(rt, alloc, recording, workers, gate),
         Asked::Check => check(alloc, recording),
     }
 }
 
 // Checks a recording: `ok` where it breaks no rule V1 to V32.
 fn check(alloc: Global, recording: &Recording) -> Result<Vec<u8>, Stop>
-    ensures { Ends (check_of recording.now) result }
+    ensures { Ends (checked recording.now) result }
 {
     match check_rules(alloc, recording) {
         Ok(Some(refusal)) => Err(Stop::Refused(refusal)),
@@ -67,16 +70,19 @@ fn run<R: Threads + Sync, G: Gate + Sync>(
     rt: &R,
     alloc: Global,
     recording: &Recording,
+    workers: u32,
     gate: &G,
 ) -> Result<Vec<u8>, Stop>
-    ensures { Ends (run_of recording.now) result }
+    requires sourced { AreSourced recording.now }
+    requires workers { AreWorkers workers }
+    ensures { Ends (ran recording.now) result }
 {
     let Ok(refusal) = check_rules(alloc, recording) else {
         return Err(Stop::NoMemory);
     };
     match first_unbuilt(recording) {
-        Some(command) => Err(run_built(rt, alloc, recording, refusal, command, gate)),
-        None => run_all(rt, alloc, recording, refusal, gate),
+        Some(command) => Err(run_built(rt, alloc, recording, refusal, command, workers, gate)),
+        None => run_all(rt, alloc, recording, refusal, workers, gate),
     }
 }
 
@@ -86,10 +92,12 @@ fn run_all<R: Threads + Sync, G: Gate + Sync>(
     alloc: Global,
     recording: &Recording,
     refusal: Option<Refusal>,
+    workers: u32,
     gate: &G,
 ) -> Result<Vec<u8>, Stop>
     requires within { IfSome refusal (λ r. r.command ≤ length recording.now) }
-    requires meant { HaveMeaning recording.now (length recording.now) }
+    requires rules { BreakNone recording.now refusal None }
+    requires workers { AreWorkers workers }
     ensures { Ends (run_with recording.now refusal None) result }
 {
     match refusal {
@@ -99,9 +107,10 @@ fn run_all<R: Threads + Sync, G: Gate + Sync>(
             recording,
             refusal.command,
             Stop::Refused(refusal),
+            workers,
             gate,
         )),
-        None => match run_until(rt, alloc, recording, recording.len(), gate) {
+        None => match run_until(rt, alloc, recording, recording.len(), workers, gate) {
             Ok(text) => Ok(text),
             Err(fault) => Err(Stop::from(fault)),
         },
@@ -116,10 +125,12 @@ fn run_built<R: Threads + Sync, G: Gate + Sync>(
     recording: &Recording,
     refusal: Option<Refusal>,
     unbuilt: u32,
+    workers: u32,
     gate: &G,
 ) -> Stop
     requires within { unbuilt ≤ length recording.now }
-    requires meant { HaveMeaning recording.now unbuilt }
+    requires rules { BreakNone recording.now refusal (Some unbuilt) }
+    requires workers { AreWorkers workers }
     ensures { StopsSo (run_with recording.now refusal (Some unbuilt)) result }
 {
     match refusal {
@@ -129,27 +140,38 @@ fn run_built<R: Threads + Sync, G: Gate + Sync>(
             recording,
             refusal.command,
             Stop::Refused(refusal),
+            workers,
             gate,
         ),
-        _ => run_to(rt, alloc, recording, unbuilt, Stop::Unbuilt(unbuilt), gate),
+        _ => run_to(
+            rt,
+            alloc,
+            recording,
+            unbuilt,
+            Stop::Unbuilt(unbuilt),
+            workers,
+            gate,
+        ),
     }
 }
 
-// Runs the commands below a number, where this stops the run unless one of them breaks a rule.
+// Runs the commands below a number, where this stops the run unless one of them breaks a data rule.
 fn run_to<R: Threads + Sync, G: Gate + Sync>(
     rt: &R,
     alloc: Global,
     recording: &Recording,
     until: u32,
     stop: Stop,
+    workers: u32,
     gate: &G,
 ) -> Stop
     requires within { until ≤ length recording.now }
-    requires meant { HaveMeaning recording.now until }
+    requires rules { BreakNoRule recording.now until }
     requires of_input { StopsSo (Err stop) stop }
-    ensures { StopsSo (run_below recording.now until (Err stop)) result }
+    requires workers { AreWorkers workers }
+    ensures { StopsSo (ending_before (run_below recording.now until) stop) result }
 {
-    match run_until(rt, alloc, recording, until, gate) {
+    match run_until(rt, alloc, recording, until, workers, gate) {
         Ok(_) => stop,
         Err(fault) => Stop::from(fault),
     }
@@ -161,12 +183,14 @@ fn run_until<R: Threads + Sync, G: Gate + Sync>(
     alloc: Global,
     recording: &Recording,
     until: u32,
+    workers: u32,
     gate: &G,
 ) -> Result<Vec<u8>, RunFault>
     requires within { until ≤ length recording.now }
-    requires meant { HaveMeaning recording.now until }
-    ensures { IsRunBelow recording.now until result }
+    requires rules { BreakNoRule recording.now until }
+    requires workers { AreWorkers workers }
+    ensures { IsRun (run_below recording.now until) result }
 {
     let mut state = State::new(alloc);
-    run_waves(rt, alloc, &mut state, recording, until, 1, gate)
+    run_waves(rt, alloc, &mut state, recording, until, workers, gate)
 }

@@ -4,7 +4,7 @@ ghost use Rattle.vkray.specs.declared.request.Scene.{Scene as AScene};
 ghost use Rattle.vkray.specs.Words.{AreWords, AsksFor, IsGenerating, Requests};
 
 use crate::asked::Asked;
-use itoa::Buffer;
+use crate::words::{is_number, is_text, is_within, read_number};
 
 /// How large a made-up scene is. (Own.)
 #[derive(Clone, Copy, Debug, PartialEq, Eq)]
@@ -75,13 +75,6 @@ fn read_scene(side: &str, layers: &str, rays: &str) -> Option<Scene>
     Some(Scene { side, layers, rays })
 }
 
-// The number that a word spells.
-fn read_number(word: &str) -> Option<u32>
-    ensures { (n : ℕ) → n < 2 ^ 32 → word.now ≡ decimal n → result ≡ Some n }
-{
-    word.parse::<u32>().ok()
-}
-
 // Whether the words ask for the recording of this scene.
 fn asks_for(words: &[String], scene: Scene) -> bool
     ensures { IsTrue result ↔ AsksFor words.now scene }
@@ -94,13 +87,6 @@ fn is_scene(scene: Scene) -> bool
     ensures { IsTrue result ↔ IsScene scene.side scene.layers scene.rays }
 {
     is_within(scene.side, 256) && is_within(scene.layers, 4) && is_within(scene.rays, 65_536)
-}
-
-// Whether a number is from 1 to a greatest one.
-fn is_within(n: u32, most: u32) -> bool
-    ensures { IsTrue result ↔ ((1 ≤ n) × (n ≤ most)) }
-{
-    1 <= n && n <= most
 }
 
 // Whether the words are `gen` and the numbers of this scene.
@@ -130,19 +116,4 @@ fn spells(op: &str, side: &str, layers: &str, rays: &str, scene: Scene) -> bool
         && is_number(side, scene.side)
         && is_number(layers, scene.layers)
         && is_number(rays, scene.rays)
-}
-
-// Whether a word is this one.
-fn is_text(word: &str, text: &str) -> bool
-    ensures { IsTrue result ↔ (word.now ≡ text.now) }
-{
-    word == text
-}
-
-// Whether a word is a number in decimal digits, without a sign and without a leading zero.
-fn is_number(word: &str, n: u32) -> bool
-    ensures { IsTrue result ↔ (word.now ≡ decimal n) }
-{
-    let mut buffer = Buffer::new();
-    word == buffer.format(n)
 }

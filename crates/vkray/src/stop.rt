@@ -1,5 +1,5 @@
-use crate::run_fault::RunFault;
 use ray_cmd::{RecordingFault, Refusal};
+use ray_exec::RunFault;
 use ray_io::ReadError;
 
 /// Why there is no text of a run. (Own.)

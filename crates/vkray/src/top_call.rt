@@ -1,21 +1,22 @@
-ghost use Rattle.std.specs.Prelude.{◌≡◌, ℕ, List, IfOk, codes};
+ghost use Rattle.std.specs.Prelude.{◌≡◌, ℕ, List, IfOk, Some, codes};
 ghost use Rattle.ray_cmd.specs.declared.command.Command.{Command};
 ghost use Rattle.ray_scene.specs.Grid.{IsScene};
 ghost use Rattle.vkray.specs.declared.asked.Asked.TheVariants.{Check, Run};
 ghost use Rattle.vkray.specs.declared.request.Scene.{Scene as AScene};
-ghost use Rattle.vkray.specs.Words.{AskInput, AsksFor};
+ghost use Rattle.vkray.specs.Words.{AskInput, AskRun, AsksFor};
 ghost use Rattle.vkray.specs.Answer.{Ending};
 ghost use Rattle.vkray.specs.Call.{reading, writing, Answers, HasFailed, IsEnding, IsSent, IsGoodCall, IsCompleted};
-ghost use Rattle.vkray.specs.Call.{Runs, TakesPrefix, run_text, text_of_scene};
+ghost use Rattle.vkray.specs.Call.{Runs, TakesPrefix, text_of_scene};
+ghost use Rattle.vkray.specs.Headline.{IsTextOfInput};
 ghost use Rattle.vkray.specs.Endings.{EndsCall, IsOfScene};
 ghost use Rattle.vkray.specs.Written.{status_of, text_of};
 
 use crate::executing::execute;
-use crate::gate::Gate;
 use crate::reply::Reply;
 use crate::request::{Request, Scene};
 use crate::status::Status;
 use crate::stop::Stop;
+use ray_exec::Gate;
 use ray_io::{Sink, Source, read_all, write_all};
 use ray_scene::gen_text;
 use std::alloc::{AllocError as NoMemory, Global};
@@ -24,10 +25,10 @@ use std::thread::Threads;
 /// The greatest number of bytes that an input may have, 2^26.
 pub const MOST_BYTES: u32 = 1 << 26;
 
-/// The program. `words` are those after the program's name: `run` reads a recording from the
-/// source, runs it and writes its text to the sink, and `check` writes `ok` where it breaks no rule
-/// V1 to V32; `gen SIDE LAYERS RAYS` reads nothing and writes the recording of a made-up scene; all
-/// others are bad. Whatever ends the call before its text, one line says why. The whole text is made
+/// The program. `words` are those after the program's name: `run` and `run --workers N` read a
+/// recording from the source, run it and write its text to the sink, and `check` writes `ok` where it
+/// breaks no rule V1 to V32; `gen SIDE LAYERS RAYS` reads nothing and writes the recording of a
+/// made-up scene; all others are bad. Whatever ends the call before its text, one line says why. The whole text is made
 /// before the first write. After a read fault, or for want of memory, the source may have given a
 /// prefix of what it had left.
 pub fn vkray<R: Threads + Sync, S: Source, K: Sink, G: Gate + Sync>(
@@ -43,12 +44,18 @@ pub fn vkray<R: Threads + Sync, S: Source, K: Sink, G: Gate + Sync>(
         (writing K.taken K.faults K.zero_writes sink.old sink.new)
         result }
 
+    // A run that ends well has written the text of every order that the barriers permit.
+    ensures headline { (workers : ℕ) (input : List ℕ) → AskRun words.now workers
+        → result ≡ Status.Done → S.left source.old ≡ Some input
+        → IsTextOfInput input (writing K.taken K.faults K.zero_writes sink.old sink.new) }
+
     // A good input is answered: the run's whole text is written, and `ok` by a check.
-    ensures complete { (input : List ℕ) (commands : List Command) → IsGoodCall Run words.now
+    ensures complete { (workers : ℕ) (input text : List ℕ) (commands : List Command)
+        → IsGoodCall (Run workers) words.now
         (reading S.left S.faults source.old source.new)
         (writing K.taken K.faults K.zero_writes sink.old sink.new)
-        input commands → Runs commands
-        → IsCompleted (writing K.taken K.faults K.zero_writes sink.old sink.new) (run_text commands) result }
+        input commands → Runs commands text
+        → IsCompleted (writing K.taken K.faults K.zero_writes sink.old sink.new) text result }
     ensures checked { (input : List ℕ) (commands : List Command) → IsGoodCall Check words.now
         (reading S.left S.faults source.old source.new)
         (writing K.taken K.faults K.zero_writes sink.old sink.new)

@@ -14,7 +14,7 @@ pub returns-in-Ok-clause-value : goal.returns-in-Ok-clause-value
 returns-in-Ok-clause-value g c = (
   refl,
   is_given c.args.rec.now c.args.piece c.command-command.result.now (memory_of c.args.state.now) c.requires.piece c.command-command.ensures c.requires.ready
-  ∙ c.in-Ok.ensures.value,
+      ∙ c.in-Ok.ensures.value,
 )
 
 pub returns-in-Err-clause-value : goal.returns-in-Err-clause-value

@@ -73,15 +73,15 @@ loop-command-preserved g c =
     let is = ap (λ x. not (is_device x)) (command_is rec i c.command.result.now c.command.ensures) in
     elim c.if-is_host.branch [
       | then-is_host+in_default w ↦ (
-        let host : not (is_device (command_at rec i)) ≡ true = is ∙ (sym c.is_host.ensures ∙ w.if-is_host.true) in
-        moved n (run_below rec n) (commands_left rec n (i + 1)) w.act.new.state c.if-is_host.state w.act.new.text c.if-is_host.text (sym w.state-is) (sym w.text-is)
-        (host_done rec n i (run_below rec n) (memory_of c.loop-command.state) (memory_of w.act.new.state) c.loop-command.text.items w.act.new.text.items
-        c.loop-command-test.true c.requires.within host c.loop-command.invariant w.in_default.ensures.ok))
+          let host : not (is_device (command_at rec i)) ≡ true = is ∙ (sym c.is_host.ensures ∙ w.if-is_host.true) in
+          moved n (run_below rec n) (commands_left rec n (i + 1)) w.act.new.state c.if-is_host.state w.act.new.text c.if-is_host.text (sym w.state-is) (sym w.text-is)
+          (host_done rec n i (run_below rec n) (memory_of c.loop-command.state) (memory_of w.act.new.state) c.loop-command.text.items w.act.new.text.items
+          c.loop-command-test.true c.requires.within host c.loop-command.invariant w.in_default.ensures.ok))
       | else-is_host+else-loop-part-test w ↦ (
-        let device : not (is_device (command_at rec i)) ≡ false = is ∙ (sym c.is_host.ensures ∙ w.if-is_host.false) in
-        let past : piece_count (command_at rec i) ≤ w.loop-part.part = (let t = w.loop-part-test.false in let e = w.pieces-part-end.ensures in omega arith) in
-        moved n (run_below rec n) (commands_left rec n (i + 1)) w.loop-part.state c.if-is_host.state c.loop-command.text c.if-is_host.text (sym w.state-is) (sym w.text-is)
-        (parts_end rec n i w.loop-part.part (run_below rec n) (memory_of w.loop-part.state) c.loop-command.text.items device past w.loop-part.invariant))
+          let device : not (is_device (command_at rec i)) ≡ false = is ∙ (sym c.is_host.ensures ∙ w.if-is_host.false) in
+          let past : piece_count (command_at rec i) ≤ w.loop-part.part = (let t = w.loop-part-test.false in let e = w.pieces-part-end.ensures in omega arith) in
+          moved n (run_below rec n) (commands_left rec n (i + 1)) w.loop-part.state c.if-is_host.state c.loop-command.text c.if-is_host.text (sym w.state-is) (sym w.text-is)
+          (parts_end rec n i w.loop-part.part (run_below rec n) (memory_of w.loop-part.state) c.loop-command.text.items device past w.loop-part.invariant))
     ]
 
 pub returns : goal.returns

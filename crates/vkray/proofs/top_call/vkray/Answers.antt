@@ -1,8 +1,8 @@
 use Rattle.std.proofs.Common.{inr}
 use Rattle.std.specs.Prelude.{codes}
 use Rattle.vkray.specs.declared.asked.Asked.TheVariants.{Check, Run}
-use Rattle.vkray.specs.Call.{run_text}
 use Rattle.vkray.proofs.Completeness.{check_is_ok, completed, generated, run_is_text}
+use Rattle.vkray.proofs.EveryOrder.{headline}
 use Rattle.vkray.proofs.Telling.{told_of}
 use Rattle.vkray.proofs.top_call.vkray.Goals as goal
 
@@ -11,10 +11,16 @@ returns-in-Ok-clause-answer g c =
     inr (told_of c.args.words.now _ _ c.in-Ok.reply.status c.in-Ok.reply.text.items c.write_reply.result
     c.in-Ok.ensures.replies c.write_reply.ensures)
 
+pub returns-in-Ok-clause-headline : goal.returns-in-Ok-clause-headline
+returns-in-Ok-clause-headline g c workers input asks done told =
+    headline c.args.words.now _ _ c.write_reply.result workers input
+    (inr (told_of c.args.words.now _ _ c.in-Ok.reply.status c.in-Ok.reply.text.items c.write_reply.result
+    c.in-Ok.ensures.replies c.write_reply.ensures)) asks done told
+
 pub returns-in-Ok-clause-complete : goal.returns-in-Ok-clause-complete
-returns-in-Ok-clause-complete g c input commands good runs =
-    completed Run _ _ _ input commands good (run_text commands)
-    (run_is_text commands good.rules runs.built runs.data_rules) c.write_reply.result
+returns-in-Ok-clause-complete g c workers input text commands good runs =
+    completed (Run workers) _ _ _ input commands good text
+    (run_is_text commands text good.rules runs) c.write_reply.result
     (inr (told_of c.args.words.now _ _ c.in-Ok.reply.status c.in-Ok.reply.text.items c.write_reply.result
     c.in-Ok.ensures.replies c.write_reply.ensures))
 

@@ -1,0 +1,29 @@
+-- What a run that ends well has written: the text of every order that the barriers and waits permit. (Own;
+-- after "Synchronization and Cache Control" in Vulkan.)
+use Rattle.std.specs.Prelude.{ℕ, ◌≡◌, List, length, None, Ok}
+use Rattle.ray_schedule.specs.Events.{Event}
+use Rattle.ray_schedule.specs.Laws.{MayRun}
+use Rattle.ray_cmd.specs.declared.command.Command.{Command}
+use Rattle.ray_cmd.specs.Recordings.{recording_of}
+use Rattle.ray_rules.specs.Verdict.{rule_refusal}
+use Rattle.ray_action.specs.Running.{Text}
+use Rattle.ray_permitted.specs.Along.{run_along}
+use Rattle.ray_permitted.specs.Work.{work_of}
+use Rattle.vkray.specs.Call.{Writing, IsWritten}
+
+-- a text is that of a recording along every schedule that is permitted: every list of the fetches and stores of
+-- its pieces and of its host commands in which all that belongs to a command stands before all that belongs
+-- to another which the barriers and waits order after it
+abbrev pub IsTextOfEveryOrder : List Command → List ℕ → Type 0
+IsTextOfEveryOrder commands text =
+    (es : List Event) → MayRun (work_of commands (length commands)) es → run_along commands (length commands) es ≡ Text text
+
+-- the input is a recording that breaks no rule V1 to V32, and its text along every permitted schedule was
+-- written
+pub record IsTextOfInput (input : List ℕ) (writing : Writing) : Type 0 where
+  pub commands : List Command
+  pub text : List ℕ
+  pub reads : recording_of input ≡ Ok commands
+  pub rules : rule_refusal commands ≡ None
+  pub every_order : IsTextOfEveryOrder commands text
+  pub written : IsWritten writing text
