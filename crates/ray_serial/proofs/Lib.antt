@@ -10,3 +10,4 @@ pub mod Restore
 pub mod TopSteps
 pub mod TopForms
 pub mod Distinct
+pub mod Links

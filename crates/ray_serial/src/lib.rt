@@ -1,5 +1,13 @@
-//! Serialized structures: the bytes that a structure is written as, which are read where they
-//! stand and refused at their first fault.
+//! Serialized structures: the form that a structure is written as, which is read where its bytes
+//! stand and refused at its first fault.
+//!
+//! The layer above uses [`SerialView`], which contracts see as the bytes, a form: `open` says by
+//! `opened` of `specs/Meaning` which of the eight lines of `specs/Form` bytes break first, and takes
+//! no memory; `to_bottom` and `to_top` say by `bottom_in` and `top_in` which structure it stands
+//! for. [`serialize`] and [`serialize_top`] give `bottom_form` and `top_form` of the contents.
+//!
+//! It stands on `ray_bottom` (the payload and back), `ray_top` (instances and how they are read),
+//! `ray_bytes` and `ray_flags`.
 #![tactic(auto)]
 
 mod counting;

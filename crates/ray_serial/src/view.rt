@@ -1,7 +1,7 @@
-ghost use Rattle.std.specs.Prelude.{◌≡◌, ◌≤◌, Some, IfOk, false, true, length};
+ghost use Rattle.std.specs.Prelude.{◌≡◌, ◌≤◌, Some, IfOk, IfErr, false, true, length};
 ghost use Rattle.ray_primitives.specs.Outcomes.{Gives};
 ghost use Rattle.ray_serial.specs.Form.{payload_in};
-ghost use Rattle.ray_serial.specs.TopMeaning.{top_in};
+ghost use Rattle.ray_serial.specs.TopMeaning.{top_in, IsLinkRule};
 ghost use Rattle.ray_serial.specs.Meaning.{IsForm, opened, is_top_form, deserialized_in};
 ghost use Rattle.ray_serial.specs.Meaning.{handle_in, bottom_in, HasRoom};
 ghost use Rattle.ray_serial.specs.Written.{bottom_form};
@@ -94,6 +94,7 @@ impl<'a> SerialView<'a> {
     ) -> Result<Top, BuildFault>
         requires { is_top_form self.now ≡ true }
         ensures value { Gives (top_in used.now self.now) result }
+        ensures rules { IfErr (top_in used.now self.now) (λ fault. IsLinkRule fault.rule) }
     {
         top_of(rt, alloc, self.whole(), used)
     }
