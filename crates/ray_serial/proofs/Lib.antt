@@ -11,3 +11,5 @@ pub mod TopSteps
 pub mod TopForms
 pub mod Distinct
 pub mod Links
+pub mod TopBack
+pub mod OtherHandles

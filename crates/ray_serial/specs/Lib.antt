@@ -6,3 +6,4 @@ pub mod Meaning
 pub mod Written
 pub mod TopWritten
 pub mod TopMeaning
+pub mod Replaced

@@ -3,7 +3,7 @@
 --
 -- By hand, of an instance with the identity, mask 255 and the structure 0 alone: the one handle is 256, and the 64 bytes are
 -- those of the instance in a buffer, with 1 in place of the reference 256.
-use Rattle.std.specs.Prelude.{ℕ, ℤ, pos, ◌+◌, ◌*◌, ◌^◌, ◌<◌, ◌==◌, ◌&&◌, Bool, slice_index_or, if◌then◌else◌, Option, List, [], ◌∷◌, ◌++◌, length, fold, replicate}
+use Rattle.std.specs.Prelude.{ℕ, ℤ, pos, ◌+◌, ◌*◌, ◌^◌, ◌<◌, ◌==◌, ◌&&◌, Bool, slice_index_or, if◌then◌else◌, Option, List, [], ◌∷◌, ◌++◌, length, fold, replicate, All}
 use Rattle.std.specs.Int.{w32, cast_unsigned}
 use Rattle.std.specs.Int.RustNames.{FitsSigned}
 use Rattle.std.specs.List.{flat_map, position_or_len}
@@ -88,6 +88,15 @@ pub record FitsBits (told : Instance) : Type 0 where
   pub custom : told.custom < 2 ^ 24
   pub sbt : told.sbt < 2 ^ 24
   pub flags : told.flags.0 < 16
+
+-- the mask and the id of an instance fit their bits
+pub record FitsTold (told : Instance) : Type 0 where
+  pub mask : told.mask < 2 ^ 8
+  pub id : told.id < 2 ^ 32
+
+-- those of each instance
+pub record AreNarrow (instances : List (Option InstanceValue)) : Type 0 where
+  pub each : All (λ i. FitsTold (told_instance i)) instances
 
 -- handles rise
 pub record IsRising (handles : List ℕ) : Type 0 where

@@ -15,6 +15,7 @@ mod fields;
 mod geometry;
 mod handles;
 mod instances;
+mod laws;
 mod lines;
 mod linking;
 mod restoring;
@@ -28,6 +29,7 @@ mod view;
 mod writing;
 
 pub use crate::counting::{handle_count, serialized_size_top};
+pub use crate::laws::replaced_law;
 pub use crate::serial_fault::SerialFault;
 pub use crate::top_writing::serialize_top;
 pub use crate::view::SerialView;

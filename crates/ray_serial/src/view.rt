@@ -100,7 +100,7 @@ impl<'a> SerialView<'a> {
     }
 
     // The bytes.
-    fn whole(&self) -> &'a [u8]
+    pub(crate) fn whole(&self) -> &'a [u8]
         ensures value { result.now ≡ self.now }
         ensures form { IsForm result.now }
         ensures limits { HasRoom result.now }
