@@ -13,3 +13,4 @@ pub mod Distinct
 pub mod Links
 pub mod TopBack
 pub mod OtherHandles
+pub mod TopStands

@@ -105,13 +105,14 @@ none_past [] k h = refl
 none_past (x ∷ xs) zero h = absurd (omega arith)
 none_past (x ∷ xs) (suc k) h = none_past xs k (omega arith)
 
-other_handle : (bytes handles : List ℕ) (k : ℕ) → AreLong handles → handle_count_in (with_handles bytes handles) ≡ length handles →
-    handle_in (with_handles bytes handles) k ≡ slice_get handles k
-other_handle bytes handles k fits count =
-    let other = with_handles bytes handles in
+pub handle_said : (deserialized : ℕ) (handles payload : List ℕ) (k : ℕ) → AreLong handles →
+    handle_count_in (form_bytes deserialized handles payload) ≡ length handles →
+    handle_in (form_bytes deserialized handles payload) k ≡ slice_get handles k
+handle_said deserialized handles payload k fits count =
+    let other = form_bytes deserialized handles payload in
     elim (cases_lt k (length handles)) [
       | inl below ↦ if_true (nat_lt k (handle_count_in other)) (Some (handle_at other k)) None (lt_test k (handle_count_in other) (omega arith))
-          ∙ (ap Some (handle_back (deserialized_in bytes) handles (payload_in bytes) k below fits) ∙ sym (slice_get-get_or handles k 0 below))
+          ∙ (ap Some (handle_back deserialized handles payload k below fits) ∙ sym (slice_get-get_or handles k 0 below))
       | inr past ↦ if_false (nat_lt k (handle_count_in other)) (Some (handle_at other k)) None (lt_fails k (handle_count_in other) (omega arith))
           ∙ sym (none_past handles k past)
     ]
@@ -124,5 +125,5 @@ IsReplaced-form bytes handles fits longs is many =
     record {
       form = record { unbroken = unbroken-KeepsLines (with_handles bytes handles) (other_lines bytes handles fits k many) };
       payload = h.payload_is;
-      each = λ j. other_handle bytes handles j longs h.count;
+      each = λ j. handle_said (deserialized_in bytes) handles (payload_in bytes) j longs h.count;
     }

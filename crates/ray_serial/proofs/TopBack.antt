@@ -109,11 +109,11 @@ matrix_fits m is =
       tz = let h = t.z_within in omega (arith, ints);
     }
 
-abbrev entries : MatrixValue → List ℤ
+abbrev pub entries : MatrixValue → List ℤ
 entries m = m.a.x ∷ m.a.y ∷ m.a.z ∷ m.t.x ∷ m.b.x ∷ m.b.y ∷ m.b.z ∷ m.t.y ∷ m.c.x ∷ m.c.y ∷ m.c.z ∷ m.t.z ∷ []
 
 -- the record of an instance with the number of its handle
-abbrev placed_record : ℕ → Instance → InstanceRecord
+abbrev pub placed_record : ℕ → Instance → InstanceRecord
 placed_record number told = record {
   rows = entries told.matrix;
   custom = told.custom;
@@ -123,7 +123,7 @@ placed_record number told = record {
   reference = number;
 }
 
-placed_back : (number : ℕ) (told : Instance) → IsMatrix told.matrix → told.custom < 2 ^ 24 → told.sbt < 2 ^ 24 → told.flags.0 < 16 → told.mask < 2 ^ 8 →
+pub placed_back : (number : ℕ) (told : Instance) → IsMatrix told.matrix → told.custom < 2 ^ 24 → told.sbt < 2 ^ 24 → told.flags.0 < 16 → told.mask < 2 ^ 8 →
     number < 2 ^ 64 → instance_of (placed_bytes number told) ≡ placed_record number told
 unfolding placed_bytes word_at signed_at long_at
 placed_back number told is custom sbt flags mask fits =
@@ -171,7 +171,7 @@ placed_good handles number told is flags not_both below =
     (le_test number handles below) (matrix_some told.matrix is) (lt_test told.flags.0 16 flags)
     (λ i. not ((ap (λ (n : ℕ). forces_both (record { 0 = n })) same ∙ not_both) i))
 
-if_true : {X : Type 0} (b : Bool) (x y : X) → b ≡ true → (if b then x else y) ≡ x
+pub if_true : {X : Type 0} (b : Bool) (x y : X) → b ≡ true → (if b then x else y) ≡ x
 if_true true x y e = refl
 if_true false x y e = absurd cc
 
@@ -197,7 +197,7 @@ by_first : (b others : Bool) (n m : ℕ) → (b || others) ≡ true → (others 
 by_first true others n m e f = omega arith
 by_first false others n m e f = let h = f e in omega arith
 
-place_below : (r : ℕ) (hs : List ℕ) → has r hs ≡ true → position_or_len (λ h. h == r) hs < length hs
+pub place_below : (r : ℕ) (hs : List ℕ) → has r hs ≡ true → position_or_len (λ h. h == r) hs < length hs
 unfolding has
 place_below r [] e = absurd cc
 place_below r (h ∷ hs) e = by_first (h == r) (has r hs) (position_or_len (λ x. x == r) hs) (length hs) e (place_below r hs)
@@ -228,7 +228,7 @@ pub record CanWrite (t : TopValue) : Type 0 where
   pub fits : All (λ i. FitsTold (told_instance i)) t.contents.instances
   pub known : t.contents.flags.0 < 32
 
-length-all : (handles : List ℕ) (instances : List (Option InstanceValue)) →
+pub length-all : (handles : List ℕ) (instances : List (Option InstanceValue)) →
     length (flat_map (λ i. instance_bytes handles (told_instance i)) instances) ≡ 64 * length instances
 unfolding all_instance_bytes
 length-all handles instances = length-all_instance_bytes handles instances
@@ -322,7 +322,7 @@ no_bad handles payload rest kind e good =
 
 -- ---- the form
 
-top_header : (c : ContentsValue) → length c.instances ≤ 2 ^ 16 →
+pub top_header : (c : ContentsValue) → length c.instances ≤ 2 ^ 16 →
     HasHeader (top_form c) (structure_size 1 (length c.instances)) (handles_of c.instances) (top_payload (handles_of c.instances) c)
 unfolding top_form
 top_header c few =
@@ -365,3 +365,17 @@ IsForm-top_form t can = record { unbroken = unbroken-KeepsLines (top_form t.cont
 pub IfOk-both : {T E : Type 0} (P Q : T → Type 0) (N : Type 0) (r : Result T E) → ((x : T) → P x → N → Q x) → IfOk r P → OnOk r N → IfOk r Q
 IfOk-both P Q N (Ok x) f p n = f x p n
 IfOk-both P Q N (Err e) f p n = tt
+
+-- what the payload says
+pub record SaysHead (c : ContentsValue) (payload : List ℕ) : Type 0 where
+  pub top : is_top_payload payload ≡ true
+  pub flags : flags_of_payload payload ≡ c.flags
+  pub instances : instances_of_payload payload ≡ all_instance_bytes (handles_of c.instances) c.instances
+
+pub says_head : (t : TopValue) → CanWrite t → SaysHead t.contents (top_payload (handles_of t.contents.instances) t.contents)
+says_head t can =
+    let c = t.contents in
+    let payload = top_payload (handles_of c.instances) c in
+    let known = can.known in
+    let w = top_words c.flags.0 (length c.instances) (all_instance_bytes (handles_of c.instances) c.instances) (omega arith) in
+    record { top = top_is payload w.kind_is; flags = flags_are payload c.flags w.flags_is; instances = w.instances_is }

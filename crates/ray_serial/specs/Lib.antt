@@ -7,3 +7,4 @@ pub mod Written
 pub mod TopWritten
 pub mod TopMeaning
 pub mod Replaced
+pub mod Standing

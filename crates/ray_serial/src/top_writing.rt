@@ -8,6 +8,7 @@ ghost use Rattle.ray_serial.specs.TopWritten.{row_words, instance_words, FitsRow
 ghost use Rattle.ray_serial.specs.TopWritten.{placed_bytes, instance_bytes, all_instance_bytes};
 ghost use Rattle.ray_serial.specs.TopWritten.{top_head, top_payload, top_form, IsRising, AreNarrow};
 ghost use Rattle.ray_serial.specs.Meaning.{IsForm};
+ghost use Rattle.ray_serial.specs.Standing.{StandsFor};
 
 use crate::handles::{handle_number, handles_of, told};
 use crate::writing::form_bytes;
@@ -142,6 +143,8 @@ fn top_payload(alloc: Global, handles: &[u64], top: &Top) -> Result<Vec<u8>, NoM
 pub fn serialize_top(alloc: Global, top: &Top) -> Result<Vec<u8>, NoMemory>
     ensures value { IfOk result (λ bytes. bytes.items ≡ top_form top.now.contents) }
     ensures form { top.now.contents.flags.0 < 32 → IfOk result (λ bytes. IsForm bytes.items) }
+    ensures stands { top.now.contents.flags.0 < 32 → IfOk result (λ bytes.
+        StandsFor top.now.contents bytes.items) }
 {
     // The instances are within the limits.
     let _len = top.len();
