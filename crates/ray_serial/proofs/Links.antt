@@ -1,5 +1,5 @@
 -- Which rules an instance of a form may break.
-use Rattle.std.proofs.Common.{ℕ, zero, suc, ◌≡◌, ◌<◌, ◌==◌, ◌&&◌, Bool, true, false, not, List, [], ◌∷◌, length, map, Option, Some, None, Result, Ok, Err, refl, sym, ap, subst, ◌∙◌, arith}
+use Rattle.std.proofs.Common.{ℕ, zero, suc, ◌≡◌, ◌==◌, ◌&&◌, Bool, true, false, not, List, [], ◌∷◌, length, map, Option, Some, None, Result, Ok, Err, refl, ap, subst}
 use Rattle.std.specs.Prelude.{IfErr, slice_get, is_some, nat_le, nat_lt, option_and_then, if◌then◌else◌}
 use Rattle.std.specs.List.{list_all}
 use Rattle.ray_geom.specs.Boxes.{BoxValue}
@@ -7,7 +7,7 @@ use Rattle.ray_geom.specs.Transform.{MatrixValue}
 use Rattle.ray_bytes.specs.Records.{instance_of}
 use Rattle.ray_bytes.specs.References.{structure_of}
 use Rattle.ray_bytes.specs.declared.data_rule.DataRule.{DataRule}
-use Rattle.ray_bytes.specs.declared.data_rule.DataRule.TheVariants.{X5, X6, X7, X8}
+use Rattle.ray_bytes.specs.declared.data_rule.DataRule.TheVariants.{X5, X7, X8}
 use Rattle.ray_bytes.specs.declared.data_fault.DataFault.{DataFault}
 use Rattle.ray_bytes.specs.declared.instance_record.InstanceRecord.{InstanceRecord}
 use Rattle.ray_bytes.specs.declared.reference.Reference.{Reference}
@@ -18,14 +18,13 @@ use Rattle.ray_contents.proofs.Gathered.{gathered_law}
 use Rattle.ray_flags.specs.declared.build_flags.BuildFlags.{BuildFlags}
 use Rattle.ray_primitives.specs.Outcomes.{at_element}
 use Rattle.ray_top.specs.declared.used.Used.{Used}
-use Rattle.ray_top.specs.Contents.{TopValue, top_with}
+use Rattle.ray_top.specs.Contents.{top_with}
 use Rattle.ray_top.specs.Instances.{InstanceValue, instance_from, matrix_from, flags_in, forces_both}
-use Rattle.ray_top.specs.InstanceReading.{bounds_in, bounds_kept, forced, bounded, limited, in_use}
+use Rattle.ray_top.specs.InstanceReading.{bounds_in, bounds_kept, forced, limited, in_use}
 use Rattle.ray_serial.specs.InstanceBytes.{is_active, is_placed, is_instance, instance_parts, are_instances}
-use Rattle.ray_serial.specs.Rows.{geometries_in}
-use Rattle.ray_serial.specs.Form.{handle_count_in, payload_in, is_top_payload, flags_of_payload, geometry_count, row_of, instances_of_payload, has_bad_element}
-use Rattle.ray_serial.specs.Meaning.{KeepsLines, IsForm, is_top_form}
-use Rattle.ray_serial.specs.TopMeaning.{with_reference, reference_in, referring_instance, instance_in, instances_in, linked, instance_linked, linked_at, top_in, IsLinkRule}
+use Rattle.ray_serial.specs.Form.{handle_count_in, payload_in, is_top_payload, flags_of_payload, instances_of_payload, has_bad_element}
+use Rattle.ray_serial.specs.Meaning.{IsForm, is_top_form}
+use Rattle.ray_serial.specs.TopMeaning.{with_reference, reference_in, instance_in, instances_in, linked, instance_linked, linked_at, top_in, IsLinkRule}
 use Rattle.ray_serial.proofs.KeptLines.{KeepsLines-unbroken}
 
 -- ---- one instance

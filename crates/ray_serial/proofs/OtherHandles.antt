@@ -1,5 +1,5 @@
 -- A form whose handles are replaced.
-use Rattle.std.proofs.Common.{ℕ, zero, suc, ◌≡◌, ◌<◌, ◌≤◌, ◌+◌, ◌-◌, ◌*◌, ◌++◌, ◌^◌, Bool, true, false, List, [], ◌∷◌, length, take, drop, get_or, Option, Some, None, refl, sym, ap, subst, ◌∙◌, arith, append_assoc, mul-suc, inl, inr}
+use Rattle.std.proofs.Common.{ℕ, zero, suc, ◌≡◌, ◌<◌, ◌≤◌, ◌+◌, ◌*◌, ◌++◌, ◌^◌, Bool, true, false, List, [], ◌∷◌, length, drop, get_or, Some, None, refl, sym, ap, ◌∙◌, arith, append_assoc, mul-suc, inl, inr}
 use Rattle.std.specs.Prelude.{slice_get, nat_lt, if◌then◌else◌}
 use Rattle.std.proofs.lemmas.Bool.{cases_lt}
 use Rattle.std.proofs.lemmas.Bool.Decides.{nat_tests}
@@ -13,7 +13,7 @@ use Rattle.ray_bytes.specs.Fields.{long_at}
 use Rattle.ray_bytes.specs.StructureSizes.{structure_size}
 use Rattle.ray_serial.specs.Form.{handle_count_in, payload_in, geometry_count, total_of_payload, has_bad_element}
 use Rattle.ray_serial.specs.Meaning.{KeepsLines, IsForm, deserialized_in, handle_at, handle_in}
-use Rattle.ray_serial.specs.Written.{long_bytes, form_size, form_bytes}
+use Rattle.ray_serial.specs.Written.{long_bytes, form_bytes}
 use Rattle.ray_serial.specs.Replaced.{with_handles, IsReplaced}
 use Rattle.ray_serial.proofs.Words.{AreBytes, AreBytes-drop}
 use Rattle.ray_serial.proofs.KeptLines.{KeepsLines-unbroken, unbroken-KeepsLines}

@@ -1,18 +1,18 @@
 -- What a top structure is written as is a form.
-use Rattle.std.proofs.Common.{ℕ, zero, suc, ◌≡◌, ◌<◌, ◌≤◌, ◌+◌, ◌-◌, ◌*◌, ◌/◌, ◌%◌, ◌++◌, ◌==◌, ◌&&◌, ◌||◌, ◌^◌, Bool, true, false, not, List, [], ◌∷◌, length, take, drop, get_or, map, Option, Some, None, Result, Ok, Err, refl, sym, ap, subst, ◌∙◌, arith, append_assoc, length-append, mul-suc}
-use Rattle.std.specs.Prelude.{ℤ, All, IfSome, IfOk, OnOk, replicate, slice_index_or, nat_le, nat_lt, is_some, is_none, if◌then◌else◌}
+use Rattle.std.proofs.Common.{ℕ, suc, ◌≡◌, ◌<◌, ◌≤◌, ◌+◌, ◌*◌, ◌/◌, ◌%◌, ◌++◌, ◌==◌, ◌&&◌, ◌||◌, ◌^◌, Bool, true, false, not, List, [], ◌∷◌, length, take, drop, get_or, Option, Some, None, Result, Ok, Err, refl, sym, ap, ◌∙◌, arith, length-append}
+use Rattle.std.specs.Prelude.{ℤ, All, IfSome, IfOk, OnOk, replicate, nat_le, nat_lt, is_some, is_none, if◌then◌else◌}
 use Rattle.std.specs.Int.{w32, cast_signed, cast_unsigned}
 use Rattle.std.specs.Int.RustNames.{FitsSigned}
-use Rattle.std.specs.List.{flat_map, list_all, list_any, position_or_len}
+use Rattle.std.specs.List.{flat_map, list_all, position_or_len}
 use Rattle.std.specs.Simd.{first_chunks}
 use Rattle.std.proofs.lemmas.Bool.Decides.{nat_tests}
 use Rattle.std.proofs.lemmas.Int.{ints, to_z-of_z}
 use Rattle.std.proofs.Math.Facts.{Fits-of_z}
-use Rattle.std.proofs.lemmas.List.{take_at, drop_at, take_all, length-drop}
+use Rattle.std.proofs.lemmas.List.{take_at, drop_at, length-drop}
 use Rattle.std.proofs.lemmas.List.Concat.{flat_map-cons}
 use Rattle.byteorder.specs.Endian.{little_bytes, little_number}
 use Rattle.byteorder.specs.Numbers.{little_number-reads_back}
-use Rattle.ray_geom.specs.Transform.{MatrixValue, IsMatrix, rows_of}
+use Rattle.ray_geom.specs.Transform.{MatrixValue, IsMatrix}
 use Rattle.ray_geom.specs.Decided.{where_so, matrix_decided}
 use Rattle.ray_bytes.specs.Fields.{word_at, signed_at, long_at}
 use Rattle.ray_bytes.specs.Records.{instance_of, low_bits, high_bits}
@@ -24,16 +24,15 @@ use Rattle.ray_contents.specs.Limits.{matrix_within}
 use Rattle.ray_bottom.specs.Storing.{bytes_of_words}
 use Rattle.ray_top.specs.declared.instance.Instance.{Instance}
 use Rattle.ray_top.specs.declared.used.Used.{Used}
-use Rattle.ray_top.specs.Contents.{ContentsValue, TopValue, IsTop, IsInstance, IsActive, has_both_fast}
+use Rattle.ray_top.specs.Contents.{ContentsValue, TopValue, IsTop, IsActive, has_both_fast}
 use Rattle.ray_top.specs.Instances.{InstanceValue, told_instance, matrix_from, flags_in, forces_both}
-use Rattle.ray_serial.specs.Heads.{element_size, count_in, elements_size, geometry_size, has_zeros, is_head, is_whole, is_geometry}
+use Rattle.ray_serial.specs.Heads.{element_size, count_in, elements_size, geometry_size, is_head, is_whole, is_geometry}
 use Rattle.ray_serial.specs.Rows.{after_first, row_total, geometries_in}
-use Rattle.ray_serial.specs.InstanceBytes.{is_active, is_placed, is_instance, instance_parts, are_instances}
-use Rattle.ray_serial.specs.Form.{handle_count_in, payload_in, is_top_payload, flags_of_payload, geometry_count, row_of, instances_of_payload, at_most, bottom_total, top_total, has_flags, total_of_payload, has_bad_element}
+use Rattle.ray_serial.specs.InstanceBytes.{is_active, is_placed, is_instance, are_instances}
+use Rattle.ray_serial.specs.Form.{is_top_payload, flags_of_payload, geometry_count, row_of, instances_of_payload, at_most, bottom_total, top_total, has_flags, total_of_payload, has_bad_element}
 use Rattle.ray_serial.specs.Meaning.{KeepsLines, IsForm}
-use Rattle.ray_serial.specs.Written.{form_size, form_bytes}
-use Rattle.ray_serial.specs.TopWritten.{handles_of, handle_number, instance_words, placed_bytes, instance_bytes, all_instance_bytes, top_head, top_payload, top_form, refers_to, FitsTold}
-use Rattle.ray_serial.proofs.Words.{HasWords, head_bytes, head_back, length-head_bytes}
+use Rattle.ray_serial.specs.TopWritten.{handles_of, handle_number, placed_bytes, instance_bytes, all_instance_bytes, top_head, top_payload, top_form, FitsTold}
+use Rattle.ray_serial.proofs.Words.{head_bytes, head_back, length-head_bytes}
 use Rattle.ray_serial.proofs.KeptLines.{unbroken-KeepsLines}
 use Rattle.ray_serial.proofs.Headers.{HasHeader, header_back}
 use Rattle.ray_serial.proofs.TopSteps.{length-handles_of, length-instance_bytes, length-all_instance_bytes, length-top_payload, top_few}

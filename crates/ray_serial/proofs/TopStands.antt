@@ -1,5 +1,5 @@
 -- What a top structure is written as stands for its contents.
-use Rattle.std.proofs.Common.{ℕ, zero, suc, ◌≡◌, ◌<◌, ◌≤◌, ◌+◌, ◌-◌, ◌*◌, ◌/◌, ◌++◌, ◌==◌, ◌||◌, ◌^◌, Bool, true, false, not, List, [], ◌∷◌, length, take, drop, get_or, map, fold, Option, Some, None, refl, sym, ap, subst, ◌∙◌, arith, inl, inr}
+use Rattle.std.proofs.Common.{ℕ, suc, ◌≡◌, ◌<◌, ◌≤◌, ◌+◌, ◌-◌, ◌/◌, ◌==◌, ◌||◌, ◌^◌, Bool, true, false, not, List, [], ◌∷◌, length, take, drop, get_or, map, fold, Option, Some, None, refl, ap, ◌∙◌, arith, inl, inr}
 use Rattle.std.specs.Prelude.{All, IfSome, replicate, slice_get, unwrap_or, if◌then◌else◌}
 use Rattle.std.specs.List.{flat_map, position_or_len}
 use Rattle.std.specs.Simd.{first_chunks}
@@ -14,22 +14,21 @@ use Rattle.std.proofs.lemmas.Map.Views.{All-insert_key}
 use Rattle.std.proofs.lemmas.Option.{slice_get-get_or}
 use Rattle.ray_geom.specs.Transform.{IsMatrix}
 use Rattle.ray_bytes.specs.Fields.{long_at}
-use Rattle.ray_bytes.specs.Records.{instance_of}
 use Rattle.ray_bytes.specs.References.{reference_of}
 use Rattle.ray_bytes.specs.StructureSizes.{structure_size}
 use Rattle.ray_bytes.specs.declared.instance_record.InstanceRecord.{InstanceRecord}
 use Rattle.ray_top.specs.declared.instance.Instance.{Instance}
 use Rattle.ray_top.specs.declared.used.Used.{Used}
-use Rattle.ray_top.specs.Contents.{ContentsValue, TopValue, IsActive}
+use Rattle.ray_top.specs.Contents.{TopValue, IsActive}
 use Rattle.ray_top.specs.Instances.{InstanceValue, told_instance}
-use Rattle.ray_serial.specs.InstanceBytes.{is_active, instance_parts}
-use Rattle.ray_serial.specs.Form.{handle_count_in, payload_in, instances_of_payload, is_top_payload, flags_of_payload}
+use Rattle.ray_serial.specs.InstanceBytes.{instance_parts}
+use Rattle.ray_serial.specs.Form.{instances_of_payload, is_top_payload, flags_of_payload}
 use Rattle.ray_serial.specs.Meaning.{handle_in}
 use Rattle.ray_serial.specs.TopMeaning.{with_reference, reference_in, referring_instance, instance_in, instances_in}
 use Rattle.ray_serial.specs.TopWritten.{with_handle, handles_of, handle_number, placed_bytes, instance_bytes, all_instance_bytes, top_payload, top_form, record_of, told_record, records_of, FitsTold}
 use Rattle.ray_serial.specs.Standing.{StandsFor}
 use Rattle.ray_serial.proofs.OtherHandles.{AreLong, handle_said}
-use Rattle.ray_serial.proofs.TopSteps.{length-handles_of, length-instance_bytes, length-all_instance_bytes}
+use Rattle.ray_serial.proofs.TopSteps.{length-handles_of, length-instance_bytes}
 use Rattle.ray_serial.proofs.Distinct.{has, has_handle}
 use Rattle.ray_serial.proofs.TopBack.{CanWrite, placed_record, placed_back, place_below, length-all, if_true, top_header, says_head}
 

@@ -1,4 +1,4 @@
-use Rattle.std.proofs.Common.{ℕ, List, ◌<◌, ◌^◌, sym, ap, subst, ◌∙◌}
+use Rattle.std.proofs.Common.{ℕ, ◌<◌, ◌^◌, sym, ap, subst, ◌∙◌}
 use Rattle.ray_serial.specs.Written.{form_size}
 use Rattle.ray_serial.specs.TopWritten.{top_payload}
 use Rattle.ray_serial.proofs.TopSteps.{top_few}
