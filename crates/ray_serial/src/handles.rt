@@ -1,6 +1,7 @@
 ghost use Rattle.std.specs.Prelude.{◌≡◌, ◌<◌, None, IfOk, OnOk, length, slice_index_or};
 ghost use Rattle.ray_top.specs.Instances.{told_instance};
-ghost use Rattle.ray_serial.specs.TopWritten.{with_handle, handles_of, handle_number, FitsBits, IsRising};
+ghost use Rattle.ray_serial.specs.TopWritten.{with_handle, handles_of, handle_number};
+ghost use Rattle.ray_serial.specs.TopWritten.{FitsBits, IsRising};
 ghost use Rattle.ray_serial.specs.TopWritten.{FitsTold, AreNarrow};
 
 use ray_bytes::reference_of;

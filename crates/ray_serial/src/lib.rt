@@ -2,9 +2,10 @@
 //! stand and refused at its first fault.
 //!
 //! The layer above uses [`SerialView`], which contracts see as the bytes, a form: `open` says by
-//! `opened` of `specs/Meaning` which of the eight lines of `specs/Form` bytes break first, and takes
-//! no memory; `to_bottom` and `to_top` say by `bottom_in` and `top_in` which structure it stands
-//! for. [`serialize`] and [`serialize_top`] give `bottom_form` and `top_form` of the contents.
+//! `opened` of `specs/Meaning` which of the eight lines of `specs/Form` bytes break first, and
+//! takes no memory; `to_bottom` and `to_top` say by `bottom_in` and `top_in` which structure it
+//! stands for. [`serialize`] and [`serialize_top`] give `bottom_form` and `top_form` of the
+//! contents, which are forms that stand for them.
 //!
 //! It stands on `ray_bottom` (the payload and back), `ray_top` (instances and how they are read),
 //! `ray_bytes` and `ray_flags`.
