@@ -55,7 +55,7 @@ impl<'a> SerialView<'a> {
     pub fn is_top(&self) -> bool
         ensures { result ≡ is_top_form self.now }
     {
-        is_top_payload(self.payload())
+        is_top_payload(payload_in(self.whole()))
     }
 
     /// How many bytes the structure takes that it stands for.
@@ -106,14 +106,6 @@ impl<'a> SerialView<'a> {
         ensures limits { HasRoom result.now }
     {
         self.bytes
-    }
-
-    // The payload.
-    fn payload(&self) -> &'a [u8]
-        ensures value { result.now ≡ payload_in self.now }
-        ensures limits { 16 ≤ length result.now }
-    {
-        payload_in(self.whole())
     }
 }
 
