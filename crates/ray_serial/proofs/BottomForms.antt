@@ -1,29 +1,29 @@
 -- The form of a bottom structure: what is written is a form that stands for the contents, and a form is what its contents are
 -- written as.
-use Rattle.std.proofs.Common.{ℕ, zero, suc, ◌≡◌, ◌<◌, ◌≤◌, ◌+◌, ◌*◌, ◌/◌, ◌==◌, ◌&&◌, ◌^◌, ◌++◌, ◌||◌, not, Bool, true, false, List, [], ◌∷◌, length, drop, map, Result, Ok, Err, Option, Some, None, option_map, refl, sym, ap, subst, ◌∙◌, arith, length-append}
+use Rattle.std.proofs.Common.{ℕ, suc, ◌≡◌, ◌<◌, ◌≤◌, ◌+◌, ◌*◌, ◌==◌, ◌&&◌, ◌^◌, ◌++◌, ◌||◌, not, Bool, true, false, List, [], ◌∷◌, length, map, Result, Ok, Err, Option, Some, None, option_map, refl, sym, ap, subst, ◌∙◌, arith, length-append}
 use Rattle.std.specs.Prelude.{All, IfOk, slice_get, is_none, nat_le, nat_lt, if◌then◌else◌}
 use Rattle.std.specs.List.{flat_map, range_with_len}
 use Rattle.std.proofs.lemmas.Bool.Decides.{nat_tests}
 use Rattle.std.proofs.lemmas.List.Concat.{flat_map-cons}
-use Rattle.std.proofs.lemmas.List.Elements.{All-cons, All-nil, All-tail}
+use Rattle.std.proofs.lemmas.List.Elements.{All-nil, All-tail}
 use Rattle.std.proofs.lemmas.List.Sums.{sum_by-cons}
-use Rattle.ray_bytes.specs.Fields.{word_at, long_at}
+use Rattle.ray_bytes.specs.Fields.{word_at}
 use Rattle.ray_bytes.specs.StructureSizes.{structure_size}
 use Rattle.ray_flags.specs.declared.build_flags.BuildFlags.{BuildFlags}
 use Rattle.ray_flags.specs.declared.kind.Kind.{Kind}
 use Rattle.ray_flags.specs.declared.kind.Kind.TheVariants.{Triangle, Aabb}
 use Rattle.ray_bottom.specs.declared.geometry.Geometry.{Geometry}
-use Rattle.ray_bottom.specs.Contents.{ContentsValue, IsContents, IsGeometry, has_both_fast, kind_of, count_of, total_of}
-use Rattle.ray_bottom.specs.Storing.{bytes_of_words, kind_number, geometry_bytes, payload_words, payload_of}
+use Rattle.ray_bottom.specs.Contents.{ContentsValue, IsContents, has_both_fast, kind_of, count_of, total_of}
+use Rattle.ray_bottom.specs.Storing.{bytes_of_words, kind_number, geometry_bytes, payload_of}
 use Rattle.ray_serial.specs.Heads.{element_size}
 use Rattle.ray_serial.specs.Rows.{are_geometries, total_in, row_total, geometries_in}
 use Rattle.ray_serial.specs.InstanceBytes.{are_instances}
-use Rattle.ray_serial.specs.Form.{handle_count_in, payload_in, instances_of_payload, is_top_payload, flags_of_payload, geometry_count, row_of, at_most, or_else, bottom_total, has_flags, top_total, lacks_room, total_of_payload, has_bad_element, broken_line}
-use Rattle.ray_serial.specs.Meaning.{KeepsLines, IsForm, is_top_form, deserialized_in, handle_at, handles_in, with_flags, bottom_in_payload, bottom_in, HasRoom, CanRestore}
+use Rattle.ray_serial.specs.Form.{handle_count_in, payload_in, instances_of_payload, is_top_payload, flags_of_payload, geometry_count, row_of, at_most, or_else, bottom_total, has_flags, top_total, lacks_room, total_of_payload, has_bad_element}
+use Rattle.ray_serial.specs.Meaning.{KeepsLines, IsForm, is_top_form, deserialized_in, handle_at, with_flags, bottom_in_payload, bottom_in, HasRoom, CanRestore}
 use Rattle.ray_serial.specs.Written.{form_size, form_bytes, bottom_form}
 use Rattle.ray_serial.proofs.Words.{AreBytes, AreBytes-drop, HasFour, four_bytes, four_back, four_again, length-four_bytes, after_four}
 use Rattle.ray_serial.proofs.GeometryBack.{length-geometry_bytes, IsRow, row_back}
-use Rattle.ray_serial.proofs.GeometryAgain.{AreAgain, row_again}
+use Rattle.ray_serial.proofs.GeometryAgain.{row_again}
 use Rattle.ray_serial.proofs.KeptLines.{KeepsLines-unbroken, unbroken-KeepsLines}
 use Rattle.ray_serial.proofs.Headers.{HasHeader, header_back, form_again, length-payload_in}
 

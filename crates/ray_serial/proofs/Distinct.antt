@@ -1,5 +1,5 @@
 -- How many handles there are, instance by instance.
-use Rattle.std.proofs.Common.{ℕ, zero, suc, ◌≡◌, ◌<◌, ◌≤◌, ◌+◌, ◌*◌, ◌==◌, ◌&&◌, ◌||◌, Bool, true, false, not, List, [], ◌∷◌, ◌++◌, length, take, get_or, Option, Some, None, fold, refl, sym, ap, subst, ◌∙◌, arith}
+use Rattle.std.proofs.Common.{ℕ, zero, suc, ◌≡◌, ◌<◌, ◌≤◌, ◌+◌, ◌==◌, ◌&&◌, ◌||◌, Bool, true, false, not, List, [], ◌∷◌, ◌++◌, length, take, get_or, Option, None, refl, sym, ap, subst, ◌∙◌, arith}
 use Rattle.std.specs.Prelude.{if◌then◌else◌}
 use Rattle.std.specs.List.{list_any}
 use Rattle.std.specs.Ordering.{nat_cmp, match_ordering}
@@ -7,6 +7,7 @@ use Rattle.std.specs.declared.cmp.Ordering.{Ordering}
 use Rattle.std.specs.declared.cmp.Ordering.TheVariants.{Less, Equal, Greater}
 use Rattle.std.specs.BTreeSet.{insert_key}
 use Rattle.std.proofs.lemmas.Bool.Decides.{nat_tests}
+use Rattle.std.proofs.Math.Seq.{take-length}
 use Rattle.std.proofs.lemmas.List.{take_more}
 use Rattle.ray_bytes.specs.References.{reference_of}
 use Rattle.ray_top.specs.declared.instance.Instance.{Instance}
@@ -21,7 +22,7 @@ Rises : ℕ → List ℕ → Type 0
 Rises low [] = Unit {0}
 Rises low (x ∷ xs) = (low ≤ x) × Rises (x + 1) xs
 
-has : ℕ → List ℕ → Bool
+unfoldable pub has : ℕ → List ℕ → Bool
 has k [] = false
 has k (x ∷ xs) = (x == k) || has k xs
 
@@ -205,3 +206,13 @@ any_more id (x ∷ xs) i zero p q e = absurd (omega arith)
 any_more id (x ∷ xs) zero (suc n) p q e = ap (λ b. b || list_any (refers_to id) (take n xs)) e
 any_more id (x ∷ xs) (suc i) (suc n) p q e =
     ap (λ b. refers_to id x || b) (any_more id xs i n (omega arith) (omega arith) e) ∙ or_comm (refers_to id x) true
+
+-- the reference of each active instance is a handle
+pub has_handle : (instances : List (Option InstanceValue)) (k : ℕ) → k < length instances → (told_instance (get_or instances k None)).active ≡ true →
+    has (reference_of (told_instance (get_or instances k None)).id) (handles_of instances) ≡ true
+has_handle instances k below active =
+    let id = (told_instance (get_or instances k None)).id in
+    let all = handles_are instances (length instances) (omega arith) in
+    let same : (id == id) ≡ true = grind (arith, nat_tests) in
+    ap (λ xs. has (reference_of id) (handles_of xs)) (sym (take-length instances))
+    ∙ (all.has_is id ∙ any_more id instances k (length instances) below (omega arith) (λ i. active i && same i))

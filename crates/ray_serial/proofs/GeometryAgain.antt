@@ -1,5 +1,5 @@
 -- What a geometry that is read is written as are the bytes that it was read from.
-use Rattle.std.proofs.Common.{ℕ, suc, zero, ◌≡◌, ◌<◌, ◌≤◌, ◌+◌, ◌*◌, ◌==◌, ◌&&◌, ◌||◌, ◌^◌, ◌++◌, Bool, true, false, List, [], ◌∷◌, length, take, drop, Option, Some, None, option_map, refl, sym, ap, subst, ◌∙◌, arith, append_assoc}
+use Rattle.std.proofs.Common.{ℕ, suc, zero, ◌≡◌, ◌≤◌, ◌+◌, ◌*◌, ◌==◌, ◌&&◌, ◌++◌, Bool, true, false, List, [], ◌∷◌, length, take, drop, Option, Some, None, option_map, refl, sym, ap, subst, ◌∙◌, arith, append_assoc}
 use Rattle.std.specs.Prelude.{All, IfSome, nat_le, if◌then◌else◌}
 use Rattle.std.specs.List.{flat_map}
 use Rattle.std.proofs.lemmas.Bool.Decides.{nat_tests}
@@ -17,7 +17,7 @@ use Rattle.ray_bottom.specs.declared.geometry.Geometry.{Geometry}
 use Rattle.ray_bottom.specs.declared.shapes.Shapes.{Shapes}
 use Rattle.ray_bottom.specs.declared.shapes.Shapes.TheVariants.{Triangles, Boxes}
 use Rattle.ray_bottom.specs.Contents.{IsGeometry, is_index_size, kind_of, kind_of_shapes, count_of, count_of_shapes, total_of}
-use Rattle.ray_bottom.specs.Storing.{kind_number, opaque_number, format_number, index_number, format_of, index_size_of, stored_shapes, triangles_of, boxes_of_elements, element_bytes, geometry_bytes, AreStored}
+use Rattle.ray_bottom.specs.Storing.{kind_number, opaque_number, format_number, index_number, format_of, index_size_of, stored_shapes, triangles_of, boxes_of_elements, element_bytes, geometry_bytes}
 use Rattle.ray_bottom.proofs.Restoring.{AreStored-shapes, element_bytes-stored}
 use Rattle.ray_serial.specs.Heads.{greatest_opacity, greatest_number, has_zeros, count_in, elements_size, is_head, is_whole, is_geometry, geometry_size, kind_named, format_named, index_size_named, elements_in, shapes_in, geometry_of, geometry_in}
 use Rattle.ray_serial.specs.Rows.{after_first, are_geometries, total_in, with_first, geometries_in}

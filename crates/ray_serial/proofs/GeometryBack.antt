@@ -1,5 +1,5 @@
 -- What a geometry is written as says that geometry.
-use Rattle.std.proofs.Common.{ℕ, suc, zero, ◌≡◌, ◌<◌, ◌≤◌, ◌+◌, ◌*◌, ◌==◌, ◌&&◌, ◌||◌, ◌^◌, ◌++◌, Bool, true, false, List, [], ◌∷◌, length, take, drop, Option, Some, None, option_map, refl, sym, ap, subst, ◌∙◌, arith, length-append, append_assoc, mul-suc}
+use Rattle.std.proofs.Common.{ℕ, ◌≡◌, ◌≤◌, ◌+◌, ◌*◌, ◌==◌, ◌&&◌, ◌||◌, ◌^◌, ◌++◌, Bool, true, false, List, [], ◌∷◌, length, take, drop, Some, None, option_map, refl, sym, ap, subst, ◌∙◌, arith, length-append, append_assoc, mul-suc}
 use Rattle.std.specs.Prelude.{All, nat_le, if◌then◌else◌}
 use Rattle.std.specs.List.{flat_map}
 use Rattle.std.proofs.lemmas.Bool.Decides.{nat_tests}
@@ -7,7 +7,6 @@ use Rattle.std.proofs.lemmas.List.{drop-drop, take_at, drop_at}
 use Rattle.std.proofs.lemmas.List.Concat.{flat_map-cons}
 use Rattle.std.proofs.lemmas.List.Elements.{All-tail}
 use Rattle.std.proofs.lemmas.List.Sums.{sum_by-cons}
-use Rattle.ray_bytes.specs.Fields.{word_at}
 use Rattle.ray_bytes.specs.declared.format.Format.{Format}
 use Rattle.ray_bytes.specs.declared.format.Format.TheVariants.{S32x3, S32x2, S16x3}
 use Rattle.ray_flags.specs.declared.kind.Kind.{Kind}
@@ -20,7 +19,7 @@ use Rattle.ray_bottom.specs.declared.shapes.Shapes.TheVariants.{Triangles, Boxes
 use Rattle.ray_bottom.specs.Contents.{IsGeometry, ShapesAreWithin, is_index_size, kind_of, kind_of_shapes, count_of, count_of_shapes, total_of}
 use Rattle.ray_bottom.specs.Storing.{bytes_of_words, kind_number, opaque_number, format_number, index_number, format_of, index_size_of, stored_shapes, element_bytes, geometry_bytes, geometry_words}
 use Rattle.ray_bottom.proofs.Restoring.{IsStoredBack-geometry}
-use Rattle.ray_serial.specs.Heads.{element_size, greatest_opacity, greatest_number, has_zeros, count_in, elements_size, geometry_size, is_head, is_whole, is_geometry, kind_named, format_named, index_size_named, elements_in, shapes_in, geometry_of, geometry_in}
+use Rattle.ray_serial.specs.Heads.{element_size, greatest_opacity, greatest_number, elements_size, geometry_size, is_head, is_whole, is_geometry, kind_named, format_named, index_size_named, elements_in, shapes_in, geometry_of, geometry_in}
 use Rattle.ray_serial.specs.Rows.{after_first, are_geometries, total_in, with_first, geometries_in}
 use Rattle.ray_serial.proofs.Words.{HasWords, head_bytes, head_back, length-head_bytes, after_head}
 

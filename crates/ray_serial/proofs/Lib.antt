@@ -10,3 +10,7 @@ pub mod Restore
 pub mod TopSteps
 pub mod TopForms
 pub mod Distinct
+pub mod Links
+pub mod TopBack
+pub mod OtherHandles
+pub mod TopStands

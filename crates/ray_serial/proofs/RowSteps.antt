@@ -1,7 +1,6 @@
 -- The steps of the loops over geometries.
-use Rattle.std.proofs.Common.{ℕ, suc, zero, ◌≡◌, ◌<◌, ◌≤◌, ◌+◌, ◌-◌, ◌*◌, ◌==◌, ◌&&◌, Bool, true, false, List, length, Option, Some, None, refl, sym, ap, ◌∙◌, arith}
+use Rattle.std.proofs.Common.{ℕ, suc, ◌≡◌, ◌<◌, ◌+◌, ◌-◌, ◌==◌, ◌&&◌, Bool, true, false, List, length, Option, Some, None, refl, sym, ap, ◌∙◌, arith}
 use Rattle.std.specs.Prelude.{is_some, if◌then◌else◌}
-use Rattle.ray_bottom.specs.declared.geometry.Geometry.{Geometry}
 use Rattle.ray_serial.specs.Heads.{count_in, is_geometry, geometry_in}
 use Rattle.ray_serial.specs.Rows.{after_first, are_geometries, total_in, row_total, with_first, geometries_in}
 

@@ -1,38 +1,34 @@
 -- The form of a top structure as a buffer of instances says it.
-use Rattle.std.proofs.Common.{ℕ, zero, suc, ◌≡◌, ◌<◌, ◌≤◌, ◌+◌, ◌-◌, ◌*◌, ◌/◌, ◌++◌, ◌==◌, ◌&&◌, ◌^◌, Bool, true, false, not, List, [], ◌∷◌, length, take, drop, get_or, map, Option, Some, None, option_map, Result, Ok, Err, refl, sym, ap, subst, ◌∙◌, arith, append_assoc, append-nil, length-append, mul-suc}
-use Rattle.std.specs.Prelude.{ℤ, All, IfOk, slice_get, slice_index, nat_le, nat_lt, is_some, unwrap_or, option_and_then, if◌then◌else◌}
+use Rattle.std.proofs.Common.{ℕ, zero, suc, ◌≡◌, ◌<◌, ◌≤◌, ◌+◌, ◌-◌, ◌*◌, ◌/◌, ◌++◌, ◌==◌, ◌&&◌, ◌^◌, Bool, true, false, not, List, [], ◌∷◌, length, take, drop, get_or, map, Option, Some, None, option_map, Result, Ok, Err, refl, sym, ap, ◌∙◌, arith, append_assoc, append-nil, length-append, mul-suc}
+use Rattle.std.specs.Prelude.{slice_get, nat_le, nat_lt, unwrap_or, option_and_then, if◌then◌else◌}
 use Rattle.std.specs.Int.{w32, cast_signed}
 use Rattle.std.specs.List.{flat_map}
 use Rattle.std.specs.Simd.{first_chunks}
 use Rattle.std.proofs.lemmas.Bool.Decides.{nat_tests}
-use Rattle.std.proofs.lemmas.List.{take_more, take_at, drop_at, drop_all, drop-drop, drop-take, drop-append-le, length-take-le, length-drop, length-map}
+use Rattle.std.proofs.lemmas.List.{take_more, take_at, drop_at, drop-take, drop-append-le, length-take-le, length-drop, length-map}
 use Rattle.std.proofs.lemmas.List.Concat.{flat_map-cons}
-use Rattle.std.proofs.Math.Seq.{take-append_seam, drop-append-add}
+use Rattle.std.proofs.Math.Seq.{drop-append-add}
 use Rattle.byteorder.specs.Endian.{little_bytes, little_number}
 use Rattle.byteorder.specs.Numbers.{little_from-append, little_from-take, little_from-lt, little_number-reads_back, length-bytes_low_first}
 use Rattle.ray_bytes.specs.Fields.{word_at, signed_at, long_at}
-use Rattle.ray_bytes.specs.Records.{instance_of, transform_of, low_bits, high_bits}
+use Rattle.ray_bytes.specs.Records.{instance_of, low_bits, high_bits}
 use Rattle.ray_bytes.specs.References.{structure_of, names_structure}
 use Rattle.ray_bytes.specs.Slices.{record_at}
-use Rattle.ray_bytes.specs.Views.{Row}
 use Rattle.ray_bytes.specs.declared.data_rule.DataRule.{DataRule}
-use Rattle.ray_bytes.specs.declared.data_rule.DataRule.TheVariants.{X5}
-use Rattle.ray_bytes.specs.declared.data_fault.DataFault.{DataFault}
 use Rattle.ray_bytes.specs.declared.instance_record.InstanceRecord.{InstanceRecord}
-use Rattle.ray_bytes.specs.declared.reference.Reference.{Reference}
 use Rattle.ray_bytes.specs.declared.reference.Reference.TheVariants.{Inactive, Structure, Unknown}
 use Rattle.ray_contents.specs.Gathering.{gathered, with_next}
 use Rattle.ray_primitives.specs.Outcomes.{at_element}
 use Rattle.ray_top.specs.declared.used.Used.{Used}
-use Rattle.ray_top.specs.Contents.{TopValue, top_with, top_built, has_both_fast}
+use Rattle.ray_top.specs.Contents.{top_with, top_built, has_both_fast}
 use Rattle.ray_top.specs.Instances.{InstanceValue}
-use Rattle.ray_top.specs.InstanceReading.{bounds_in, in_use, referring, instance_read, updated_instance, record_in, instance_element, instances_read}
-use Rattle.ray_serial.specs.Heads.{element_size, count_in, elements_size, geometry_size, is_head, is_whole, is_geometry, greatest_opacity, greatest_number, has_zeros}
-use Rattle.ray_serial.specs.Rows.{after_first, are_geometries, total_in, row_total}
+use Rattle.ray_top.specs.InstanceReading.{referring, instance_read, updated_instance, instance_element}
+use Rattle.ray_serial.specs.Heads.{element_size, count_in, elements_size, geometry_size, is_head, is_whole, is_geometry}
+use Rattle.ray_serial.specs.Rows.{after_first, row_total}
 use Rattle.ray_serial.specs.InstanceBytes.{is_active, instance_parts}
 use Rattle.ray_serial.specs.Form.{handle_count_in, payload_in, is_top_payload, flags_of_payload, geometry_count, row_of, instances_of_payload, at_most, bottom_total, top_total, has_flags, total_of_payload}
-use Rattle.ray_serial.specs.Meaning.{KeepsLines, IsForm, is_top_form, handle_at, handle_in}
-use Rattle.ray_serial.specs.TopMeaning.{with_reference, reference_in, referring_instance, instance_in, instances_in, linked, instance_linked, linked_at, top_in, not_zero, put_reference, put_part, put_parts}
+use Rattle.ray_serial.specs.Meaning.{KeepsLines, IsForm, is_top_form, handle_at}
+use Rattle.ray_serial.specs.TopMeaning.{with_reference, reference_in, instance_in, instances_in, linked, instance_linked, linked_at, top_in, not_zero, put_reference, put_part, put_parts}
 use Rattle.ray_serial.proofs.Words.{AreBytes, AreBytes-drop}
 use Rattle.ray_serial.proofs.KeptLines.{KeepsLines-unbroken}
 

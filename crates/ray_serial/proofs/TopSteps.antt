@@ -1,6 +1,6 @@
 -- The steps of the loops over instances, and where a handle is found.
 use Rattle.std.proofs.Common.{ℕ, zero, suc, ◌≡◌, ◌<◌, ◌≤◌, ◌+◌, ◌*◌, ◌++◌, ◌==◌, ◌^◌, Bool, true, false, not, List, [], ◌∷◌, length, take, get_or, Option, Some, None, option_map, Result, Ok, Err, fold, refl, sym, ap, subst, ◌∙◌, arith, append_assoc, append-nil, length-append, mul-suc, inl, inr, to_z, of_z}
-use Rattle.std.specs.Prelude.{All, IfSome, slice_get, slice_index_or, if◌then◌else◌, MatchResult}
+use Rattle.std.specs.Prelude.{IfSome, slice_get, slice_index_or, if◌then◌else◌, MatchResult}
 use Rattle.std.specs.List.{flat_map, position_or_len, AllByRecursion}
 use Rattle.std.specs.List.Sorted.{IsStrictlySortedBy, IsBinarySearchResult}
 use Rattle.std.specs.Ordering.{nat_cmp}
@@ -12,7 +12,7 @@ use Rattle.std.proofs.lemmas.List.Concat.{flat_map-cons}
 use Rattle.std.proofs.lemmas.List.Sums.{fold_more}
 use Rattle.std.proofs.lemmas.List.Sorted.{searched}
 use Rattle.std.proofs.lemmas.Option.{slice_get-get_or}
-use Rattle.ray_top.specs.Contents.{IsTop, IsInstance, IsActive, TopValue, ContentsValue}
+use Rattle.ray_top.specs.Contents.{IsTop, IsActive, TopValue, ContentsValue}
 use Rattle.ray_top.specs.Instances.{InstanceValue, told_instance}
 use Rattle.ray_top.specs.declared.instance.Instance.{Instance}
 use Rattle.std.specs.Prelude.{ℤ, pos, replicate}

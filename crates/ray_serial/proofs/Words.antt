@@ -1,15 +1,13 @@
 -- Words and long numbers that are written and read back, and the other way round.
-use Rattle.std.proofs.Common.{ℕ, suc, zero, ◌≡◌, ◌<◌, ◌≤◌, ◌+◌, ◌*◌, ◌==◌, ◌&&◌, ◌^◌, ◌++◌, Bool, true, false, List, [], ◌∷◌, length, take, drop, slice_index, refl, sym, ap, ◌∙◌, arith}
-use Rattle.std.specs.List.{flat_map}
-use Rattle.std.proofs.lemmas.List.{get_or-drop, get_or-take}
+use Rattle.std.proofs.Common.{ℕ, suc, zero, ◌≡◌, ◌<◌, ◌≤◌, ◌+◌, ◌==◌, ◌&&◌, ◌^◌, ◌++◌, Bool, true, false, List, [], ◌∷◌, length, take, drop, slice_index, refl, sym, ◌∙◌, arith}
+use Rattle.std.proofs.lemmas.List.{get_or-drop}
 use Rattle.std.proofs.lemmas.Bool.Decides.{nat_tests}
 use Rattle.byteorder.specs.Endian.{little_bytes, little_number}
 use Rattle.byteorder.specs.Numbers.{little_number-reads_back}
-use Rattle.ray_bytes.specs.Fields.{word_at, long_at}
+use Rattle.ray_bytes.specs.Fields.{word_at}
 use Rattle.ray_bytes.proofs.LittleBytes.{little_bytes-at}
 use Rattle.ray_bottom.specs.Storing.{bytes_of_words}
 use Rattle.ray_serial.specs.Heads.{has_zeros, count_in}
-use Rattle.ray_serial.specs.Written.{long_bytes}
 
 -- bytes are below 256
 pub record AreBytes (bytes : List ℕ) : Type 0 where

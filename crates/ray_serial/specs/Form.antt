@@ -10,7 +10,7 @@
 --     56       h handles of 64 bits
 --     56 + 8 h the payload: four words of 32 bits, which are the number of its kind (0 a bottom, 1 a top), its build flags,
 --              its count of geometries and 0; and its geometries, each with its head and its elements
-use Rattle.std.specs.Prelude.{ℕ, ◌+◌, ◌*◌, ◌==◌, ◌&&◌, ◌||◌, not, nat_eq, nat_le, nat_lt, Bool, if◌then◌else◌, Option, Some, None, is_none, List, [], ◌∷◌, codes, length, take, drop, Result, Ok, Err}
+use Rattle.std.specs.Prelude.{ℕ, ◌+◌, ◌*◌, ◌==◌, ◌&&◌, ◌||◌, not, nat_eq, nat_le, nat_lt, Bool, if◌then◌else◌, Option, Some, None, is_none, List, codes, length, take, drop}
 use Rattle.std.specs.Cmp.Lexicographic.{pointwise}
 use Rattle.ray_bytes.specs.Fields.{word_at, long_at}
 use Rattle.ray_bytes.specs.StructureSizes.{structure_size}

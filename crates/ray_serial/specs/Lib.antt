@@ -6,3 +6,5 @@ pub mod Meaning
 pub mod Written
 pub mod TopWritten
 pub mod TopMeaning
+pub mod Replaced
+pub mod Standing

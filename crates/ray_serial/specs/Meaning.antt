@@ -1,5 +1,5 @@
 -- What bytes that are a form stand for. (Own: the form.)
-use Rattle.std.specs.Prelude.{ℕ, ◌≡◌, ◌+◌, ◌*◌, ◌≤◌, zero, suc, Bool, false, nat_lt, if◌then◌else◌, Result, Ok, Err, Option, Some, None, option_map, List, [], ◌∷◌, length, take, drop, map, All, ◌^◌}
+use Rattle.std.specs.Prelude.{ℕ, ◌≡◌, ◌+◌, ◌*◌, ◌≤◌, Bool, false, nat_lt, if◌then◌else◌, Result, Ok, Err, Option, Some, None, option_map, List, length, take, drop, map, All, ◌^◌}
 use Rattle.std.specs.List.{range_with_len}
 use Rattle.ray_bytes.specs.Fields.{long_at}
 use Rattle.ray_bytes.specs.StructureSizes.{structure_size}

@@ -3,7 +3,6 @@
 use Rattle.std.specs.Prelude.{ℕ, ◌-◌, ◌==◌, if◌then◌else◌, Result, Ok, Err, Option, Some, None, option_and_then, unwrap_or, List, ◌++◌, length, map, slice_get, take}
 use Rattle.std.specs.List.{flat_map}
 use Rattle.byteorder.specs.Endian.{little_bytes}
-use Rattle.ray_geom.specs.Boxes.{BoxValue}
 use Rattle.ray_bytes.specs.declared.data_rule.DataRule.{DataRule}
 use Rattle.ray_bytes.specs.declared.data_rule.DataRule.TheVariants.{X5, X7}
 use Rattle.ray_bytes.specs.declared.data_fault.DataFault.{DataFault}

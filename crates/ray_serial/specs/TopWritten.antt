@@ -3,14 +3,15 @@
 --
 -- By hand, of an instance with the identity, mask 255 and the structure 0 alone: the one handle is 256, and the 64 bytes are
 -- those of the instance in a buffer, with 1 in place of the reference 256.
-use Rattle.std.specs.Prelude.{ℕ, ℤ, pos, ◌+◌, ◌*◌, ◌^◌, ◌<◌, ◌==◌, ◌&&◌, Bool, slice_index_or, if◌then◌else◌, Option, List, [], ◌∷◌, ◌++◌, length, fold, replicate}
+use Rattle.std.specs.Prelude.{ℕ, ℤ, pos, ◌+◌, ◌*◌, ◌^◌, ◌<◌, ◌==◌, ◌&&◌, Bool, slice_index_or, if◌then◌else◌, Option, List, [], ◌∷◌, ◌++◌, length, fold, replicate, All, Some, None, map}
 use Rattle.std.specs.Int.{w32, cast_unsigned}
 use Rattle.std.specs.Int.RustNames.{FitsSigned}
 use Rattle.std.specs.List.{flat_map, position_or_len}
 use Rattle.std.specs.Ordering.{nat_cmp}
 use Rattle.std.specs.BTreeSet.{insert_key}
 use Rattle.byteorder.specs.Endian.{little_bytes}
-use Rattle.ray_geom.specs.Transform.{rows_of}
+use Rattle.ray_geom.specs.Transform.{MatrixValue, rows_of}
+use Rattle.ray_bytes.specs.declared.instance_record.InstanceRecord.{InstanceRecord}
 use Rattle.ray_bytes.specs.References.{reference_of}
 use Rattle.ray_bytes.specs.StructureSizes.{structure_size}
 use Rattle.ray_bottom.specs.Storing.{bytes_of_words}
@@ -55,6 +56,28 @@ unfoldable pub instance_bytes : List ℕ → Instance → List ℕ
 instance_bytes handles told =
     if told.active then placed_bytes (handle_number handles (reference_of told.id)) told else replicate 64 0
 
+-- the record of an instance, which refers to its structure; none where it is inactive
+abbrev pub matrix_entries : MatrixValue → List ℤ
+matrix_entries m =
+    m.a.x ∷ m.a.y ∷ m.a.z ∷ m.t.x ∷ m.b.x ∷ m.b.y ∷ m.b.z ∷ m.t.y ∷ m.c.x ∷ m.c.y ∷ m.c.z ∷ m.t.z ∷ []
+
+abbrev pub record_of : Instance → InstanceRecord
+record_of told = record {
+  rows = matrix_entries told.matrix;
+  custom = told.custom;
+  mask = told.mask;
+  sbt = told.sbt;
+  flags = told.flags.0;
+  reference = reference_of told.id;
+}
+
+abbrev pub told_record : Instance → Option InstanceRecord
+told_record told = if told.active then Some (record_of told) else None
+
+-- those of all instances
+abbrev pub records_of : List (Option InstanceValue) → List (Option InstanceRecord)
+records_of instances = map (λ i. told_record (told_instance i)) instances
+
 -- ---- the whole
 
 -- all instances
@@ -88,6 +111,15 @@ pub record FitsBits (told : Instance) : Type 0 where
   pub custom : told.custom < 2 ^ 24
   pub sbt : told.sbt < 2 ^ 24
   pub flags : told.flags.0 < 16
+
+-- the mask and the id of an instance fit their bits
+pub record FitsTold (told : Instance) : Type 0 where
+  pub mask : told.mask < 2 ^ 8
+  pub id : told.id < 2 ^ 32
+
+-- those of each instance
+pub record AreNarrow (instances : List (Option InstanceValue)) : Type 0 where
+  pub each : All (λ i. FitsTold (told_instance i)) instances
 
 -- handles rise
 pub record IsRising (handles : List ℕ) : Type 0 where

@@ -1,4 +1,5 @@
-ghost use Rattle.std.specs.Prelude.{◌≡◌, ◌≤◌, ◌<◌, ◌&&◌, not, length, ◌==◌, take, slice_index_or, None};
+ghost use Rattle.std.specs.Prelude.{◌≡◌, ◌≤◌, ◌<◌, ◌&&◌, ◌==◌, not, length, take, None};
+ghost use Rattle.std.specs.Prelude.{slice_index_or};
 ghost use Rattle.std.specs.List.{list_any};
 ghost use Rattle.ray_top.specs.Instances.{told_instance};
 ghost use Rattle.ray_serial.specs.TopWritten.{handles_of, top_form, refers_to};
@@ -8,7 +9,8 @@ use ray_top::{Instance, Top};
 
 /// How many handles the form of a top structure has: the distinct structures that its active
 /// instances refer to. It takes no memory, and so time in the number of instances times the number
-/// of the structures. (VK_QUERY_TYPE_ACCELERATION_STRUCTURE_SERIALIZATION_BOTTOM_LEVEL_POINTERS_KHR)
+/// of the structures.
+/// (VK_QUERY_TYPE_ACCELERATION_STRUCTURE_SERIALIZATION_BOTTOM_LEVEL_POINTERS_KHR)
 pub fn handle_count(top: &Top) -> u32
     ensures { result ≡ length (handles_of top.now.contents.instances) }
 {

@@ -28,7 +28,7 @@ fn element_size(kind: u32) -> u64
 
 // How many elements the geometry has that begins here.
 #[tactic(auto, unfolding(crate::specs::Heads::count_in))]
-fn count_in(rest: &[u8]) -> u32
+pub(crate) fn count_in(rest: &[u8]) -> u32
     requires { 32 ≤ length rest.now }
     ensures { result ≡ count_in rest.now }
 {
@@ -95,6 +95,7 @@ fn is_whole(rest: &[u8]) -> bool
 pub(crate) fn is_geometry(kind: u32, rest: &[u8]) -> bool
     ensures value { result ≡ is_geometry kind rest.now }
     ensures whole { OnTrue result (is_whole rest.now ≡ true) }
+    ensures room { OnTrue result (32 ≤ length rest.now) }
 {
     is_whole(rest) && is_head(kind, rest)
 }
@@ -155,15 +156,6 @@ fn index_size_named(number: u32) -> u8
     } else {
         4
     }
-}
-
-// How many elements a geometry has.
-#[tactic(auto, unfolding(crate::specs::Heads::is_whole))]
-pub(crate) fn element_count(rest: &[u8]) -> u32
-    requires { is_whole rest.now ≡ true }
-    ensures { result ≡ count_in rest.now }
-{
-    count_in(rest)
 }
 
 // The geometry as it is stored.

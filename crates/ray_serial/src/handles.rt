@@ -1,6 +1,8 @@
 ghost use Rattle.std.specs.Prelude.{◌≡◌, ◌<◌, None, IfOk, OnOk, length, slice_index_or};
 ghost use Rattle.ray_top.specs.Instances.{told_instance};
-ghost use Rattle.ray_serial.specs.TopWritten.{with_handle, handles_of, handle_number, FitsBits, IsRising};
+ghost use Rattle.ray_serial.specs.TopWritten.{with_handle, handles_of, handle_number};
+ghost use Rattle.ray_serial.specs.TopWritten.{FitsBits, IsRising};
+ghost use Rattle.ray_serial.specs.TopWritten.{FitsTold, AreNarrow};
 
 use ray_bytes::reference_of;
 use ray_top::{Instance, Top};
@@ -23,6 +25,7 @@ pub(crate) fn handles_of(alloc: Global, top: &Top) -> Result<Vec<u64>, NoMemory>
     ensures value { IfOk result (λ handles.
         handles.items ≡ handles_of top.now.contents.instances) }
     ensures rising { IfOk result (λ handles. IsRising handles.items) }
+    ensures narrow { OnOk result (AreNarrow top.now.contents.instances) }
 {
     let noted = noted(alloc, top)?;
     listed(alloc, &noted)
@@ -30,7 +33,8 @@ pub(crate) fn handles_of(alloc: Global, top: &Top) -> Result<Vec<u64>, NoMemory>
 
 // The same as a set.
 fn noted(alloc: Global, top: &Top) -> Result<BTreeSet<u64>, NoMemory>
-    ensures { IfOk result (λ noted. noted.keys ≡ handles_of top.now.contents.instances) }
+    ensures value { IfOk result (λ noted. noted.keys ≡ handles_of top.now.contents.instances) }
+    ensures narrow { OnOk result (AreNarrow top.now.contents.instances) }
 {
     let mut noted = BTreeSet::new(alloc);
     for i in 0..top.len() {
@@ -41,7 +45,8 @@ fn noted(alloc: Global, top: &Top) -> Result<BTreeSet<u64>, NoMemory>
 
 // One instance more.
 fn note(noted: &mut BTreeSet<u64>, told: Instance) -> Result<(), NoMemory>
-    ensures { OnOk result (noted.new.keys ≡ with_handle noted.old.keys told) }
+    ensures value { OnOk result (noted.new.keys ≡ with_handle noted.old.keys told) }
+    ensures narrow { FitsTold told }
 {
     if told.active {
         noted.insert(reference_of(told.id))?;

@@ -1,5 +1,14 @@
-//! Serialized structures: the bytes that a structure is written as, which are read where they
-//! stand and refused at their first fault.
+//! Serialized structures: the form that a structure is written as, which is read where its bytes
+//! stand and refused at its first fault.
+//!
+//! The layer above uses [`SerialView`], which contracts see as the bytes, a form: `open` says by
+//! `opened` of `specs/Meaning` which of the eight lines of `specs/Form` bytes break first, and
+//! takes no memory; `to_bottom` and `to_top` say by `bottom_in` and `top_in` which structure it
+//! stands for. [`serialize`] and [`serialize_top`] give `bottom_form` and `top_form` of the
+//! contents, which are forms that stand for them.
+//!
+//! It stands on `ray_bottom` (the payload and back), `ray_top` (instances and how they are read),
+//! `ray_bytes` and `ray_flags`.
 #![tactic(auto)]
 
 mod counting;
@@ -7,6 +16,7 @@ mod fields;
 mod geometry;
 mod handles;
 mod instances;
+mod laws;
 mod lines;
 mod linking;
 mod restoring;
@@ -20,6 +30,7 @@ mod view;
 mod writing;
 
 pub use crate::counting::{handle_count, serialized_size_top};
+pub use crate::laws::replaced_law;
 pub use crate::serial_fault::SerialFault;
 pub use crate::top_writing::serialize_top;
 pub use crate::view::SerialView;

@@ -1,10 +1,10 @@
-ghost use Rattle.std.specs.Prelude.{◌≡◌, ◌++◌, true, OnOk, IfOk, length};
+ghost use Rattle.std.specs.Prelude.{◌≡◌, ◌++◌, true, OnOk, IfOk, IfErr, length};
 ghost use Rattle.ray_primitives.specs.Outcomes.{Gives};
 ghost use Rattle.ray_serial.specs.Form.{payload_in, instances_of_payload};
 ghost use Rattle.ray_serial.specs.InstanceBytes.{instance_parts};
 ghost use Rattle.ray_serial.specs.Meaning.{IsForm, is_top_form, HasRoom};
 ghost use Rattle.ray_serial.specs.TopMeaning.{reference_in, not_zero, put_reference, put_part};
-ghost use Rattle.ray_serial.specs.TopMeaning.{put_parts, top_in};
+ghost use Rattle.ray_serial.specs.TopMeaning.{put_parts, top_in, IsLinkRule};
 
 use crate::instances::record_of;
 use crate::lines::{flags_of_payload, instances_of_payload, payload_in};
@@ -25,7 +25,8 @@ pub(crate) fn top_of<R: Threads + Sync>(
     requires form { IsForm bytes.now }
     requires top { is_top_form bytes.now ≡ true }
     requires limits { HasRoom bytes.now }
-    ensures { Gives (top_in used.now bytes.now) result }
+    ensures value { Gives (top_in used.now bytes.now) result }
+    ensures rules { IfErr (top_in used.now bytes.now) (λ fault. IsLinkRule fault.rule) }
 {
     let payload = payload_in(bytes);
     let (parts, _) = instances_of_payload(payload).as_chunks::<64>();

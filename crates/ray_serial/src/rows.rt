@@ -1,7 +1,7 @@
 ghost use Rattle.std.specs.Prelude.{◌≡◌, is_some};
 ghost use Rattle.ray_serial.specs.Rows.{row_total, geometries_in};
 
-use crate::geometry::{after_first, element_count, is_geometry, is_sound};
+use crate::geometry::{after_first, count_in, is_geometry, is_sound};
 
 // How many elements n geometries have together, where those of one kind fill the bytes.
 pub(crate) fn row_total(kind: u32, n: u32, bytes: &[u8]) -> Option<u64>
@@ -13,7 +13,7 @@ pub(crate) fn row_total(kind: u32, n: u32, bytes: &[u8]) -> Option<u64>
         if !is_geometry(kind, rest) {
             return None;
         }
-        total += u64::from(element_count(rest));
+        total += u64::from(count_in(rest));
         rest = after_first(rest);
     }
     if rest.is_empty() { Some(total) } else { None }

@@ -195,17 +195,17 @@ fn linked<R: AllocGlobal + Threads + Sync>(
     rt: &R,
     bytes: &[u8],
     id: u32,
-) -> Result<Told, AllocError> {
+) -> Result<Outcome, AllocError> {
     let used = used(rt.alloc(), id)?;
     match SerialView::open(bytes) {
         Ok(view) => {
             if view.is_top() {
                 Ok(told(view.to_top(rt, rt.alloc(), used.as_slice())))
             } else {
-                Ok(Told::Other)
+                Ok(Outcome::Other)
             }
         }
-        Err(_) => Ok(Told::Other),
+        Err(_) => Ok(Outcome::Other),
     }
 }
 
@@ -239,11 +239,11 @@ fn writes_the_instance(rt: HostRuntime) -> Result<(), Fail> {
 // The handle is the reference of a structure in use, of one out of use, or 0.
 #[test]
 fn links_instances(rt: HostRuntime) -> Result<(), Fail> {
-    let x5 = Told::Broken(DataRule::X5, Some(0));
-    let cases: [(u64, u32, Told); 4] = [
-        (256, 0, Told::Built(Some(0))),
+    let x5 = Outcome::Broken(DataRule::X5, Some(0));
+    let cases: [(u64, u32, Outcome); 4] = [
+        (256, 0, Outcome::Built(Some(0))),
         (256, 1, x5),
-        (512, 1, Told::Built(Some(1))),
+        (512, 1, Outcome::Built(Some(1))),
         (0, 0, x5),
     ];
     for (handle, id, want) in cases {
@@ -255,19 +255,19 @@ fn links_instances(rt: HostRuntime) -> Result<(), Fail> {
 
 // What is told of what is built: the structure of the first instance, or the broken rule.
 #[derive(Clone, Copy, Debug, PartialEq, Eq)]
-enum Told {
+enum Outcome {
     Built(Option<u32>),
     Broken(DataRule, Option<u32>),
     Other,
 }
 
-fn told(built: Result<Top, BuildFault>) -> Told {
+fn told(built: Result<Top, BuildFault>) -> Outcome {
     match built {
         Ok(top) => match top.instance(0) {
-            Some(first) => Told::Built(Some(first.id)),
-            None => Told::Built(None),
+            Some(first) => Outcome::Built(Some(first.id)),
+            None => Outcome::Built(None),
         },
-        Err(BuildFault::Data(fault)) => Told::Broken(fault.rule, fault.element),
-        Err(BuildFault::NoMemory) => Told::Other,
+        Err(BuildFault::Data(fault)) => Outcome::Broken(fault.rule, fault.element),
+        Err(BuildFault::NoMemory) => Outcome::Other,
     }
 }

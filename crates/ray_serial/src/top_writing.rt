@@ -1,4 +1,4 @@
-ghost use Rattle.std.specs.Prelude.{◌≡◌, ◌++◌, IfOk, OnOk, replicate};
+ghost use Rattle.std.specs.Prelude.{◌≡◌, ◌<◌, ◌++◌, IfOk, OnOk, replicate};
 ghost use Rattle.std.specs.List.{flat_map};
 ghost use Rattle.std.specs.Int.{w32, cast_unsigned};
 ghost use Rattle.std.specs.Int.RustNames.{FitsSigned};
@@ -6,7 +6,9 @@ ghost use Rattle.byteorder.specs.Endian.{little_bytes};
 ghost use Rattle.ray_geom.specs.Transform.{rows_of};
 ghost use Rattle.ray_serial.specs.TopWritten.{row_words, instance_words, FitsRow, FitsBits};
 ghost use Rattle.ray_serial.specs.TopWritten.{placed_bytes, instance_bytes, all_instance_bytes};
-ghost use Rattle.ray_serial.specs.TopWritten.{top_head, top_payload, top_form, IsRising};
+ghost use Rattle.ray_serial.specs.TopWritten.{top_head, top_payload, top_form, IsRising, AreNarrow};
+ghost use Rattle.ray_serial.specs.Meaning.{IsForm};
+ghost use Rattle.ray_serial.specs.Standing.{StandsFor};
 
 use crate::handles::{handle_number, handles_of, told};
 use crate::writing::form_bytes;
@@ -136,11 +138,24 @@ fn top_payload(alloc: Global, handles: &[u64], top: &Top) -> Result<Vec<u8>, NoM
     Ok(bytes)
 }
 
-/// The form of a top structure. (Own: the form;
-/// vkCmdCopyAccelerationStructureToMemoryKHR.)
-#[tactic(auto, unfolding(crate::specs::TopWritten::top_form))]
+/// The form of a top structure, where the flags of its build are flags that there are, which are
+/// below 32. (Own: the form; vkCmdCopyAccelerationStructureToMemoryKHR.)
 pub fn serialize_top(alloc: Global, top: &Top) -> Result<Vec<u8>, NoMemory>
     ensures value { IfOk result (λ bytes. bytes.items ≡ top_form top.now.contents) }
+    ensures form { top.now.contents.flags.0 < 32 → IfOk result (λ bytes. IsForm bytes.items) }
+    ensures stands { top.now.contents.flags.0 < 32 → IfOk result (λ bytes.
+        StandsFor top.now.contents bytes.items) }
+{
+    // The instances are within the limits.
+    let _len = top.len();
+    top_form(alloc, top)
+}
+
+// The same, whose instances are known to be narrow.
+#[tactic(auto, unfolding(crate::specs::TopWritten::top_form))]
+fn top_form(alloc: Global, top: &Top) -> Result<Vec<u8>, NoMemory>
+    ensures value { IfOk result (λ bytes. bytes.items ≡ top_form top.now.contents) }
+    ensures narrow { OnOk result (AreNarrow top.now.contents.instances) }
 {
     let handles = handles_of(alloc, top)?;
     let payload = top_payload(alloc, handles.as_slice(), top)?;

@@ -1,7 +1,7 @@
-ghost use Rattle.std.specs.Prelude.{◌≡◌, ◌≤◌, Some, IfOk, false, true, length};
+ghost use Rattle.std.specs.Prelude.{◌≡◌, ◌≤◌, Some, IfOk, IfErr, false, true, length};
 ghost use Rattle.ray_primitives.specs.Outcomes.{Gives};
 ghost use Rattle.ray_serial.specs.Form.{payload_in};
-ghost use Rattle.ray_serial.specs.TopMeaning.{top_in};
+ghost use Rattle.ray_serial.specs.TopMeaning.{top_in, IsLinkRule};
 ghost use Rattle.ray_serial.specs.Meaning.{IsForm, opened, is_top_form, deserialized_in};
 ghost use Rattle.ray_serial.specs.Meaning.{handle_in, bottom_in, HasRoom};
 ghost use Rattle.ray_serial.specs.Written.{bottom_form};
@@ -55,7 +55,7 @@ impl<'a> SerialView<'a> {
     pub fn is_top(&self) -> bool
         ensures { result ≡ is_top_form self.now }
     {
-        is_top_payload(self.payload())
+        is_top_payload(payload_in(self.whole()))
     }
 
     /// How many bytes the structure takes that it stands for.
@@ -94,25 +94,18 @@ impl<'a> SerialView<'a> {
     ) -> Result<Top, BuildFault>
         requires { is_top_form self.now ≡ true }
         ensures value { Gives (top_in used.now self.now) result }
+        ensures rules { IfErr (top_in used.now self.now) (λ fault. IsLinkRule fault.rule) }
     {
         top_of(rt, alloc, self.whole(), used)
     }
 
     // The bytes.
-    fn whole(&self) -> &'a [u8]
+    pub(crate) fn whole(&self) -> &'a [u8]
         ensures value { result.now ≡ self.now }
         ensures form { IsForm result.now }
         ensures limits { HasRoom result.now }
     {
         self.bytes
-    }
-
-    // The payload.
-    fn payload(&self) -> &'a [u8]
-        ensures value { result.now ≡ payload_in self.now }
-        ensures limits { 16 ≤ length result.now }
-    {
-        payload_in(self.whole())
     }
 }
 

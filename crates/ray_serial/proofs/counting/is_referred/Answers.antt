@@ -1,4 +1,4 @@
-use Rattle.std.proofs.Common.{◌&&◌, ◌==◌, sym, ap, ◌∙◌, arith}
+use Rattle.std.proofs.Common.{◌&&◌, ◌==◌, sym, ap, ◌∙◌}
 use Rattle.ray_top.specs.declared.instance.Instance.{Instance}
 use Rattle.ray_serial.proofs.Distinct.{any_more}
 use Rattle.ray_serial.proofs.counting.is_referred.Goals as goal

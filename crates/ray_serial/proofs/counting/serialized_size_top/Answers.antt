@@ -1,4 +1,4 @@
-use Rattle.std.proofs.Common.{length, sym, ap, ◌∙◌, ◌+◌, ◌*◌, arith}
+use Rattle.std.proofs.Common.{sym, ◌∙◌, ◌+◌, ◌*◌}
 use Rattle.ray_serial.proofs.TopSteps.{length-top_form}
 use Rattle.ray_serial.proofs.counting.serialized_size_top.Goals as goal
 

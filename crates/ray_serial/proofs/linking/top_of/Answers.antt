@@ -5,10 +5,10 @@ use Rattle.ray_flags.specs.declared.build_flags.BuildFlags.{BuildFlags}
 use Rattle.ray_primitives.specs.Outcomes.{Gives}
 use Rattle.ray_top.specs.Contents.{TopValue, has_both_fast, top_built}
 use Rattle.ray_serial.specs.InstanceBytes.{instance_parts}
-use Rattle.ray_serial.specs.Form.{payload_in, instances_of_payload, flags_of_payload}
+use Rattle.ray_serial.specs.Form.{instances_of_payload, flags_of_payload}
 use Rattle.ray_serial.specs.TopMeaning.{put_parts}
-use Rattle.ray_serial.proofs.Words.{AreBytes}
 use Rattle.ray_serial.proofs.TopForms.{top_says, top_same}
+use Rattle.ray_serial.proofs.Links.{top_in-rule}
 use Rattle.ray_serial.proofs.linking.top_of.Goals as goal
 
 pub overflow_cast-parts : goal.overflow_cast-parts
@@ -34,8 +34,8 @@ build-requires-clause-count g c _ _ =
     let parts = ap length (c.as_chunks.ensures.front ∙ ap instance_parts (c.instances_of_payload.ensures ∙ ap instances_of_payload c.payload_in-payload.ensures.value)) in
     omega arith
 
-pub returns : goal.returns
-returns g c =
+pub returns-clause-value : goal.returns-clause-value
+returns-clause-value g c =
     let parts = c.as_chunks.ensures.front ∙ ap instance_parts (c.instances_of_payload.ensures ∙ ap instances_of_payload c.payload_in-payload.ensures.value) in
     let flags = c.flags_of_payload-flags.ensures ∙ ap flags_of_payload c.payload_in-payload.ensures.value in
     let buffer = c.as_slice.ensures.value ∙ (c.in_ok-buffer.ensures ∙ ap (put_parts c.args.bytes.now) parts) in
@@ -46,3 +46,9 @@ returns g c =
     ((λ i. top_built (flags i) c.args.used.now (view i) (length (parts i)))
     ∙ top_same c.args.used.now c.args.bytes.now (record { each = λ i. let f = c.type_inv.bytes i in omega arith }) c.requires.form c.requires.top)
     c.build.ensures.value
+
+pub returns-clause-rules : goal.returns-clause-rules
+returns-clause-rules g c = top_in-rule c.args.used.now c.args.bytes.now c.requires.form c.requires.top
+
+pub returns-in_err-buffer-clause-rules : goal.returns-in_err-buffer-clause-rules
+returns-in_err-buffer-clause-rules g c = top_in-rule c.args.used.now c.args.bytes.now c.requires.form c.requires.top

@@ -1,13 +1,23 @@
-use Rattle.std.proofs.Common.{ℕ, List, ◌<◌, ◌^◌, sym, ap, subst, ◌∙◌}
-use Rattle.ray_serial.specs.Written.{form_size}
-use Rattle.ray_serial.specs.TopWritten.{top_payload}
-use Rattle.ray_serial.proofs.TopSteps.{top_few}
+use Rattle.std.proofs.Common.{ℕ, List, ◌≡◌, sym, subst}
+use Rattle.ray_serial.specs.Meaning.{IsForm}
+use Rattle.ray_serial.specs.TopWritten.{top_form, AreNarrow}
+use Rattle.ray_serial.proofs.TopBack.{IsForm-top_form, IfOk-both}
+use Rattle.ray_serial.specs.Standing.{StandsFor}
+use Rattle.ray_serial.proofs.TopStands.{StandsFor-top_form}
 use Rattle.ray_serial.proofs.top_writing.serialize_top.Goals as goal
 
-pub form_bytes-requires : goal.form_bytes-requires
-form_bytes-requires c =
-    let first = c.as_slice.ensures.value ∙ c.in_ok-handles.ensures.value in
-    let handles = c.as_slice-2.ensures.value ∙ c.in_ok-handles.ensures.value in
-    let payload = c.as_slice-3.ensures.value ∙ (c.in_ok-payload.ensures ∙ ap (λ hs. top_payload hs c.args.top.now.contents) first) in
-    let P : ℕ → Type 0 = λ n. n < 2 ^ 64 in
-    subst P (sym (λ i. form_size (handles i) (payload i))) (top_few c.args.top.now.contents c.len.ensures.limits.count)
+pub returns-clause-form : goal.returns-clause-form
+returns-clause-form c = λ known.
+    let t = c.args.top.now in
+    let P : List ℕ → Type 0 = λ bytes. IsForm bytes in
+    IfOk-both (λ v. v.items ≡ top_form t.contents) (λ v. IsForm v.items) (AreNarrow t.contents.instances) c.top_form.result
+    (λ v e narrow. subst P (sym e) (IsForm-top_form t (record { is = c.len-len.ensures.limits; fits = narrow.each; known = known })))
+    c.top_form.ensures.value c.top_form.ensures.narrow
+
+pub returns-clause-stands : goal.returns-clause-stands
+returns-clause-stands c = λ known.
+    let t = c.args.top.now in
+    let P : List ℕ → Type 0 = λ bytes. StandsFor t.contents bytes in
+    IfOk-both (λ v. v.items ≡ top_form t.contents) (λ v. StandsFor t.contents v.items) (AreNarrow t.contents.instances) c.top_form.result
+    (λ v e narrow. subst P (sym e) (StandsFor-top_form t (record { is = c.len-len.ensures.limits; fits = narrow.each; known = known })))
+    c.top_form.ensures.value c.top_form.ensures.narrow

@@ -1,5 +1,4 @@
-use Rattle.std.proofs.Common.{sym, ap, ◌∙◌, ◌++◌}
-use Rattle.ray_serial.specs.Written.{long_bytes}
+use Rattle.std.proofs.Common.{ap, ◌∙◌, ◌++◌}
 use Rattle.ray_serial.proofs.Headers.{long_bytes_none, long_bytes_more}
 use Rattle.ray_serial.proofs.writing.append_longs.Goals as goal
 

@@ -1,4 +1,4 @@
-use Rattle.std.proofs.Common.{arith, sym, ap, ◌∙◌, ◌+◌, ◌*◌}
+use Rattle.std.proofs.Common.{sym, ◌∙◌, ◌+◌, ◌*◌}
 use Rattle.ray_serial.proofs.BottomForms.{length-bottom_form}
 use Rattle.ray_serial.proofs.writing.serialized_size.Goals as goal
 
