@@ -1,5 +1,5 @@
 -- Each info of a recording that was read has a source exactly where it is an update.
-use Rattle.std.proofs.Common.{ℕ, zero, suc, ◌≡◌, ◌+◌, List, [], ◌∷◌, Option, Some, None, Result, Ok, Err, Bool, true, false, refl, ap, sym, ◌∙◌}
+use Rattle.std.proofs.Common.{◌≡◌, List, [], ◌∷◌, Option, Some, None, Result, Ok, Err, Bool, true, false, refl, ap, sym, ◌∙◌}
 use Rattle.std.specs.Prelude.{◌&&◌, IfOk, codes, option_and_then}
 use Rattle.std.specs.List.{list_all}
 use Rattle.std.specs.Option.{option_map_or}
@@ -11,7 +11,6 @@ use Rattle.ray_cmd.specs.Building.{build_of}
 use Rattle.ray_cmd.specs.Copies.{copy_structure_of, serialize_of, deserialize_of, property_of}
 use Rattle.ray_cmd.specs.Grammar.{op_of, command_by, command_of}
 use Rattle.ray_cmd.specs.Host.{buffer_of, structure_of, destroy_of, sizes_of, begin_of, end_of, submit_of, wait_of, read_of}
-use Rattle.ray_cmd.specs.Json.{json_of}
 use Rattle.ray_cmd.specs.Infos.{info_of, source_fits}
 use Rattle.ray_cmd.specs.Recorded.{IsRecordingOf}
 use Rattle.ray_cmd.specs.Geometries.{geometry_of}
@@ -21,7 +20,6 @@ use Rattle.ray_cmd.specs.Tracing.{trace_of}
 use Rattle.ray_cmd.specs.Transfer.{update_of, fill_of, copy_of, barrier_of}
 use Rattle.ray_cmd.specs.declared.command.Command.{Command}
 use Rattle.ray_cmd.specs.declared.fault.RecordingFault.{RecordingFault}
-use Rattle.ray_cmd.specs.declared.info.Info.{Info}
 use Rattle.ray_cmd.specs.declared.op.Op.{Op}
 use Rattle.ray_cmd.specs.declared.op.Op.TheVariants as ops
 use Rattle.ray_cmd.specs.Sources.{has_its_source, have_their_sources, AreSourced}

@@ -1,7 +1,7 @@
 -- Geometries that are added one after the other: there is room for each, and what is read of it is there.
-use Rattle.std.proofs.Common.{ℕ, zero, suc, ◌≡◌, ◌<◌, ◌≤◌, ◌+◌, ◌^◌, ◌++◌, List, [], ◌∷◌, length, take, drop, get_or, Option, Some, None, Result, Ok, Err, Bool, true, false, refl, ap, sym, subst, ◌∙◌, arith, length-append, fold}
+use Rattle.std.proofs.Common.{ℕ, zero, suc, ◌≡◌, ◌<◌, ◌≤◌, ◌+◌, ◌^◌, ◌++◌, List, [], ◌∷◌, length, take, drop, get_or, Option, Some, None, Result, Ok, Err, Bool, true, false, refl, ap, sym, subst, ◌∙◌, arith, length-append}
 use Rattle.std.specs.Prelude.{All, IsSome, IfSome, map, option_map, ◌&&◌, ◌==◌, nat_le, slice_index_or, if◌then◌else◌}
-use Rattle.std.specs.List.{list_all, sum_by}
+use Rattle.std.specs.List.{list_all}
 use Rattle.std.proofs.Math.Seq.{drop-cons, take-length}
 use Rattle.std.proofs.lemmas.Bool.{cond-true}
 use Rattle.std.proofs.lemmas.Bool.Decides.{nat_tests}
@@ -10,12 +10,10 @@ use Rattle.std.proofs.lemmas.List.Sums.{sum_by-cons, sum_by_push}
 use Rattle.ray_flags.specs.declared.kind.Kind.{Kind}
 use Rattle.ray_flags.specs.declared.kind.Kind.TheVariants.{Triangle, Aabb}
 use Rattle.ray_bytes.specs.declared.data_fault.DataFault.{DataFault}
-use Rattle.ray_bytes.specs.declared.format.Format.{Format}
 use Rattle.ray_bytes.specs.Slices.{record_at}
 use Rattle.ray_bytes.specs.Views as views
 use Rattle.ray_geom.specs.Boxes.{BoxValue}
 use Rattle.ray_geom.specs.Transform.{MatrixValue}
-use Rattle.ray_contents.specs.Gathering.{gathered}
 use Rattle.ray_contents.proofs.Gathered.{gathered_all}
 use Rattle.ray_primitives.specs.declared.box_info.BoxInfo.{BoxInfo}
 use Rattle.ray_primitives.specs.declared.triangle_info.TriangleInfo.{TriangleInfo}
@@ -32,9 +30,9 @@ use Rattle.ray_rules.specs.declared.byte_range.ByteRange.{ByteRange}
 use Rattle.ray_rules.specs.Ranges as rules
 use Rattle.ray_rules.specs.Shapes.{is_triangles, is_boxes}
 use Rattle.ray_action.specs.Memory.{Memory, ByteAt, bytes_at, bytes_from, number_before}
-use Rattle.ray_action.specs.Building.{add_inputs, add_read, add_all, then_add, bytes_of, boxes_in, transform_in}
-use Rattle.ray_action.specs.Seeing.{SeenBytes, SeenGeometry, see_range}
-use Rattle.ray_device.specs.Bottoms.{AreOneKind, OfTriangles, OfBoxes, CanAdd, HasRoomFor, IsThereNow, IsTransformThere, add_now, add_all_now, seen_now, inputs_now, size_now}
+use Rattle.ray_action.specs.Building.{add_inputs, add_read, add_all, then_add, bytes_of, transform_in}
+use Rattle.ray_action.specs.Seeing.{SeenBytes, see_range}
+use Rattle.ray_device.specs.Bottoms.{AreOneKind, OfTriangles, OfBoxes, CanAdd, HasRoomFor, IsThereNow, IsTransformThere, add_now, add_all_now, seen_now, size_now}
 use Rattle.ray_device.specs.Ranges.{ranges_with, vertices_with}
 use Rattle.ray_device.specs.Tops.{bytes_now}
 

@@ -1,13 +1,12 @@
 -- What a part of a command gives where it is ready is told by the memory as it is: the kind of what is built
 -- by what its destination is there, ranges by the sizes of buffers there, and structures by their ids.
-use Rattle.std.proofs.Common.{ℕ, ◌≡◌, ◌<◌, ◌≤◌, ◌+◌, ◌*◌, ◌/◌, ◌^◌, List, [], ◌∷◌, length, Option, Some, None, Err, Bool, true, false, refl, ap, sym, subst, ◌∙◌, arith}
+use Rattle.std.proofs.Common.{ℕ, ◌≡◌, ◌<◌, ◌*◌, List, [], ◌∷◌, length, Option, Some, None, Err, Bool, true, false, refl, ap, sym, subst, ◌∙◌, arith}
 use Rattle.std.specs.Prelude.{All, IfSome, IsSome, map, option_map, slice_get, slice_index_or, unwrap_or, ◌||◌}
 use Rattle.std.specs.List.{list_all}
 use Rattle.std.proofs.lemmas.List.Elements.{All-cons, All-nil}
 use Rattle.std.proofs.lemmas.Option.{slice_get-get_or}
 use Rattle.ray_flags.specs.declared.ray_flags.RayFlags.{RayFlags}
 use Rattle.ray_script.specs.declared.raw_rule.RawRule.{RawRule}
-use Rattle.ray_bottom.specs.Contents as bottom_specs
 use Rattle.ray_cmd.specs.declared.asked.Asked.{Asked}
 use Rattle.ray_cmd.specs.declared.asked.Asked.TheVariants as asked
 use Rattle.ray_cmd.specs.declared.build_mode.BuildMode.{BuildMode}
@@ -29,14 +28,13 @@ use Rattle.ray_rules.specs.Ids.{Ids, look}
 use Rattle.ray_rules.specs.Ranges.{size_at, inputs_read, range}
 use Rattle.ray_rules.specs.Shapes.{is_triangles, is_boxes}
 use Rattle.ray_rules.specs.Status.{Status}
-use Rattle.ray_action.specs.declared.form.Form.{Form}
 use Rattle.ray_action.specs.Memory.{Memory, StructureAt, ContentsAt, BufferAt, bytes_at}
-use Rattle.ray_action.specs.Action.{Action, Building, UpdateBytes, FillBytes, CopyStructure, TellProperty, Rest, Unbuilt, content_buffer}
-use Rattle.ray_action.specs.Building.{add_all, all_used, new_builder, update_builder, top_of, top_again}
+use Rattle.ray_action.specs.Action.{Action, Building, UpdateBytes, FillBytes, CopyStructure, Rest, Unbuilt, content_buffer}
+use Rattle.ray_action.specs.Building.{add_all, new_builder, update_builder, top_of, top_again}
 use Rattle.ray_action.specs.Outcomes.{Outcome, bytes_outcome, copy_outcome, outcome_of, bottom_outcome, top_outcome, of_bottom, of_top}
-use Rattle.ray_action.specs.Pieces.{building, bottom_action, top_action_of, top_action, info_action_by, info_action_on, info_action, region_action, rays_action, property_action, command_at, actions_of, cull_mask}
+use Rattle.ray_action.specs.Pieces.{bottom_action, top_action_of, top_action, info_action_by, info_action_on, info_action, region_action, rays_action, property_action, command_at, actions_of, cull_mask}
 use Rattle.ray_action.specs.Readiness.{IsReady, IsMade, IsThere, AreThere, AreOfBottom}
-use Rattle.ray_action.specs.Seeing.{SeenBytes, SeenGeometry, see_geometry, see_range, see_structures}
+use Rattle.ray_action.specs.Seeing.{SeenBytes, see_geometry, see_range}
 use Rattle.ray_device.specs.declared.fetch_fault.FetchFault.{FetchFault}
 use Rattle.ray_device.specs.declared.fetch_fault.FetchFault.TheVariants.{Data, NoMemory}
 use Rattle.ray_device.specs.declared.piece.Piece.{Piece}
@@ -46,7 +44,6 @@ use Rattle.ray_device.specs.Infos.{CanBuild, CanBuildBottom, CanBuildForm, CanBu
 use Rattle.ray_device.specs.Parts.{CanBuildInfo, CanFetch, CanReadRegion, info_given, part_given, rays_range, region_given}
 use Rattle.ray_device.specs.Pieces.{IsPiece, part_action, piece_action, piece_count}
 use Rattle.ray_device.specs.Ranges.{ranges_with}
-use Rattle.ray_device.specs.Tops.{used_now}
 use Rattle.ray_device.specs.Tracing.{traced}
 use Rattle.ray_device.proofs.Commands.{build-part, command_is, copy-part, trace-part, first-part}
 use Rattle.ray_device.proofs.Inputs.{ranges_are}

@@ -1,5 +1,5 @@
 -- What a geometry reads, by the size of the buffer of its content alone.
-use Rattle.std.proofs.Common.{ℕ, ◌≡◌, List, [], ◌∷◌, Option, Some, None, refl, ap}
+use Rattle.std.proofs.Common.{ℕ, ◌≡◌, [], ◌∷◌, Option, Some, None, refl, ap}
 use Rattle.std.specs.Prelude.{if◌then◌else◌, option_map, ◌==◌}
 use Rattle.ray_bytes.specs.declared.format.Format.{Format}
 use Rattle.ray_cmd.specs.declared.geometry.Geometry.{Geometry}

@@ -1,12 +1,11 @@
 -- The structures in use as an action sees them are those of the memory as it is.
-use Rattle.std.proofs.Common.{ℕ, ◌≡◌, List, [], ◌∷◌, Option, Some, None, Bool, true, false, refl, ap, sym, subst, ◌∙◌, inl, inr}
+use Rattle.std.proofs.Common.{ℕ, ◌≡◌, List, [], ◌∷◌, Option, Some, None, Bool, true, false, refl, ap, sym, ◌∙◌}
 use Rattle.std.specs.Prelude.{map, option_and_then, if◌then◌else◌, ◌==◌, ◌||◌, ◌++◌}
 use Rattle.std.specs.List.{list_any}
 use Rattle.std.proofs.lemmas.List.Folds.{list_any-append}
 use Rattle.std.proofs.lemmas.Bool.{eq-eqb}
 use Rattle.std.proofs.Common.{append_assoc}
 use Rattle.ray_geom.specs.Boxes.{BoxValue}
-use Rattle.ray_top.specs.declared.used.Used.{Used}
 use Rattle.ray_bottom.specs.Contents as bottoms
 use Rattle.ray_action.specs.Memory.{Memory, Contents, Bottom, Top, ContentsAt, as_bottom, bounds_of}
 use Rattle.ray_action.specs.Areas.{has}

@@ -1,7 +1,6 @@
 -- What an info of a build gives, by the memory as it is: the kind of the structure that is built is that of
 -- its destination there. (Own.)
 use Rattle.std.specs.Prelude.{ℕ, ◌≡◌, ◌≤◌, ◌^◌, List, [], ◌∷◌, map, false, Option, Some, None}
-use Rattle.std.specs.Option.{option_map_or}
 use Rattle.ray_bytes.specs.Views as views
 use Rattle.ray_bottom.specs.Contents as bottoms
 use Rattle.ray_top.specs.Contents as tops

@@ -1,10 +1,8 @@
 -- What a build of a top structure gives, by the memory as it is. (Own.)
-use Rattle.std.specs.Prelude.{ℕ, ◌≡◌, List, [], ◌∷◌, map, Option, Some, None, Result, Ok, Err}
+use Rattle.std.specs.Prelude.{ℕ, List, Option}
 use Rattle.std.specs.Option.{option_and_then}
-use Rattle.ray_bytes.specs.declared.data_fault.DataFault.{DataFault}
 use Rattle.ray_bottom.specs.Contents as bottoms
 use Rattle.ray_top.specs.declared.used.Used.{Used}
-use Rattle.ray_cmd.specs.declared.place.Place.{Place}
 use Rattle.ray_rules.specs.declared.byte_range.ByteRange.{ByteRange}
 use Rattle.ray_action.specs.Memory.{Memory, ContentsAt, as_bottom}
 use Rattle.ray_action.specs.Building.{bytes_of}

@@ -1,4 +1,4 @@
-use Rattle.std.proofs.Common.{Some, ◌∙◌, ap, sym, subst}
+use Rattle.std.proofs.Common.{◌∙◌, ap, sym, subst}
 use Rattle.std.specs.Prelude.{IfSome}
 use Rattle.ray_action.specs.Building.{transform_in}
 use Rattle.ray_action.specs.Seeing.{see_range}
