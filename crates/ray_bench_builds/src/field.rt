@@ -1,5 +1,3 @@
-ghost use Rattle.std.specs.Prelude.{◌≤◌};
-
 use crate::size::Size;
 use std::alloc::{AllocError, Global};
 
@@ -15,11 +13,10 @@ pub(crate) struct Field {
 impl Field {
     /// The field of a size.
     pub(crate) fn new(alloc: Global, size: Size) -> Result<Field, AllocError> {
-        let side = size.side();
         Ok(Field {
             size,
-            vertices: vertices(alloc, side)?,
-            indices: indices(alloc, side)?,
+            vertices: vertices(alloc, size)?,
+            indices: indices(alloc, size)?,
         })
     }
 
@@ -40,12 +37,10 @@ impl Field {
 }
 
 // The vertices of a field, row by row.
-fn vertices(alloc: Global, side: u32) -> Result<Vec<u8>, AllocError>
-    requires { side ≤ 512 }
-{
+fn vertices(alloc: Global, size: Size) -> Result<Vec<u8>, AllocError> {
     let mut bytes = Vec::new(alloc);
-    for j in 0..side + 1 {
-        for i in 0..side + 1 {
+    for j in 0..size.rows() + 1 {
+        for i in 0..size.columns() + 1 {
             put(&mut bytes, 8 * i, 8 * j, (5 * i + 3 * j) % 7)?;
         }
     }
@@ -53,13 +48,12 @@ fn vertices(alloc: Global, side: u32) -> Result<Vec<u8>, AllocError>
 }
 
 // The indices of its triangles, cell by cell.
-fn indices(alloc: Global, side: u32) -> Result<Vec<u8>, AllocError>
-    requires { side ≤ 512 }
-{
+fn indices(alloc: Global, size: Size) -> Result<Vec<u8>, AllocError> {
     let mut bytes = Vec::new(alloc);
-    let row = side + 1;
-    for j in 0..side {
-        for i in 0..side {
+    let columns = size.columns();
+    let row = columns + 1;
+    for j in 0..size.rows() {
+        for i in 0..columns {
             let first = row * j + i;
             put(&mut bytes, first, first + 1, first + row + 1)?;
             put(&mut bytes, first, first + row + 1, first + row)?;

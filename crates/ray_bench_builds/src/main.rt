@@ -3,11 +3,13 @@
 //! builds ten times a bottom structure of 524,288 triangles with 32-bit indices, `ray_bench_builds
 //! tree 10` as often a tree over their cells' boxes, and `ray_bench_builds top 10` a top structure
 //! of 65,536 instances. Each prints how often it built, of how many, and how many of them are
-//! active, or how many leaves there are. Without words it does a little of each. Other words give
-//! the line `bad-words` and status 3.
+//! active, or how many leaves there are. `ray_bench_builds open 10` serializes a bottom structure
+//! of 1,048,576 triangles, opens the form ten times, and prints of how many bytes it is and how
+//! often it opened. Without words it does a little of each. Other words give the line `bad-words`
+//! and status 3.
 //!
-//! What is timed are the public calls of ray_bottom, ray_top and ray_tree; what these do is their
-//! contracts' to say. It stands on them and on nothing of the program.
+//! What is timed are the public calls of ray_bottom, ray_top, ray_tree and ray_serial; what these
+//! do is their contracts' to say. It stands on them and on nothing of the program.
 #![tactic(auto)]
 
 mod bench_error;
@@ -18,7 +20,8 @@ mod structures;
 use crate::bench_error::BenchError;
 use crate::field::Field;
 use crate::size::Size;
-use crate::structures::{bottom, boxes, instances, top, tree};
+use crate::structures::{bottom, boxes, instances, opens, top, tree};
+use ray_serial::serialize;
 use std::env;
 use std::process::ExitCode;
 use std::rt::Env;
@@ -42,7 +45,8 @@ fn run<R: Env + AllocGlobal + Print + Threads + Sync>(rt: &R) -> Result<(), Benc
         [] => {
             report_bottoms(rt, Size::Little, 1)?;
             report_tops(rt, Size::Little, 1)?;
-            report_trees(rt, Size::Little, 1)
+            report_trees(rt, Size::Little, 1)?;
+            report_opens(rt, Size::Little, 1)
         }
         [work, times] => {
             let Ok(times) = times.as_str().parse::<u32>() else {
@@ -52,6 +56,7 @@ fn run<R: Env + AllocGlobal + Print + Threads + Sync>(rt: &R) -> Result<(), Benc
                 "bottom" => report_bottoms(rt, Size::Large, times),
                 "top" => report_tops(rt, Size::Large, times),
                 "tree" => report_trees(rt, Size::Large, times),
+                "open" => report_opens(rt, Size::Greatest, times),
                 _ => Err(BenchError::BadWords),
             }
         }
@@ -103,5 +108,27 @@ fn report_trees<R: AllocGlobal + Print>(rt: &R, size: Size, times: u32) -> Resul
         leaves = tree(rt.alloc(), items.as_slice())?.leaves();
     }
     println!(rt; "tree {times} items {} leaves {leaves}", items.len())?;
+    Ok(())
+}
+
+// Opens the form of a bottom structure, each time with another last index, so that no open stands
+// for the next, and prints how many bytes it has, and how often it opened.
+fn report_opens<R: AllocGlobal + Print + Threads + Sync>(
+    rt: &R,
+    size: Size,
+    times: u32,
+) -> Result<(), BenchError> {
+    let field = Field::new(rt.alloc(), size)?;
+    let mut form = serialize(rt.alloc(), &bottom(rt, &field)?)?;
+    let mut opened: u32 = 0;
+    for _ in 0..times {
+        if let Some(last) = form.as_mut_slice().last_mut() {
+            *last ^= 1;
+        }
+        if opens(form.as_slice()) {
+            opened = opened.saturating_add(1);
+        }
+    }
+    println!(rt; "open {times} bytes {} opened {opened}", form.len())?;
     Ok(())
 }

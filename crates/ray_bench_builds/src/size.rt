@@ -5,18 +5,31 @@ ghost use Rattle.std.specs.Prelude.{◌≤◌};
 pub(crate) enum Size {
     /// A little, for a first look.
     Little,
-    /// As much as is timed.
+    /// As much as is built where builds are timed.
     Large,
+    /// As many triangles as a structure has at most.
+    Greatest,
 }
 
 impl Size {
-    /// How many cells a side of the field has.
-    pub(crate) fn side(self) -> u32
-        ensures { result ≤ 512 }
+    /// How many cells a row of the field has.
+    pub(crate) fn columns(self) -> u32
+        ensures { result ≤ 1024 }
     {
         match self {
             Size::Little => 8,
             Size::Large => 512,
+            Size::Greatest => 1024,
+        }
+    }
+
+    /// How many rows of cells the field has.
+    pub(crate) fn rows(self) -> u32
+        ensures { result ≤ 512 }
+    {
+        match self {
+            Size::Little => 8,
+            Size::Large | Size::Greatest => 512,
         }
     }
 
@@ -26,7 +39,7 @@ impl Size {
     {
         match self {
             Size::Little => 64,
-            Size::Large => 65_536,
+            Size::Large | Size::Greatest => 65_536,
         }
     }
 }

@@ -7,6 +7,7 @@ use ray_bytes::{Format, IndexView, InstanceView, VertexView};
 use ray_flags::BuildFlags;
 use ray_geom::{Box3, Vec3};
 use ray_primitives::BuildFault;
+use ray_serial::SerialView;
 use ray_top::{Top, Used};
 use ray_tree::{Tree, build_median};
 use std::alloc::{AllocError, Global};
@@ -21,20 +22,26 @@ pub(crate) fn bottom<R: AllocGlobal + Threads + Sync>(
     rt: &R,
     field: &Field,
 ) -> Result<Bottom, BuildFault> {
-    let side = field.size().side();
+    let (columns, rows) = (field.size().columns(), field.size().rows());
     let info = TriangleInfo {
         opaque: true,
         format: Format::S32x3,
         index_size: 4,
-        count: 2 * side * side,
+        count: 2 * columns * rows,
         first_vertex: 0,
-        max_vertex: (side + 1) * (side + 1) - 1,
+        max_vertex: (columns + 1) * (rows + 1) - 1,
     };
     let vertices = VertexView::new(field.vertices(), 0, 12, Format::S32x3);
     let indices = IndexView::new(field.indices(), 0, true);
     let mut builder = Builder::new(rt.alloc(), BuildFlags(0));
     builder.triangles(&info, vertices, Some(indices), None)?;
     Ok(builder.finish(rt)?)
+}
+
+/// Whether bytes are a serialized form.
+#[inline(never)]
+pub(crate) fn opens(bytes: &[u8]) -> bool {
+    SerialView::open(bytes).is_ok()
 }
 
 /// The records of as many instances of the structure 0 as a size has, with identity transforms.
@@ -66,9 +73,8 @@ pub(crate) fn top<R: AllocGlobal + Threads + Sync>(
 /// The boxes of the triangles of a field, two a cell.
 pub(crate) fn boxes(alloc: Global, size: Size) -> Result<Vec<Option<Box3>>, AllocError> {
     let mut items = Vec::new(alloc);
-    let side = size.side();
-    for j in 0..side {
-        for i in 0..side {
+    for j in 0..size.rows() {
+        for i in 0..size.columns() {
             items.push(cell(i, j))?;
             items.push(cell(i, j))?;
         }
