@@ -105,8 +105,9 @@ fn apart(entry: &Entry) -> Entry
 }
 
 // A limit for the next cut, above the least number. Twice it is where about so many entries would
-// be below it if they were spread evenly, then in turns the middle one of three, and that again; so
-// neither entries that crowd together nor ones in a row take many cuts. At last it halves the reach.
+// be below it if they were spread evenly, then in turns the middle one of three, and that again,
+// so that neither entries that crowd together nor ones in a row take many cuts. The last cuts
+// halve the reach.
 fn limit_of(entries: &[Entry], many: usize, reach: Reach, cuts: u32) -> u32
     requires axis { reach.axis < 3 }
     requires within { many ≤ length entries.now }
