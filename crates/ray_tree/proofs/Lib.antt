@@ -9,7 +9,7 @@ pub mod Halved
 pub mod Planting
 pub mod Sizes
 pub mod Entered
-pub mod Listing
+pub mod Waiting
 pub mod Filled
 pub mod Median
 pub mod Nested

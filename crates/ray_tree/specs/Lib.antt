@@ -4,3 +4,4 @@ pub mod Local
 pub mod Plans
 pub mod Entries
 pub mod Nesting
+pub mod Waits

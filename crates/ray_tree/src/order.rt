@@ -8,6 +8,9 @@ use crate::arrange::{Entry, arrange};
 use ray_geom::Box3;
 use std::alloc::{AllocError as NoMemory, Global};
 
+// No coordinate is further from 0.
+const FURTHEST: i64 = 1 << 19;
+
 // An entry of an item with this box.
 fn entry_of(b: &Box3, item: u32) -> Entry
     ensures { result.item ≡ item }
@@ -15,9 +18,9 @@ fn entry_of(b: &Box3, item: u32) -> Entry
     let (lo, hi) = (b.lo(), b.hi());
     Entry {
         middle: [
-            (lo.x + hi.x) as i32,
-            (lo.y + hi.y) as i32,
-            (lo.z + hi.z) as i32,
+            (lo.x + hi.x + 2 * FURTHEST) as u32,
+            (lo.y + hi.y + 2 * FURTHEST) as u32,
+            (lo.z + hi.z + 2 * FURTHEST) as u32,
         ],
         item,
     }

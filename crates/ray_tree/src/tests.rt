@@ -106,6 +106,35 @@ fn builds_five(rt: HostRuntime) -> Result<(), NoMemory> {
     Ok(())
 }
 
+// Whether each left child is before its right one along the axis x.
+fn are_apart(tree: &Tree) -> bool {
+    for n in 0..tree.nodes() {
+        if let Node::Inner { left, right } = tree.node(n) {
+            if tree.node_box(left).hi().x >= tree.node_box(right).lo().x {
+                return false;
+            }
+        }
+    }
+    true
+}
+
+#[test]
+fn cuts_rows_in_two(rt: HostRuntime) -> Result<(), NoMemory> {
+    // Boxes 0 to 1023 of a row in order, the other way round, and out of order.
+    for step in [1, 1023, 389] {
+        let mut items = Vec::new(rt.alloc());
+        for i in 0..1024u32 {
+            items.push(slab(i * step % 1024))?;
+        }
+        if items.len() > 1 << 20 {
+            return Ok(());
+        }
+        let tree = build_median(rt.alloc(), &items)?;
+        assert!(rt; are_apart(&tree));
+    }
+    Ok(())
+}
+
 // The tree over one box, of parts.
 fn of_one(alloc: Global, b: Box3) -> Result<Tree, NoMemory> {
     let mut nodes = Vec::new(alloc);

@@ -5,7 +5,7 @@ ghost use Rattle.ray_tree.specs.Trees.{TreeOver, IsShape, tree_value, box_at, it
 ghost use Rattle.ray_tree.specs.Local.{IsFit, IsLeafAt};
 
 use crate::bounds::{Bounds, narrowed};
-use crate::leaves::list_leaves;
+use crate::leaves::leaves_from_root;
 use crate::node::Node;
 use crate::over::is_over;
 use ray_geom::Box3;
@@ -67,9 +67,7 @@ impl Tree {
         requires few { length nodes.items < 2 ^ 32 }
         ensures { IfOk result (λ t. t ≡ tree_value nodes.items boxes.items order.items) }
     {
-        let mut leaves = Vec::new(alloc);
-        let levels = nodes.len();
-        list_leaves(&nodes, 0, levels, &mut leaves)?;
+        let leaves = leaves_from_root(alloc, &nodes)?;
         Ok(Tree {
             nodes,
             boxes,

@@ -7,14 +7,14 @@ pub returns-then-many-cut : goal.returns-then-many-cut
 returns-then-many-cut t c =
     let front = c.split_at_mut-front.result.0.now in
     let back = c.split_at_mut-front.result.1.now in
-    IsPermutation-trans c.args.entries.now c.split_once-cut.new.entries (front ++ c.select.new.entries) c.split_once-cut.ensures.same
+    IsPermutation-trans c.args.entries.now c.move_front-cut.new.entries (front ++ c.select.new.entries) c.move_front-cut.ensures.same
     (subst (λ l. IsPermutation l (front ++ c.select.new.entries)) (sym c.split_at_mut-front.ensures.value)
     (IsPermutation-append_right front back c.select.new.entries c.select.ensures))
 
-pub returns-then-not-cut : goal.returns-then-not-cut
-returns-then-not-cut t c =
+pub returns-then-many-cut-2 : goal.returns-then-many-cut-2
+returns-then-many-cut-2 t c =
     let front = c.split_at_mut-front.result.0.now in
     let back = c.split_at_mut-front.result.1.now in
-    IsPermutation-trans c.args.entries.now c.split_once-cut.new.entries (c.select-then-not-cut.new.entries ++ back) c.split_once-cut.ensures.same
-    (subst (λ l. IsPermutation l (c.select-then-not-cut.new.entries ++ back)) (sym c.split_at_mut-front.ensures.value)
-    (IsPermutation-append_left back front c.select-then-not-cut.new.entries c.select-then-not-cut.ensures))
+    IsPermutation-trans c.args.entries.now c.move_front-cut.new.entries (c.select-then-many-cut-2.new.entries ++ back) c.move_front-cut.ensures.same
+    (subst (λ l. IsPermutation l (c.select-then-many-cut-2.new.entries ++ back)) (sym c.split_at_mut-front.ensures.value)
+    (IsPermutation-append_left back front c.select-then-many-cut-2.new.entries c.select-then-many-cut-2.ensures))
