@@ -3,7 +3,7 @@ use Rattle.std.proofs.Common.{◌≡◌, [], ◌∷◌, refl, ap}
 use Rattle.std.specs.List.{flat_map}
 use Rattle.ray_action.specs.Memory.{Memory}
 use Rattle.ray_action.specs.Areas.{AgreeOn, Bytes, FormOf, ContentsOf, ContentsOfEach}
-use Rattle.ray_action.specs.Action.{Action, areas_read, geometry_areas, MakeBuffer, MakeStructure, DestroyBuffer, DestroyStructure, ShowSizes, ShowBytes, UpdateBytes, FillBytes, CopyBytes, BuildBottom, UpdateBottom, BuildTop, UpdateTop, CopyStructure, TellProperty, TraceRays, Rest, Unbuilt}
+use Rattle.ray_action.specs.Action.{Action, areas_read, geometry_areas, MakeBuffer, MakeStructure, DestroyBuffer, DestroyStructure, ShowSizes, ShowBytes, UpdateBytes, FillBytes, CopyBytes, BuildBottom, UpdateBottom, BuildTop, UpdateTop, CopyStructure, SerializeStructure, DeserializeStructure, TellProperty, TraceRays, Rest, Impossible}
 use Rattle.ray_action.specs.Seeing.{see}
 use Rattle.ray_action.specs.Outcomes.{computed}
 use Rattle.ray_action.specs.Laws.{OutcomesAreLocal}
@@ -51,6 +51,13 @@ seen_same (CopyStructure mode src dst) m z same =
     let source = contents_same src (FormOf dst ∷ []) m z same in
     let form = form_same dst [] m z (agree_rest (ContentsOf src) (FormOf dst ∷ []) m z same) in
     λ i. (source i, form i)
+seen_same (SerializeStructure src to) m z same = contents_same src [] m z same
+seen_same (DeserializeStructure from dst uses) m z same =
+    let bytes = bytes_same from (FormOf dst ∷ (ContentsOfEach uses ∷ [])) m z same in
+    let after_bytes = agree_rest (Bytes from) (FormOf dst ∷ (ContentsOfEach uses ∷ [])) m z same in
+    let form = form_same dst (ContentsOfEach uses ∷ []) m z after_bytes in
+    let used = structures_same uses [] m z (agree_rest (FormOf dst) (ContentsOfEach uses ∷ []) m z after_bytes) in
+    λ i. record { bytes = bytes i; dst = form i; uses = used i }
 seen_same (TellProperty what structures to) m z same = asked_same structures m z same
 seen_same (TraceRays trace) m z same =
     let rays = bytes_same trace.rays (ContentsOf trace.top ∷ (ContentsOfEach trace.uses ∷ [])) m z same in
@@ -59,7 +66,7 @@ seen_same (TraceRays trace) m z same =
     let used = structures_same trace.uses [] m z (agree_rest (ContentsOf trace.top) (ContentsOfEach trace.uses ∷ []) m z after_rays) in
     λ i. record { rays = rays i; top = top i; uses = used i }
 seen_same Rest m z same = refl
-seen_same Unbuilt m z same = refl
+seen_same Impossible m z same = refl
 
 pub outcomes_local : OutcomesAreLocal
 outcomes_local action m z same = ap (λ seen. computed action seen) (seen_same action m z same)

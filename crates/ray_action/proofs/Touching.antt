@@ -6,7 +6,6 @@ use Rattle.std.specs.List.{flat_map, range_with_len}
 use Rattle.std.specs.Option.{option_to_list, option_map_or}
 use Rattle.std.proofs.lemmas.List.Folds.{list_any-append}
 use Rattle.ray_cmd.specs.declared.asked.Asked.{Asked}
-use Rattle.ray_cmd.specs.declared.asked.Asked.TheVariants as asked
 use Rattle.ray_cmd.specs.declared.build_mode.BuildMode.{BuildMode}
 use Rattle.ray_cmd.specs.declared.build_mode.BuildMode.TheVariants as modes
 use Rattle.ray_cmd.specs.declared.copy_mode.CopyMode.{CopyMode}
@@ -18,6 +17,7 @@ use Rattle.ray_cmd.specs.declared.region.Region.{Region}
 use Rattle.ray_cmd.specs.declared.spot.Spot.{Spot}
 use Rattle.ray_flags.specs.declared.ray_flags.RayFlags.{RayFlags}
 use Rattle.ray_script.specs.declared.raw_rule.RawRule.{RawRule}
+use Rattle.ray_cmd.specs.declared.stretch.Stretch.{Stretch}
 use Rattle.ray_cmd.specs.declared.structure_kind.StructureKind.{StructureKind}
 use Rattle.ray_cmd.specs.declared.structure_kind.StructureKind.TheVariants as kinds
 use Rattle.ray_rules.specs.declared.access_type.AccessType.TheVariants.{ShaderRead, StructureRead}
@@ -32,9 +32,9 @@ use Rattle.ray_rules.specs.Ranges.{inputs_read, range, scratch_range}
 use Rattle.ray_rules.specs.Status.{Status}
 use Rattle.ray_action.specs.Memory.{Location, ByteAt, BufferAt, StructureAt, ContentsAt}
 use Rattle.ray_action.specs.Areas.{Area, Bytes, FormOf, ContentsOf, ContentsOfEach, covers, cover, has, is_in_range, is_contents_of}
-use Rattle.ray_action.specs.Action.{Action, Building, geometry_areas, structure_areas, UpdateBytes, FillBytes, CopyStructure, Unbuilt}
+use Rattle.ray_action.specs.Action.{Action, Building, geometry_areas, structure_areas, UpdateBytes, FillBytes, CopyStructure, SerializeStructure, DeserializeStructure, Impossible}
 use Rattle.ray_action.specs.Storing.{writes}
-use Rattle.ray_action.specs.Pieces.{actions_of, building, info_action, info_action_by, info_action_on, info_actions, region_action, bottom_action, top_action, top_action_of, property_action, rays_action, trace_pieces}
+use Rattle.ray_action.specs.Pieces.{actions_of, building, info_action, info_action_by, info_action_on, info_actions, region_action, bottom_action, top_action, top_action_of, property_action, stretch_range, rays_action, trace_pieces}
 use Rattle.ray_action.specs.Touching.{is_reached, touched, holds_data, TouchesWithin, ActionsTouchWithin}
 
 or_left : (a b : Bool) → a ≡ true → (a || b) ≡ true
@@ -163,8 +163,8 @@ source-part buffers info src l is e =
 writes-within : (buffers : Ids LiveBuffer) (info : Info) (l : Location) → is_contents_of info.dst l ≡ true → touched (info_accesses buffers info).writes l ≡ true
 writes-within buffers info l e = or_left (is_contents_of info.dst l) false e
 
-unbuilt-within : (accesses : Accesses) → TouchesWithin Unbuilt accesses
-unbuilt-within accesses = record { reads = λ l d e. absurd cc; writes = λ l e. absurd cc }
+impossible-within : (accesses : Accesses) → TouchesWithin Impossible accesses
+impossible-within accesses = record { reads = λ l d e. absurd cc; writes = λ l e. absurd cc }
 
 bottom-reads : (buffers : Ids LiveBuffer) (info : Info) (l : Location) → holds_data l ≡ true
     → cover (FormOf info.dst ∷ flat_map (geometry_areas buffers) info.geometries) l ≡ true → touched (info_reads buffers info) l ≡ true
@@ -189,7 +189,7 @@ bottom-within build info modes.Update (Some src) dst is = record {
       (λ inputs. inputs-part build.buffers info l (geometries-reached build.buffers info.geometries l d inputs)));
   writes = λ l e. writes-within build.buffers info l (subst (λ id. is_contents_of id l ≡ true) dst e);
 }
-bottom-within build info modes.Update None dst is = unbuilt-within (info_accesses build.buffers info)
+bottom-within build info modes.Update None dst is = impossible-within (info_accesses build.buffers info)
 
 -- the inputs of the one geometry of a top structure
 instances-part : (buffers : Ids LiveBuffer) (info : Info) (instances : Geometry) (l : Location) → info.geometries ≡ instances ∷ [] → holds_data l ≡ true
@@ -222,19 +222,19 @@ top-of-within build info instances modes.Update (Some src) dst gs is = record {
       (λ here. instances-part build.buffers info instances l gs d here)));
   writes = λ l e. writes-within build.buffers info l (subst (λ id. is_contents_of id l ≡ true) dst e);
 }
-top-of-within build info instances modes.Update None dst gs is = unbuilt-within (info_accesses build.buffers info)
+top-of-within build info instances modes.Update None dst gs is = impossible-within (info_accesses build.buffers info)
 
 top-within : (build : Building) (info : Info) (gs : List Geometry) → build.dst ≡ info.dst → info.geometries ≡ gs → TouchesWithin (top_action build info gs) (info_accesses build.buffers info)
-top-within build info [] dst is = unbuilt-within (info_accesses build.buffers info)
+top-within build info [] dst is = impossible-within (info_accesses build.buffers info)
 top-within build info (instances ∷ []) dst is = top-of-within build info instances info.mode info.src dst is refl
-top-within build info (g ∷ (h ∷ gs)) dst is = unbuilt-within (info_accesses build.buffers info)
+top-within build info (g ∷ (h ∷ gs)) dst is = impossible-within (info_accesses build.buffers info)
 
 kind-within : (build : Building) (info : Info) (kind : StructureKind) → build.dst ≡ info.dst → TouchesWithin (info_action_by build info kind) (info_accesses build.buffers info)
 kind-within build info kinds.Bottom dst = bottom-within build info info.mode info.src dst refl
 kind-within build info kinds.Top dst = top-within build info info.geometries dst refl
 
 found-within : (build : Building) (info : Info) (found : Option LiveStructure) → build.dst ≡ info.dst → TouchesWithin (info_action_on build info found) (info_accesses build.buffers info)
-found-within build info None dst = unbuilt-within (info_accesses build.buffers info)
+found-within build info None dst = impossible-within (info_accesses build.buffers info)
 found-within build info (Some s) dst = kind-within build info s.kind dst
 
 infos-within : (z : Status) (j : ℕ) (infos : List Info) (k : ℕ) (action : Action) → slice_get (info_actions z j infos) k ≡ Some action
@@ -275,17 +275,34 @@ copy-within mode src dst = record {
   writes = λ l e. or_left (is_contents_of dst l) false e;
 }
 
+serialize-within : (src : ℕ) (dst : Stretch) → TouchesWithin (SerializeStructure src (stretch_range dst)) (serialize_accesses src dst)
+serialize-within src dst = record {
+  reads = λ l d e.
+      either (covers (ContentsOf src) l) false e
+      (λ source. or_left (is_contents_of src l) false source)
+      (λ none. absurd cc);
+  writes = λ l e. or_left (is_in_range (stretch_range dst) l) false e;
+}
+
+deserialize-within : (src : Stretch) (dst : ℕ) (uses : List ℕ) → TouchesWithin (DeserializeStructure (stretch_range src) dst uses) (deserialize_accesses src dst uses)
+deserialize-within src dst uses = record {
+  reads = λ l d e.
+      let here : Bool = is_in_range (stretch_range src) l in
+      either here (cover (FormOf dst ∷ (ContentsOfEach uses ∷ [])) l) e
+      (λ bytes. or_left here (touched (structure_reads uses) l) bytes)
+      (λ rest. either (covers (FormOf dst) l) (cover (ContentsOfEach uses ∷ []) l) rest
+      (λ form. no-form dst l d form)
+      (λ later. either (covers (ContentsOfEach uses) l) false later
+      (λ used. or_right here (touched (structure_reads uses) l) (structures-reached uses l d used))
+      (λ none. absurd cc)));
+  writes = λ l e. or_left (is_contents_of dst l) false e;
+}
+
 property-within : (what : Asked) (structures : List ℕ) (dst : Spot) → TouchesWithin (property_action what structures dst) (property_accesses structures dst)
-property-within asked.Compacted structures dst = record {
+property-within what structures dst = record {
   reads = λ l d e. asked-reached structures l d e;
   writes = λ l e. or_left (is_in_range (range dst.buffer dst.offset (8 * length structures)) l) false e;
 }
-property-within asked.Size structures dst = record {
-  reads = λ l d e. asked-reached structures l d e;
-  writes = λ l e. or_left (is_in_range (range dst.buffer dst.offset (8 * length structures)) l) false e;
-}
-property-within asked.Serialized structures dst = unbuilt-within (property_accesses structures dst)
-property-within asked.Handles structures dst = unbuilt-within (property_accesses structures dst)
 
 rays-within : (rec : List Command) (z : Status) (top : ℕ) (rays hits : Spot) (count : ℕ) (flags : RayFlags) (mask : ℕ) (script : List RawRule) (k : ℕ)
     → TouchesWithin (rays_action rec z top rays hits count flags mask script k) (ray_accesses rec z top rays hits (64 * k) (rays_of_piece count k))
@@ -333,9 +350,9 @@ touch_within rec z (commands.Build infos) stage k action s e = infos-within z 0 
 touch_within rec z (commands.CopyStructure mode src dst) stage k action s e =
     subst (λ a. TouchesWithin a (structure_copy_accesses src dst)) (one-of (CopyStructure mode src dst) action k e) (copy-within mode src dst)
 touch_within rec z (commands.Serialize src dst) stage k action s e =
-    subst (λ a. TouchesWithin a (serialize_accesses src dst)) (one-of Unbuilt action k e) (unbuilt-within (serialize_accesses src dst))
+    subst (λ a. TouchesWithin a (serialize_accesses src dst)) (one-of (SerializeStructure src (stretch_range dst)) action k e) (serialize-within src dst)
 touch_within rec z (commands.Deserialize src dst uses) stage k action s e =
-    subst (λ a. TouchesWithin a (deserialize_accesses src dst uses)) (one-of Unbuilt action k e) (unbuilt-within (deserialize_accesses src dst uses))
+    subst (λ a. TouchesWithin a (deserialize_accesses src dst uses)) (one-of (DeserializeStructure (stretch_range src) dst uses) action k e) (deserialize-within src dst uses)
 touch_within rec z (commands.Property what structures dst) stage k action s e =
     subst (λ a. TouchesWithin a (property_accesses structures dst)) (one-of (property_action what structures dst) action k e) (property-within what structures dst)
 touch_within rec z (commands.Barrier src_stages src_access dst_stages dst_access) stage k action s e = absurd cc

@@ -41,8 +41,8 @@ pub record Tracing : Type 0 where
   pub mask : ℕ
   pub script : List RawRule
 
--- what is done at one moment. `Rest` changes nothing, as a barrier or a `wait`; a command whose form isn't
--- built yet is `Unbuilt`, which has no meaning
+-- what is done at one moment. `Rest` changes nothing, as a barrier or a `wait`. `Impossible` has no meaning: it
+-- is what a command asks for that breaks the static rules, as an update without a source
 pub data Action : Type 0 where
   -- by the host: making and destroying, and what is shown
   MakeBuffer : (id size : ℕ) (content : List ℕ) → Action
@@ -61,11 +61,13 @@ pub data Action : Type 0 where
   BuildTop : (build : Building) (flags : BuildFlags) (uses : List ℕ) (instances : Geometry) → Action
   UpdateTop : (build : Building) (src : ℕ) (uses : List ℕ) (instances : Geometry) → Action
   CopyStructure : (mode : CopyMode) (src dst : ℕ) → Action
+  SerializeStructure : (src : ℕ) (to : ByteRange) → Action
+  DeserializeStructure : (from : ByteRange) (dst : ℕ) (uses : List ℕ) → Action
   TellProperty : (what : Asked) (structures : List ℕ) (to : ByteRange) → Action
   -- rays
   TraceRays : (trace : Tracing) → Action
   Rest : Action
-  Unbuilt : Action
+  Impossible : Action
 
 -- the buffer in which the vertices, boxes or instances of a geometry stand
 abbrev pub content_buffer : Geometry → ℕ
@@ -103,7 +105,9 @@ areas_read (BuildTop build flags uses instances) =
 areas_read (UpdateTop build src uses instances) =
     FormOf build.dst ∷ (ContentsOf src ∷ (ContentsOfEach uses ∷ geometry_areas build.buffers instances))
 areas_read (CopyStructure mode src dst) = ContentsOf src ∷ (FormOf dst ∷ [])
+areas_read (SerializeStructure src to) = ContentsOf src ∷ []
+areas_read (DeserializeStructure from dst uses) = Bytes from ∷ (FormOf dst ∷ (ContentsOfEach uses ∷ []))
 areas_read (TellProperty what structures to) = flat_map structure_areas structures
 areas_read (TraceRays trace) = Bytes trace.rays ∷ (ContentsOf trace.top ∷ (ContentsOfEach trace.uses ∷ []))
 areas_read Rest = []
-areas_read Unbuilt = []
+areas_read Impossible = []

@@ -1,6 +1,6 @@
 -- What an action gives, computed from what it sees. (Vulkan: the operations of each command; own: the data
 -- rules, and exact numbers.)
-use Rattle.std.specs.Prelude.{ℕ, ◌+◌, List, [], ◌∷◌, Option, Some, None, Result, Ok, Err, length, nat_lt, if◌then◌else◌}
+use Rattle.std.specs.Prelude.{ℕ, ◌+◌, List, [], ◌∷◌, Option, Some, None, Result, Ok, Err, length, nat_lt, if◌then◌else◌, unwrap_or}
 use Rattle.std.specs.List.{flat_map}
 use Rattle.std.specs.Option.{option_map, option_map_or, option_and_then}
 use Rattle.byteorder.specs.Endian.{little_bytes}
@@ -9,7 +9,7 @@ use Rattle.ray_geom.specs.Vector.{point_of}
 use Rattle.ray_geom.specs.Decided.{where_so, ray_decided}
 use Rattle.ray_bytes.specs.declared.data_fault.DataFault.{DataFault}
 use Rattle.ray_bytes.specs.declared.data_rule.DataRule.{DataRule}
-use Rattle.ray_bytes.specs.declared.data_rule.DataRule.TheVariants.{X11, X13}
+use Rattle.ray_bytes.specs.declared.data_rule.DataRule.TheVariants.{X11, X12, X13}
 use Rattle.ray_bytes.specs.declared.ray_record.RayRecord.{RayRecord}
 use Rattle.ray_bytes.specs.Hits.{hit_bytes}
 use Rattle.ray_bytes.specs.Records.{ray_of}
@@ -20,7 +20,13 @@ use Rattle.ray_script.specs.Meaning.{script_decision}
 use Rattle.ray_query.specs.Record.{record_of}
 use Rattle.ray_bottom.specs.Contents as bottoms
 use Rattle.ray_bottom.specs.Builders.{BuilderValue}
+use Rattle.ray_top.specs.declared.used.Used.{Used}
 use Rattle.ray_top.specs.Contents as tops
+use Rattle.ray_serial.specs.Form.{broken_line}
+use Rattle.ray_serial.specs.Meaning.{is_top_form, deserialized_in, bottom_in}
+use Rattle.ray_serial.specs.TopMeaning.{top_in}
+use Rattle.ray_serial.specs.TopWritten.{handles_of, top_form}
+use Rattle.ray_serial.specs.Written.{bottom_form}
 use Rattle.ray_walk.specs.Candidates.{Structures, trace_answer}
 use Rattle.ray_cmd.specs.declared.asked.Asked.{Asked}
 use Rattle.ray_cmd.specs.declared.asked.Asked.TheVariants as asked
@@ -28,9 +34,12 @@ use Rattle.ray_cmd.specs.declared.copy_mode.CopyMode.{CopyMode}
 use Rattle.ray_cmd.specs.declared.copy_mode.CopyMode.TheVariants as copies
 use Rattle.ray_cmd.specs.declared.place.Place.{Place}
 use Rattle.ray_cmd.specs.declared.place.Place.TheVariants.{Whole, Part, Geometry, Element}
+use Rattle.ray_cmd.specs.declared.structure_kind.StructureKind.{StructureKind}
+use Rattle.ray_cmd.specs.declared.structure_kind.StructureKind.TheVariants as kinds
+use Rattle.ray_rules.specs.declared.byte_range.ByteRange.{ByteRange}
 use Rattle.ray_action.specs.declared.form.Form.{Form}
 use Rattle.ray_action.specs.Memory.{Contents, Bottom, Top, Memory, as_bottom, as_top, number_before}
-use Rattle.ray_action.specs.Action.{Action, Tracing, MakeBuffer, MakeStructure, DestroyBuffer, DestroyStructure, ShowSizes, ShowBytes, UpdateBytes, FillBytes, CopyBytes, BuildBottom, UpdateBottom, BuildTop, UpdateTop, CopyStructure, TellProperty, TraceRays, Rest, Unbuilt}
+use Rattle.ray_action.specs.Action.{Action, Tracing, MakeBuffer, MakeStructure, DestroyBuffer, DestroyStructure, ShowSizes, ShowBytes, UpdateBytes, FillBytes, CopyBytes, BuildBottom, UpdateBottom, BuildTop, UpdateTop, CopyStructure, SerializeStructure, DeserializeStructure, TellProperty, TraceRays, Rest, Impossible}
 use Rattle.ray_action.specs.Seeing.{Seen, SeenBytes, SeenStructures, SeenStructure, see}
 use Rattle.ray_action.specs.Building.{add_all, new_builder, update_builder, all_used, top_of, top_again}
 
@@ -79,7 +88,7 @@ of_bottom contents make = option_map_or make (option_and_then as_bottom contents
 abbrev pub of_top : Option Contents → (tops.TopValue → Outcome) → Outcome
 of_top contents make = option_map_or make (option_and_then as_top contents) Undefined
 
--- ---- copies and properties
+-- ---- copies
 
 -- the compacted size of a bottom structure
 abbrev pub compacted_of : bottoms.ContentsValue → ℕ
@@ -97,12 +106,75 @@ copy_outcome copies.Clone contents dst = option_map_or (λ c. Gives (Holds c)) c
 copy_outcome copies.Compact contents None = Undefined
 copy_outcome copies.Compact contents (Some form) = of_bottom contents (compact_copy form.size)
 
--- the number that is asked of a structure: nothing of what isn't built yet
+-- ---- serialized copies
+
+-- the bytes that contents are serialized as
+abbrev pub serialized_of : Contents → List ℕ
+serialized_of (Bottom bottom) = bottom_form bottom
+serialized_of (Top top) = top_form top.contents
+
+-- how many they are
+abbrev pub size_of_serialized : Contents → ℕ
+size_of_serialized contents = length (serialized_of contents)
+
+-- how many handles they have: those of a bottom structure have none
+abbrev pub handle_count_of : Contents → ℕ
+handle_count_of (Bottom bottom) = 0
+handle_count_of (Top top) = length (handles_of top.contents.instances)
+
+-- contents that are serialized into so many bytes: X13 where they are too few
+abbrev pub serialized_into : ℕ → Contents → Outcome
+serialized_into size contents =
+    if nat_lt size (size_of_serialized contents) then Breaks (record { rule = X13; place = Whole })
+    else Gives (Bytes (serialized_of contents))
+
+-- what the serializing of a structure gives
+abbrev pub serialize_outcome : ByteRange → Option Contents → Outcome
+serialize_outcome to contents = option_map_or (serialized_into to.size) contents Undefined
+
+-- a top structure that serialized bytes stand for, or the rule that an instance breaks
+abbrev pub linked_outcome : Result tops.TopValue DataFault → Outcome
+linked_outcome (Ok top) = Gives (Holds (Top top))
+linked_outcome (Err fault) = Breaks (record { rule = fault.rule; place = Part (unwrap_or fault.element 0) })
+
+-- the structure that serialized bytes stand for, where instances may refer to these
+abbrev pub structure_in : List Used → List ℕ → StructureKind → Outcome
+structure_in used bytes kinds.Bottom = option_map_or (λ bottom. Gives (Holds (Bottom bottom))) (bottom_in bytes) Undefined
+structure_in used bytes kinds.Top = linked_outcome (top_in used bytes)
+
+-- the same in a structure of this size: X13 where it is too small
+abbrev pub fitting_in : ℕ → List Used → List ℕ → StructureKind → Outcome
+fitting_in size used bytes kind =
+    if nat_lt size (deserialized_in bytes) then Breaks (record { rule = X13; place = Whole }) else structure_in used bytes kind
+
+-- X12 with the number of a fault
+abbrev pub bad_bytes : ℕ → Outcome
+bad_bytes number = Breaks (record { rule = X12; place = Part number })
+
+-- bytes that break no line of the serialized form, in a structure of a kind and a size: number 9 where they
+-- are of the other kind
+abbrev pub kept_outcome : StructureKind → ℕ → List Used → List ℕ → Outcome
+kept_outcome kinds.Bottom size used bytes = if is_top_form bytes then bad_bytes 9 else fitting_in size used bytes kinds.Bottom
+kept_outcome kinds.Top size used bytes = if is_top_form bytes then fitting_in size used bytes kinds.Top else bad_bytes 9
+
+-- the same of any bytes: X12 with the number of the first line that they break
+abbrev pub opened_outcome : Form → List Used → List ℕ → Option ℕ → Outcome
+opened_outcome form used bytes (Some number) = bad_bytes number
+opened_outcome form used bytes None = kept_outcome form.kind form.size used bytes
+
+-- what the making of a structure from serialized bytes gives
+abbrev pub deserialize_outcome : List Used → SeenBytes → Option Form → Outcome
+deserialize_outcome used (Some bytes) (Some form) = opened_outcome form used bytes (broken_line bytes)
+deserialize_outcome used _ _ = Undefined
+
+-- ---- properties
+
+-- the number that is asked of a structure
 abbrev pub number_of : Asked → SeenStructure → Option ℕ
 number_of asked.Compacted seen = option_map compacted_of (option_and_then as_bottom seen.contents)
 number_of asked.Size seen = option_map (λ (form : Form). form.size) seen.form
-number_of asked.Serialized seen = None
-number_of asked.Handles seen = None
+number_of asked.Serialized seen = option_map size_of_serialized seen.contents
+number_of asked.Handles seen = option_map handle_count_of seen.contents
 
 -- the numbers of several structures: none where one is missing
 abbrev pub numbers_of : Asked → List SeenStructure → Option (List ℕ)
@@ -177,10 +249,12 @@ computed (BuildTop build flags uses instances) seen =
 computed (UpdateTop build src uses instances) seen =
     of_top seen.0 (λ old. top_outcome build.info (top_again old (all_used seen.1.uses uses) instances seen.1.instances))
 computed (CopyStructure mode src dst) seen = copy_outcome mode seen.0 seen.1
+computed (SerializeStructure src to) seen = serialize_outcome to seen
+computed (DeserializeStructure from dst uses) seen = deserialize_outcome (all_used seen.uses uses) seen.bytes seen.dst
 computed (TellProperty what structures to) seen = property_outcome (numbers_of what seen)
 computed (TraceRays trace) seen = trace_outcome trace seen.uses seen.rays (option_and_then as_top seen.top)
 computed Rest seen = Gives Nothing
-computed Unbuilt seen = Undefined
+computed Impossible seen = Undefined
 
 -- what an action gives in a memory
 abbrev pub outcome_of : Action → Memory → Outcome

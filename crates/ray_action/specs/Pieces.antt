@@ -1,10 +1,9 @@
 -- The actions of a recording: those of each command, with what the status before it tells. (Own.)
-use Rattle.std.specs.Prelude.{ℕ, ◌+◌, ◌*◌, ◌/◌, ◌%◌, List, [], ◌∷◌, ◌++◌, map, Option, Some, None, Bool, true, false, unwrap_or, length, slice_index_or}
+use Rattle.std.specs.Prelude.{ℕ, ◌+◌, ◌*◌, ◌/◌, ◌%◌, List, [], ◌∷◌, ◌++◌, map, Option, Some, None, unwrap_or, length, slice_index_or}
 use Rattle.std.specs.List.{range_with_len}
 use Rattle.ray_flags.specs.declared.ray_flags.RayFlags.{RayFlags}
 use Rattle.ray_script.specs.declared.raw_rule.RawRule.{RawRule}
 use Rattle.ray_cmd.specs.declared.asked.Asked.{Asked}
-use Rattle.ray_cmd.specs.declared.asked.Asked.TheVariants as asked
 use Rattle.ray_cmd.specs.declared.build_mode.BuildMode.{BuildMode}
 use Rattle.ray_cmd.specs.declared.build_mode.BuildMode.TheVariants as modes
 use Rattle.ray_cmd.specs.declared.command.Command.{Command}
@@ -13,17 +12,19 @@ use Rattle.ray_cmd.specs.declared.geometry.Geometry.{Geometry}
 use Rattle.ray_cmd.specs.declared.info.Info.{Info}
 use Rattle.ray_cmd.specs.declared.region.Region.{Region}
 use Rattle.ray_cmd.specs.declared.spot.Spot.{Spot}
+use Rattle.ray_cmd.specs.declared.stretch.Stretch.{Stretch}
 use Rattle.ray_cmd.specs.declared.structure_kind.StructureKind.{StructureKind}
 use Rattle.ray_cmd.specs.declared.structure_kind.StructureKind.TheVariants as kinds
 use Rattle.ray_cmd.specs.declared.thing.Thing.{Thing}
 use Rattle.ray_cmd.specs.declared.thing.Thing.TheVariants as things
+use Rattle.ray_rules.specs.declared.byte_range.ByteRange.{ByteRange}
 use Rattle.ray_rules.specs.declared.live_structure.LiveStructure.{LiveStructure}
 use Rattle.ray_rules.specs.Access.{uses_at, rays_of_piece}
 use Rattle.ray_rules.specs.Ids.{look}
 use Rattle.ray_rules.specs.Ranges.{range}
 use Rattle.ray_rules.specs.Status.{Status, at_first}
 use Rattle.ray_rules.specs.Status as status
-use Rattle.ray_action.specs.Action.{Action, Building, MakeBuffer, MakeStructure, DestroyBuffer, DestroyStructure, ShowSizes, ShowBytes, UpdateBytes, FillBytes, CopyBytes, BuildBottom, UpdateBottom, BuildTop, UpdateTop, CopyStructure, TellProperty, TraceRays, Rest, Unbuilt}
+use Rattle.ray_action.specs.Action.{Action, Building, MakeBuffer, MakeStructure, DestroyBuffer, DestroyStructure, ShowSizes, ShowBytes, UpdateBytes, FillBytes, CopyBytes, BuildBottom, UpdateBottom, BuildTop, UpdateTop, CopyStructure, SerializeStructure, DeserializeStructure, TellProperty, TraceRays, Rest, Impossible}
 
 -- ---- builds: one info each
 
@@ -34,17 +35,17 @@ building z k info = record { info = k; dst = info.dst; buffers = z.buffers }
 abbrev pub bottom_action : Building → Info → BuildMode → Option ℕ → Action
 bottom_action build info modes.Build src = BuildBottom build info.flags info.geometries
 bottom_action build info modes.Update (Some src) = UpdateBottom build src info.geometries
-bottom_action build info modes.Update None = Unbuilt
+bottom_action build info modes.Update None = Impossible
 
 -- and a top structure, from its one geometry
 abbrev pub top_action_of : Building → Info → Geometry → BuildMode → Option ℕ → Action
 top_action_of build info instances modes.Build src = BuildTop build info.flags info.uses instances
 top_action_of build info instances modes.Update (Some src) = UpdateTop build src info.uses instances
-top_action_of build info instances modes.Update None = Unbuilt
+top_action_of build info instances modes.Update None = Impossible
 
 abbrev pub top_action : Building → Info → List Geometry → Action
 top_action build info (instances ∷ []) = top_action_of build info instances info.mode info.src
-top_action build info _ = Unbuilt
+top_action build info _ = Impossible
 
 -- by what its destination is
 abbrev pub info_action_by : Building → Info → StructureKind → Action
@@ -52,7 +53,7 @@ info_action_by build info kinds.Bottom = bottom_action build info info.mode info
 info_action_by build info kinds.Top = top_action build info info.geometries
 
 abbrev pub info_action_on : Building → Info → Option LiveStructure → Action
-info_action_on build info None = Unbuilt
+info_action_on build info None = Impossible
 info_action_on build info (Some s) = info_action_by build info s.kind
 
 abbrev pub info_action : Status → ℕ → Info → Action
@@ -99,12 +100,13 @@ abbrev pub destroyed : Thing → ℕ → Action
 destroyed things.Buffer id = DestroyBuffer id
 destroyed things.Structure id = DestroyStructure id
 
--- the telling of a property: that of what is serialized isn't built yet
+-- the telling of a property: a number of 64 bits for each structure
 abbrev pub property_action : Asked → List ℕ → Spot → Action
-property_action asked.Compacted structures dst = TellProperty asked.Compacted structures (range dst.buffer dst.offset (8 * length structures))
-property_action asked.Size structures dst = TellProperty asked.Size structures (range dst.buffer dst.offset (8 * length structures))
-property_action asked.Serialized structures dst = Unbuilt
-property_action asked.Handles structures dst = Unbuilt
+property_action what structures dst = TellProperty what structures (range dst.buffer dst.offset (8 * length structures))
+
+-- the bytes of a stretch
+abbrev pub stretch_range : Stretch → ByteRange
+stretch_range stretch = range stretch.buffer stretch.offset stretch.size
 
 -- what a host command does
 unfoldable pub host_action : Command → Action
@@ -132,8 +134,8 @@ actions_of rec z (commands.Fill buffer offset size value) = FillBytes (range buf
 actions_of rec z (commands.Copy src dst regions) = map (region_action src dst) regions
 actions_of rec z (commands.Build infos) = info_actions z 0 infos
 actions_of rec z (commands.CopyStructure mode src dst) = CopyStructure mode src dst ∷ []
-actions_of rec z (commands.Serialize src dst) = Unbuilt ∷ []
-actions_of rec z (commands.Deserialize src dst uses) = Unbuilt ∷ []
+actions_of rec z (commands.Serialize src dst) = SerializeStructure src (stretch_range dst) ∷ []
+actions_of rec z (commands.Deserialize src dst uses) = DeserializeStructure (stretch_range src) dst uses ∷ []
 actions_of rec z (commands.Property what structures dst) = property_action what structures dst ∷ []
 actions_of rec z (commands.Barrier src_stages src_access dst_stages dst_access) = Rest ∷ []
 actions_of rec z (commands.Trace top rays count hits flags mask script) =
@@ -160,17 +162,3 @@ actions_from rec i z (c ∷ cs) =
 -- the actions of a recording, in recording order
 abbrev pub actions : List Command → List Numbered
 actions rec = actions_from rec 0 at_first rec
-
--- whether what is asked of structures can be told yet
-abbrev pub can_tell : Asked → Bool
-can_tell asked.Compacted = true
-can_tell asked.Size = true
-can_tell asked.Serialized = false
-can_tell asked.Handles = false
-
--- whether the form of a command is built: all are but those of serialized copies
-unfoldable pub is_built_form : Command → Bool
-is_built_form (commands.Serialize src dst) = false
-is_built_form (commands.Deserialize src dst uses) = false
-is_built_form (commands.Property what structures dst) = can_tell what
-is_built_form _ = true

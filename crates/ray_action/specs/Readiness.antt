@@ -20,8 +20,8 @@ use Rattle.ray_rules.specs.Shapes.{are_of_bottom, is_instances}
 use Rattle.ray_action.specs.declared.form.Form.{Form}
 use Rattle.ray_action.specs.Memory.{Contents, Memory, kind_of, as_bottom, as_top}
 use Rattle.ray_action.specs.Areas.{has}
-use Rattle.ray_action.specs.Action.{Action, Building, Tracing, MakeBuffer, MakeStructure, DestroyBuffer, DestroyStructure, ShowSizes, ShowBytes, UpdateBytes, FillBytes, CopyBytes, BuildBottom, UpdateBottom, BuildTop, UpdateTop, CopyStructure, TellProperty, TraceRays, Rest, Unbuilt, content_buffer}
-use Rattle.ray_action.specs.Seeing.{Seen, SeenBytes, SeenGeometry, SeenStructures, SeenBuild, SeenTop, SeenTrace, see}
+use Rattle.ray_action.specs.Action.{Action, Building, Tracing, MakeBuffer, MakeStructure, DestroyBuffer, DestroyStructure, ShowSizes, ShowBytes, UpdateBytes, FillBytes, CopyBytes, BuildBottom, UpdateBottom, BuildTop, UpdateTop, CopyStructure, SerializeStructure, DeserializeStructure, TellProperty, TraceRays, Rest, Impossible, content_buffer}
+use Rattle.ray_action.specs.Seeing.{Seen, SeenBytes, SeenGeometry, SeenStructures, SeenBuild, SeenSerialized, SeenTop, SeenTrace, see}
 use Rattle.ray_action.specs.Outcomes.{numbers_of, bottoms_in}
 
 -- a structure is live, and of a kind
@@ -99,6 +99,13 @@ abbrev pub FitsMode : CopyMode → Option Contents → Type 0
 FitsMode copies.Clone contents = Unit {0}
 FitsMode copies.Compact contents = IsBottomSource contents
 
+-- serialized bytes are there, the destination is live, and each structure that instances may refer to is a
+-- built bottom structure
+pub record IsDeserializeReady (ids : List ℕ) (seen : SeenSerialized) : Type 0 where
+  pub bytes : IsSome seen.bytes
+  pub dst : IsSome seen.dst
+  pub uses : AreBottoms seen.uses ids
+
 -- rays and a top structure are there, with the structures of its active instances as they were; the rules are a
 -- script, and the flags don't ask that everything counts as opaque and that nothing does
 pub record IsTraceReady (trace : Tracing) (seen : SeenTrace) : Type 0 where
@@ -129,10 +136,12 @@ IsEnough (BuildTop build flags uses instances) seen =
     IsTopReady build uses instances seen × (tops.has_both_fast flags ≡ false)
 IsEnough (UpdateTop build src uses instances) seen = IsTopSource instances seen.0 × IsTopReady build uses instances seen.1
 IsEnough (CopyStructure mode src dst) seen = IsCopyReady seen.0 seen.1 × FitsMode mode seen.0
+IsEnough (SerializeStructure src to) seen = IsSome seen
+IsEnough (DeserializeStructure from dst uses) seen = IsDeserializeReady uses seen
 IsEnough (TellProperty what structures to) seen = IsSome (numbers_of what seen)
 IsEnough (TraceRays trace) seen = IsTraceReady trace seen
 IsEnough Rest seen = Unit {0}
-IsEnough Unbuilt seen = ⊥
+IsEnough Impossible seen = ⊥
 
 -- an action is ready in a memory
 abbrev pub IsReady : Action → Memory → Type 0

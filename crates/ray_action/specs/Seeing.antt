@@ -10,7 +10,7 @@ use Rattle.ray_rules.specs.Ranges.{inputs_read}
 use Rattle.ray_action.specs.declared.form.Form.{Form}
 use Rattle.ray_action.specs.Memory.{Contents, Memory, BufferAt, StructureAt, ContentsAt, bytes_at}
 use Rattle.ray_action.specs.Areas.{has}
-use Rattle.ray_action.specs.Action.{Action, MakeBuffer, MakeStructure, DestroyBuffer, DestroyStructure, ShowSizes, ShowBytes, UpdateBytes, FillBytes, CopyBytes, BuildBottom, UpdateBottom, BuildTop, UpdateTop, CopyStructure, TellProperty, TraceRays, Rest, Unbuilt, content_buffer}
+use Rattle.ray_action.specs.Action.{Action, MakeBuffer, MakeStructure, DestroyBuffer, DestroyStructure, ShowSizes, ShowBytes, UpdateBytes, FillBytes, CopyBytes, BuildBottom, UpdateBottom, BuildTop, UpdateTop, CopyStructure, SerializeStructure, DeserializeStructure, TellProperty, TraceRays, Rest, Impossible, content_buffer}
 
 -- the bytes of a range: none where one of them is missing
 abbrev pub SeenBytes : Type 0
@@ -58,6 +58,13 @@ pub record SeenTop : Type 0 where
   pub uses : SeenStructures
   pub instances : SeenGeometry
 
+-- what the making of a structure from serialized bytes sees: the bytes, what its destination is, and the
+-- structures that its instances may refer to
+pub record SeenSerialized : Type 0 where
+  pub bytes : SeenBytes
+  pub dst : Option Form
+  pub uses : SeenStructures
+
 -- what a trace sees: its rays, its top structure, and those that instances may refer to
 pub record SeenTrace : Type 0 where
   pub rays : SeenBytes
@@ -80,10 +87,12 @@ Seen (UpdateBottom build src geometries) = Option Contents × SeenBuild
 Seen (BuildTop build flags uses instances) = SeenTop
 Seen (UpdateTop build src uses instances) = Option Contents × SeenTop
 Seen (CopyStructure mode src dst) = Option Contents × Option Form
+Seen (SerializeStructure src to) = Option Contents
+Seen (DeserializeStructure from dst uses) = SeenSerialized
 Seen (TellProperty what structures to) = List SeenStructure
 Seen (TraceRays trace) = SeenTrace
 Seen Rest = Unit {0}
-Seen Unbuilt = Unit {0}
+Seen Impossible = Unit {0}
 
 -- what an action sees of a memory
 abbrev pub see : (action : Action) → Memory → Seen action
@@ -116,6 +125,12 @@ see (UpdateTop build src uses instances) memory = (
   },
 )
 see (CopyStructure mode src dst) memory = (memory (ContentsAt src), memory (StructureAt dst))
+see (SerializeStructure src to) memory = memory (ContentsAt src)
+see (DeserializeStructure from dst uses) memory = record {
+  bytes = bytes_at memory from;
+  dst = memory (StructureAt dst);
+  uses = see_structures memory uses;
+}
 see (TellProperty what structures to) memory = map (see_structure memory) structures
 see (TraceRays trace) memory = record {
   rays = bytes_at memory trace.rays;
@@ -123,4 +138,4 @@ see (TraceRays trace) memory = record {
   uses = see_structures memory trace.uses;
 }
 see Rest memory = tt
-see Unbuilt memory = tt
+see Impossible memory = tt

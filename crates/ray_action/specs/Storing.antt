@@ -6,7 +6,7 @@ use Rattle.byteorder.specs.Endian.{little_bytes}
 use Rattle.ray_action.specs.declared.form.Form.{Form}
 use Rattle.ray_action.specs.Memory.{Contents, Location, ByteAt, BufferAt, StructureAt, ContentsAt, Held, Memory}
 use Rattle.ray_action.specs.Areas.{is_in_range, is_contents_of}
-use Rattle.ray_action.specs.Action.{Action, MakeBuffer, MakeStructure, DestroyBuffer, DestroyStructure, ShowSizes, ShowBytes, UpdateBytes, FillBytes, CopyBytes, BuildBottom, UpdateBottom, BuildTop, UpdateTop, CopyStructure, TellProperty, TraceRays, Rest, Unbuilt}
+use Rattle.ray_action.specs.Action.{Action, MakeBuffer, MakeStructure, DestroyBuffer, DestroyStructure, ShowSizes, ShowBytes, UpdateBytes, FillBytes, CopyBytes, BuildBottom, UpdateBottom, BuildTop, UpdateTop, CopyStructure, SerializeStructure, DeserializeStructure, TellProperty, TraceRays, Rest, Impossible}
 use Rattle.ray_action.specs.Outcomes.{Output, Nothing, Bytes, Holds, Outcome, Gives, Breaks, Undefined, outcome_of}
 
 -- ---- what is written
@@ -41,10 +41,12 @@ writes (UpdateBottom build src geometries) l = is_contents_of build.dst l
 writes (BuildTop build flags uses instances) l = is_contents_of build.dst l
 writes (UpdateTop build src uses instances) l = is_contents_of build.dst l
 writes (CopyStructure mode src dst) l = is_contents_of dst l
+writes (SerializeStructure src to) l = is_in_range to l
+writes (DeserializeStructure from dst uses) l = is_contents_of dst l
 writes (TellProperty what structures to) l = is_in_range to l
 writes (TraceRays trace) l = is_in_range trace.hits l
 writes Rest l = false
-writes Unbuilt l = false
+writes Impossible l = false
 
 -- ---- what is left there
 
@@ -119,10 +121,12 @@ written (UpdateBottom build src geometries) output l old = contents_left output 
 written (BuildTop build flags uses instances) output l old = contents_left output l old
 written (UpdateTop build src uses instances) output l old = contents_left output l old
 written (CopyStructure mode src dst) output l old = contents_left output l old
+written (SerializeStructure src to) output l old = bytes_left to.from output l old
+written (DeserializeStructure from dst uses) output l old = contents_left output l old
 written (TellProperty what structures to) output l old = bytes_left to.from output l old
 written (TraceRays trace) output l old = bytes_left trace.hits.from output l old
 written Rest output l old = old
-written Unbuilt output l old = old
+written Impossible output l old = old
 
 -- the same of an outcome: a fault stores nothing
 abbrev pub left : Action → Outcome → (l : Location) → Held l → Held l

@@ -10,7 +10,7 @@ use Rattle.ray_cmd.specs.declared.read_form.ReadForm.{ReadForm}
 use Rattle.ray_cmd.specs.declared.read_form.ReadForm.TheVariants as forms
 use Rattle.ray_cmd.specs.declared.structure_kind.StructureKind.{StructureKind}
 use Rattle.ray_cmd.specs.declared.structure_kind.StructureKind.TheVariants as kinds
-use Rattle.ray_action.specs.Action.{Action, MakeBuffer, MakeStructure, DestroyBuffer, DestroyStructure, ShowSizes, ShowBytes, UpdateBytes, FillBytes, CopyBytes, BuildBottom, UpdateBottom, BuildTop, UpdateTop, CopyStructure, TellProperty, TraceRays, Rest, Unbuilt}
+use Rattle.ray_action.specs.Action.{Action, MakeBuffer, MakeStructure, DestroyBuffer, DestroyStructure, ShowSizes, ShowBytes, UpdateBytes, FillBytes, CopyBytes, BuildBottom, UpdateBottom, BuildTop, UpdateTop, CopyStructure, SerializeStructure, DeserializeStructure, TellProperty, TraceRays, Rest, Impossible}
 use Rattle.ray_action.specs.Outcomes.{Output, Nothing, Bytes, Holds}
 
 -- ---- hits
@@ -119,7 +119,9 @@ text_of (UpdateBottom build src geometries) output = []
 text_of (BuildTop build flags uses instances) output = []
 text_of (UpdateTop build src uses instances) output = []
 text_of (CopyStructure mode src dst) output = []
+text_of (SerializeStructure src to) output = []
+text_of (DeserializeStructure from dst uses) output = []
 text_of (TellProperty what structures to) output = []
 text_of (TraceRays trace) output = []
 text_of Rest output = []
-text_of Unbuilt output = []
+text_of Impossible output = []

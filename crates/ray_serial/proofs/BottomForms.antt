@@ -1,7 +1,7 @@
 -- The form of a bottom structure: what is written is a form that stands for the contents, and a form is what its contents are
 -- written as.
 use Rattle.std.proofs.Common.{ℕ, suc, ◌≡◌, ◌<◌, ◌≤◌, ◌+◌, ◌*◌, ◌==◌, ◌&&◌, ◌^◌, ◌++◌, ◌||◌, not, Bool, true, false, List, [], ◌∷◌, length, map, Result, Ok, Err, Option, Some, None, option_map, refl, sym, ap, subst, ◌∙◌, arith, length-append}
-use Rattle.std.specs.Prelude.{All, IfOk, slice_get, is_none, nat_le, nat_lt, if◌then◌else◌}
+use Rattle.std.specs.Prelude.{All, IfOk, IsSome, slice_get, is_none, nat_le, nat_lt, if◌then◌else◌}
 use Rattle.std.specs.List.{flat_map, range_with_len}
 use Rattle.std.proofs.lemmas.Bool.Decides.{nat_tests}
 use Rattle.std.proofs.lemmas.List.Concat.{flat_map-cons}
@@ -18,7 +18,7 @@ use Rattle.ray_bottom.specs.Storing.{bytes_of_words, kind_number, geometry_bytes
 use Rattle.ray_serial.specs.Heads.{element_size}
 use Rattle.ray_serial.specs.Rows.{are_geometries, total_in, row_total, geometries_in}
 use Rattle.ray_serial.specs.InstanceBytes.{are_instances}
-use Rattle.ray_serial.specs.Form.{handle_count_in, payload_in, instances_of_payload, is_top_payload, flags_of_payload, geometry_count, row_of, at_most, or_else, bottom_total, has_flags, top_total, lacks_room, total_of_payload, has_bad_element}
+use Rattle.ray_serial.specs.Form.{handle_count_in, payload_in, instances_of_payload, is_top_payload, flags_of_payload, geometry_count, row_of, at_most, or_else, bottom_total, has_flags, top_total, lacks_room, total_of_payload, has_bad_element, broken_line}
 use Rattle.ray_serial.specs.Meaning.{KeepsLines, IsForm, is_top_form, deserialized_in, handle_at, with_flags, bottom_in_payload, bottom_in, HasRoom, CanRestore}
 use Rattle.ray_serial.specs.Written.{form_size, form_bytes, bottom_form}
 use Rattle.ray_serial.proofs.Words.{AreBytes, AreBytes-drop, HasFour, four_bytes, four_back, four_again, length-four_bytes, after_four}
@@ -493,6 +493,12 @@ contents_are : (bytes : List ℕ) (gs : List Geometry) → geometries_in (geomet
     bottom_in bytes ≡ Some (with_flags (flags_of_payload (payload_in bytes)) gs)
 unfolding bottom_in_payload
 contents_are bytes gs e = ap (option_map (with_flags (flags_of_payload (payload_in bytes)))) e
+
+-- a form that isn't that of a top structure stands for a bottom structure
+pub bottom_there : (bytes : List ℕ) → broken_line bytes ≡ None → is_top_form bytes ≡ false → IsSome (bottom_in bytes)
+bottom_there bytes unbroken bottom =
+    let found = is_there bytes (KeepsLines-unbroken bytes unbroken) bottom in
+    subst IsSome (sym (contents_are bytes found.value found.is_some)) refl
 
 -- what a form of a bottom structure can be restored by
 pub CanRestore-form : (bytes : List ℕ) → AreBytes bytes → IsForm bytes → is_top_form bytes ≡ false →
