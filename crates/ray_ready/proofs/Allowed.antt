@@ -18,11 +18,11 @@ use Rattle.ray_rules.specs.declared.byte_range.ByteRange.{ByteRange}
 use Rattle.ray_rules.specs.declared.live_buffer.LiveBuffer.{LiveBuffer}
 use Rattle.ray_rules.specs.declared.live_structure.LiveStructure.{LiveStructure}
 use Rattle.ray_rules.specs.Ids.{Ids, look}
-use Rattle.ray_rules.specs.Origins.{info_of, uses_of}
+use Rattle.ray_rules.specs.Origins.{info_of, is_deserialized, uses_of}
 use Rattle.ray_rules.specs.Ranges.{count_of, inputs_read, primitives, size_at}
 use Rattle.ray_rules.specs.Status.{Status}
 use Rattle.ray_action.specs.Areas.{has}
-use Rattle.ray_action.specs.Action.{Action, Building, Tracing, MakeBuffer, MakeStructure, DestroyBuffer, DestroyStructure, ShowSizes, ShowBytes, UpdateBytes, FillBytes, CopyBytes, BuildBottom, UpdateBottom, BuildTop, UpdateTop, CopyStructure, TellProperty, TraceRays, Rest, Unbuilt, content_buffer}
+use Rattle.ray_action.specs.Action.{Action, Building, Tracing, MakeBuffer, MakeStructure, DestroyBuffer, DestroyStructure, ShowSizes, ShowBytes, UpdateBytes, FillBytes, CopyBytes, BuildBottom, UpdateBottom, BuildTop, UpdateTop, CopyStructure, SerializeStructure, DeserializeStructure, TellProperty, TraceRays, Rest, Impossible, content_buffer}
 use Rattle.ray_action.specs.Readiness.{AreCounts, AreOfBottom, IsOfTop}
 use Rattle.ray_ready.proofs.Ties.{IsBuilt, IsFresh}
 
@@ -36,6 +36,11 @@ pub record IsLiveOf (kind : StructureKind) (found : Option LiveStructure) : Type
 pub record IsBuiltOf (kind : StructureKind) (found : Option LiveStructure) : Type 0 where
   pub by : Built
   pub built : IsBuilt found kind by
+
+-- it is built, and of some kind
+pub record IsBuiltAny (found : Option LiveStructure) : Type 0 where
+  pub kind : StructureKind
+  pub built : IsBuiltOf kind found
 
 -- each byte of a range is in its buffer
 abbrev pub IsWithin : Ids LiveBuffer → ByteRange → Type 0
@@ -73,10 +78,11 @@ pub record MayBuildTop (rec : List Command) (z : Status) (build : Building) (use
   pub are_built : (u : ℕ) → has uses u ≡ true → IsBuiltOf kinds.Bottom (look z.structures u)
   pub readable : IsReadable build.buffers instances
 
--- a top of as many instances is there
+-- a top of as many instances is there, which an info built
 pub record IsSource (rec : List Command) (z : Status) (src : ℕ) (instances : Geometry) : Type 0 where
   pub by : Built
   pub built : IsBuilt (look z.structures src) kinds.Top by
+  pub own : is_deserialized rec by ≡ false
   pub as_many : (info : Info) → info_of rec by ≡ Some info → count_of instances ≡ primitives info.geometries
 
 -- ---- copies, properties and traces
@@ -91,11 +97,16 @@ pub record MayCopy (z : Status) (mode : CopyMode) (src dst : ℕ) : Type 0 where
   pub target : IsLiveOf kind (look z.structures dst)
   pub fits : FitsKind mode kind
 
+pub record MayDeserialize (z : Status) (from : ByteRange) (dst : ℕ) (uses : List ℕ) : Type 0 where
+  pub within : IsWithin z.buffers from
+  pub live : IsSome (look z.structures dst)
+  pub are_built : (u : ℕ) → has uses u ≡ true → IsBuiltOf kinds.Bottom (look z.structures u)
+
 abbrev pub MayTell : Status → Asked → ℕ → Type 0
 MayTell z asked.Compacted id = IsBuiltOf kinds.Bottom (look z.structures id)
 MayTell z asked.Size id = IsSome (look z.structures id)
-MayTell z asked.Serialized id = ⊥
-MayTell z asked.Handles id = ⊥
+MayTell z asked.Serialized id = IsBuiltAny (look z.structures id)
+MayTell z asked.Handles id = IsBuiltAny (look z.structures id)
 
 abbrev pub MayTellAll : Status → Asked → List ℕ → Type 0
 MayTellAll z what [] = Unit {0}
@@ -127,7 +138,9 @@ IsAllowed rec z (UpdateBottom build src gs) = IsBuiltOf kinds.Bottom (look z.str
 IsAllowed rec z (BuildTop build flags uses instances) = MayBuildTop rec z build uses instances × (tops.has_both_fast flags ≡ false)
 IsAllowed rec z (UpdateTop build src uses instances) = IsSource rec z src instances × MayBuildTop rec z build uses instances
 IsAllowed rec z (CopyStructure mode src dst) = MayCopy z mode src dst
+IsAllowed rec z (SerializeStructure src to) = IsBuiltAny (look z.structures src)
+IsAllowed rec z (DeserializeStructure from dst uses) = MayDeserialize z from dst uses
 IsAllowed rec z (TellProperty what structures to) = MayTellAll z what structures
 IsAllowed rec z (TraceRays trace) = MayTrace rec z trace
 IsAllowed rec z Rest = Unit {0}
-IsAllowed rec z Unbuilt = ⊥
+IsAllowed rec z Impossible = ⊥

@@ -2,13 +2,13 @@
 use Rattle.std.proofs.Common.{◌≡◌, ◌≤◌, ◌+◌, ℕ, Bool, true, false, List, [], ◌∷◌, Option, Some, None, IsSome, IfSome, IsSomeAnd, refl, sym, ◌∙◌, ap, subst, inl, inr, arith, fold}
 use Rattle.std.specs.Prelude.{if◌then◌else◌, slice_get, ◌==◌, ◌||◌}
 use Rattle.std.proofs.lemmas.Bool.{cases_eq, ne_eqb}
-use Rattle.std.specs.Option.{option_map_or, option_and_then}
+use Rattle.std.specs.Option.{option_map, option_map_or, option_and_then}
 use Rattle.ray_geom.specs.Boxes.{BoxValue}
 use Rattle.ray_contents.specs.Bounds.{KeepsBounds}
 use Rattle.ray_flags.specs.declared.build_flags.BuildFlags.{BuildFlags}
 use Rattle.ray_bottom.specs.Contents as bottoms
 use Rattle.ray_top.specs.Contents as tops
-use Rattle.ray_top.specs.Contents.{IsActive, IsInstance}
+use Rattle.ray_top.specs.Contents.{IsActive}
 use Rattle.ray_top.specs.Instances.{InstanceValue}
 use Rattle.ray_top.specs.InstanceReading.{bounds_in, noted}
 use Rattle.ray_top.specs.declared.used.Used.{Used}
@@ -17,26 +17,28 @@ use Rattle.ray_cmd.specs.declared.command.Command.TheVariants as commands
 use Rattle.ray_cmd.specs.declared.copy_mode.CopyMode.{CopyMode}
 use Rattle.ray_cmd.specs.declared.geometry.Geometry.{Geometry}
 use Rattle.ray_cmd.specs.declared.info.Info.{Info}
+use Rattle.ray_cmd.specs.declared.stretch.Stretch.{Stretch}
 use Rattle.ray_cmd.specs.declared.structure_kind.StructureKind.{StructureKind}
 use Rattle.ray_cmd.specs.declared.structure_kind.StructureKind.TheVariants as kinds
 use Rattle.ray_rules.specs.declared.built.Built.{Built}
 use Rattle.ray_rules.specs.declared.live_structure.LiveStructure.{LiveStructure}
 use Rattle.ray_rules.specs.Ids.{look}
-use Rattle.ray_rules.specs.Origins.{info_in, info_of, uses_in, uses_of}
+use Rattle.ray_rules.specs.Origins.{info_in, info_of, is_deserialize, is_deserialized, uses_in, uses_of}
 use Rattle.ray_rules.specs.Ranges.{count_of, primitives}
 use Rattle.ray_rules.specs.Status.{Status, built_at, built_by, copied_by, fill_in}
 use Rattle.ray_action.specs.Areas.{has}
-use Rattle.ray_action.specs.Memory.{Contents, Memory, Bottom, Top, ContentsAt, as_bottom, bounds_of}
-use Rattle.ray_action.specs.Action.{Building, BuildBottom, UpdateBottom, BuildTop, UpdateTop, CopyStructure}
+use Rattle.ray_action.specs.Memory.{Contents, Memory, Bottom, Top, ContentsAt, StructureAt, as_bottom, bounds_of}
+use Rattle.ray_action.specs.Action.{Building, BuildBottom, UpdateBottom, BuildTop, UpdateTop, CopyStructure, DeserializeStructure}
 use Rattle.ray_action.specs.Seeing.{SeenStructures, see_structures}
 use Rattle.ray_action.specs.Building.{all_used, used_of}
 use Rattle.ray_action.specs.Outcomes.{Output, Gives}
+use Rattle.ray_action.specs.Pieces.{stretch_range}
 use Rattle.ray_action.specs.Storing.{put}
-use Rattle.ray_ready.proofs.Ties.{Fills, IsBounded, IsBuilt, IsEarlier, IsTopBy, Ties}
+use Rattle.ray_ready.proofs.Ties.{Fills, IsAsMany, IsBounded, IsBuilt, IsEarlier, IsTopBy, Ties, form_of}
 use Rattle.ray_ready.proofs.Filling.{IsFree, none_yet}
 use Rattle.ray_ready.proofs.Storing.{filled_memory, ties_filled}
-use Rattle.ray_ready.proofs.Giving.{IsReadTop, MayGive}
-use Rattle.ray_ready.proofs.Allowed.{IsBuiltOf, IsLiveOf, MayBuildBottom, MayBuildTop, MayCopy}
+use Rattle.ray_ready.proofs.Giving.{IsLinkedTop, IsReadTop, MayGive, MayRestore, MayRestoreKind}
+use Rattle.ray_ready.proofs.Allowed.{IsBuiltOf, IsLiveOf, MayBuildBottom, MayBuildTop, MayCopy, MayDeserialize}
 
 -- ---- the structures in use
 
@@ -78,7 +80,7 @@ used_is seen u ids x e = named_by (has ids u) (option_and_then bounds_of (seen u
 
 -- ---- the info by which something is built
 
-built_now : ℕ → ℕ → Built
+abbrev built_now : ℕ → ℕ → Built
 built_now i k = record { stamp = i; info = k; written = i }
 
 info_found : (rec : List Command) (i k : ℕ) (infos : List Info) (info : Info) → slice_get rec i ≡ Some (commands.Build infos) → slice_get infos k ≡ Some info
@@ -128,9 +130,42 @@ active_in : (used : List Used) (i : Option InstanceValue) → IfSome i (IsActive
 active_in used None is = tt
 active_in used (Some v) is = some_and (bounds_in used v.id) (KeepsBounds v.matrix) is.kept
 
-active_as : (used others : List Used) (i : Option InstanceValue) → used ≡ others → IsInstance used i
+in_use_as : (used others : List Used) (i : Option InstanceValue) → used ≡ others → IfSome i (λ (v : InstanceValue). IsSome (bounds_in used v.id))
     → IfSome i (λ (v : InstanceValue). IsSome (bounds_in others v.id))
-active_as used others i same is = subst (λ us. IfSome i (λ (v : InstanceValue). IsSome (bounds_in us v.id))) same (active_in used i is.limits)
+in_use_as used others i same is = subst (λ us. IfSome i (λ (v : InstanceValue). IsSome (bounds_in us v.id))) same is
+
+-- a top whose active instances refer to structures in use, those that its command names
+top_filled : (rec : List Command) (i k : ℕ) (z : Status) (m : Memory) (uses : List ℕ) (dst : ℕ) (t : tops.TopValue)
+    → uses_of rec (built_now i k) ≡ uses → (is_deserialized rec (built_now i k) ≡ false → IsAsMany rec (built_now i k) t)
+    → IsLiveOf kinds.Top (look z.structures dst) → ((u : ℕ) → has uses u ≡ true → IsBuiltOf kinds.Bottom (look z.structures u))
+    → IsFree rec i z.structures dst → IsLinkedTop (all_used (see_structures m uses) uses) t → Ties rec i k z m
+    → Ties rec i (k + 1) (fill_in dst (built_by i k) z) (filled_memory dst (Top t) m)
+top_filled rec i k z m uses dst t named count live are_built free links ties =
+    let seen : SeenStructures = see_structures m uses in
+    let b : Built = record { stamp = i; info = k; written = i } in
+    let by : IsTopBy rec b (Some (Top t)) = record {
+      top = t;
+      is_it = refl;
+      in_use = λ u x there.
+          ap (λ ids. has ids u) named ∙ (used_is seen u uses x (ap (λ us. bounds_in us u) (sym links.same) ∙ there)).0;
+      active = λ n d less. in_use_as (all_used seen uses) t.used _ (sym links.same) (links.active n d less);
+      count = count;
+    } in
+    let fills : Fills rec live.structure.kind b (Some (Top t)) = subst (λ kind. Fills rec kind b (Some (Top t))) (sym live.same_kind) by in
+    ties_filled rec i k (k + 1) z m dst live.structure b (Top t) live.is_it (omega arith) free (record {
+      order = first_order i k;
+      written = refl;
+      fills = fills;
+      bounds = λ s u x top same in_use fresh.
+          let equal : t ≡ s = cc in
+          let found = used_is seen u uses x (ap (λ us. bounds_in us u) (sym links.same ∙ ap (λ (y : tops.TopValue). y.used) equal) ∙ in_use) in
+          let bottom = are_built u found.0 in
+          seen_bounds (has uses u) (m (ContentsAt u)) x found.0 (ties.contents.held u kinds.Bottom bottom.by bottom.built) found.1;
+    }) ties
+
+-- a top that an info builds
+linked_of : (used : List Used) (count : ℕ) (t : tops.TopValue) → IsReadTop used count t → IsLinkedTop used t
+linked_of used count t read = record { same = read.same; active = λ n d less. active_in used _ (read.read.each n d less).limits }
 
 pub top_stored : (rec : List Command) (i k : ℕ) (z : Status) (m : Memory) (infos : List Info) (info : Info) (instances : Geometry) (t : tops.TopValue)
     → slice_get rec i ≡ Some (commands.Build infos) → slice_get infos k ≡ Some info → info.geometries ≡ instances ∷ []
@@ -138,31 +173,51 @@ pub top_stored : (rec : List Command) (i k : ℕ) (z : Status) (m : Memory) (inf
     → IsFree rec i z.structures info.dst → IsReadTop (all_used (see_structures m info.uses) info.uses) (count_of instances) t → Ties rec i k z m
     → Ties rec i (k + 1) (fill_in info.dst (built_by i k) z) (filled_memory info.dst (Top t) m)
 top_stored rec i k z m infos info instances t command is geometries live are_built free read ties =
-    let seen : SeenStructures = see_structures m info.uses in
-    let used : List Used = all_used seen info.uses in
-    let b : Built = record { stamp = i; info = k; written = i } in
-    let by : IsTopBy rec b (Some (Top t)) = record {
-      top = t;
-      is_it = refl;
-      in_use = λ u x there.
-          ap (λ ids. has ids u) (uses_found rec i k infos info command is)
-          ∙ (used_is seen u info.uses x (ap (λ us. bounds_in us u) (sym read.same) ∙ there)).0;
-      active = λ n d less. active_as used t.used _ (sym read.same) (read.read.each n d less);
-      by = info;
-      info = info_found rec i k infos info command is;
-      count = read.read.as_many ∙ (omega arith ∙ sym (ap primitives geometries));
-    } in
-    let fills : Fills rec live.structure.kind b (Some (Top t)) = subst (λ kind. Fills rec kind b (Some (Top t))) (sym live.same_kind) by in
-    ties_filled rec i k (k + 1) z m info.dst live.structure b (Top t) live.is_it (omega arith) free (record {
-      order = first_order i k;
-      written = refl;
-      fills = fills;
-      bounds = λ s u x top same in_use fresh.
-          let equal : t ≡ s = cc in
-          let found = used_is seen u info.uses x (ap (λ us. bounds_in us u) (sym read.same ∙ ap (λ (y : tops.TopValue). y.used) equal) ∙ in_use) in
-          let bottom = are_built u found.0 in
-          seen_bounds (has info.uses u) (m (ContentsAt u)) x found.0 (ties.contents.held u kinds.Bottom bottom.by bottom.built) found.1;
-    }) ties
+    top_filled rec i k z m info.uses info.dst t (uses_found rec i k infos info command is)
+    (λ own. record { by = info; info = info_found rec i k infos info command is; count = read.read.as_many ∙ (omega arith ∙ sym (ap primitives geometries)) })
+    live are_built free (linked_of (all_used (see_structures m info.uses) info.uses) (count_of instances) t read) ties
+
+-- ---- serialized copies
+
+-- what a `deserialize` names
+uses_named : (rec : List Command) (i : ℕ) (src : Stretch) (dst : ℕ) (uses : List ℕ) → slice_get rec i ≡ Some (commands.Deserialize src dst uses)
+    → uses_of rec (built_now i 0) ≡ uses
+uses_named rec i src dst uses c = ap (λ found. option_map_or (uses_in 0) found []) c
+
+comes_so : (rec : List Command) (i : ℕ) (src : Stretch) (dst : ℕ) (uses : List ℕ) → slice_get rec i ≡ Some (commands.Deserialize src dst uses)
+    → is_deserialized rec (built_now i 0) ≡ true
+comes_so rec i src dst uses c = ap (λ found. option_map_or is_deserialize found false) c
+
+never_own : {X : Type 0} (b : Bool) → b ≡ true → b ≡ false → X
+never_own b e f = absurd cc
+
+restored_stored : (rec : List Command) (i : ℕ) (z : Status) (m : Memory) (src : Stretch) (dst : ℕ) (uses : List ℕ) (kind : StructureKind) (o : Output)
+    → slice_get rec i ≡ Some (commands.Deserialize src dst uses) → IsLiveOf kind (look z.structures dst)
+    → ((u : ℕ) → has uses u ≡ true → IsBuiltOf kinds.Bottom (look z.structures u)) → MayRestoreKind kind (all_used (see_structures m uses) uses) o → Ties rec i 0 z m
+    → Ties rec i 1 (fill_in dst (built_by i 0) z) (put (DeserializeStructure (stretch_range src) dst uses) (Gives o) m)
+restored_stored rec i z m src dst uses kinds.Bottom o command live are_built gives ties =
+    subst (λ p. Ties rec i 1 (fill_in dst (built_by i 0) z) (put (DeserializeStructure (stretch_range src) dst uses) (Gives p) m)) (sym gives.1)
+    (bottom_stored rec i 0 z m dst gives.0 live (none_yet rec i dst z.structures (λ q. m (ContentsAt q)) ties.contents) ties)
+restored_stored rec i z m src dst uses kinds.Top o command live are_built gives ties =
+    subst (λ p. Ties rec i 1 (fill_in dst (built_by i 0) z) (put (DeserializeStructure (stretch_range src) dst uses) (Gives p) m)) (sym gives.1.0)
+    (top_filled rec i 0 z m uses dst gives.0 (uses_named rec i src dst uses command)
+    (λ own. never_own (is_deserialized rec (built_now i 0)) (comes_so rec i src dst uses command) own)
+    live are_built (none_yet rec i dst z.structures (λ q. m (ContentsAt q)) ties.contents) gives.1.1 ties)
+
+-- what stands under a live id
+the_structure : (found : Option LiveStructure) → IsSome found → (s : LiveStructure) × (found ≡ Some s)
+the_structure None is = absurd cc
+the_structure (Some s) is = (s, refl)
+
+pub structure_restored : (rec : List Command) (i : ℕ) (z : Status) (m : Memory) (src : Stretch) (dst : ℕ) (uses : List ℕ) (o : Output)
+    → slice_get rec i ≡ Some (commands.Deserialize src dst uses) → MayDeserialize z (stretch_range src) dst uses
+    → MayGive (DeserializeStructure (stretch_range src) dst uses) m o → Ties rec i 0 z m
+    → Ties rec i 1 (fill_in dst (built_by i 0) z) (put (DeserializeStructure (stretch_range src) dst uses) (Gives o) m)
+structure_restored rec i z m src dst uses o command may gives ties =
+    let found = the_structure (look z.structures dst) may.live in
+    let form : m (StructureAt dst) ≡ Some (form_of found.0) = ties.forms.form dst ∙ ap (option_map form_of) found.1 in
+    restored_stored rec i z m src dst uses found.0.kind o command (record { structure = found.0; is_it = found.1; same_kind = refl }) may.are_built
+    (subst (λ f. MayRestore f (all_used (see_structures m uses) uses) o) form gives) ties
 
 -- ---- copies
 
@@ -174,9 +229,7 @@ copied_fills rec i kinds.Top b found fills = record {
   is_it = fills.is_it;
   in_use = fills.in_use;
   active = fills.active;
-  by = fills.by;
-  info = fills.info;
-  count = fills.count;
+  count = λ own. let many = fills.count own in record { by = many.by; info = many.info; count = many.count };
 }
 
 source_by : (found : Option LiveStructure) (kind : StructureKind) (b : Built) → IsBuilt found kind b → option_and_then (λ (s : LiveStructure). s.built) found ≡ Some b

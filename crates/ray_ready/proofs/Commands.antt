@@ -1,7 +1,7 @@
 -- The actions of each command that may be run are ready in their turn, and keep the invariant.
 use Rattle.std.proofs.Common.{◌≡◌, ◌+◌, ◌*◌, ◌^◌, ◌-◌, ◌<◌, ◌≤◌, ℕ, Bool, true, false, List, [], ◌∷◌, Option, Some, None, IsSome, refl, sym, ◌∙◌, ap, subst, arith, length, map, min}
 use Rattle.std.proofs.lemmas.Bool.Decides.{nat_tests}
-use Rattle.std.specs.Prelude.{◌||◌, ◌&&◌, ◌==◌, nat_lt, slice_get, sum, unwrap_or}
+use Rattle.std.specs.Prelude.{not, ◌||◌, ◌&&◌, ◌==◌, nat_lt, slice_get, sum, unwrap_or}
 use Rattle.std.specs.List.{list_any, range_with_len}
 use Rattle.std.specs.Option.{option_map, option_map_or, option_and_then}
 use Rattle.ray_flags.specs.Admission.{AsksBoth}
@@ -19,6 +19,7 @@ use Rattle.ray_cmd.specs.declared.copy_mode.CopyMode.TheVariants as copies
 use Rattle.ray_cmd.specs.declared.place.Place.TheVariants.{Part}
 use Rattle.ray_cmd.specs.declared.region.Region.{Region}
 use Rattle.ray_cmd.specs.declared.spot.Spot.{Spot}
+use Rattle.ray_cmd.specs.declared.stretch.Stretch.{Stretch}
 use Rattle.ray_cmd.specs.declared.structure_kind.StructureKind.{StructureKind}
 use Rattle.ray_cmd.specs.declared.structure_kind.StructureKind.TheVariants as kinds
 use Rattle.ray_cmd.specs.declared.thing.Thing.TheVariants as things
@@ -34,22 +35,22 @@ use Rattle.ray_rules.specs.Names.{lacks_buffer, lacks_structure, v1}
 use Rattle.ray_rules.specs.Origins.{uses_of}
 use Rattle.ray_rules.specs.Places.{first_part}
 use Rattle.ray_rules.specs.Ranges.{range, size_at}
-use Rattle.ray_rules.specs.Shapes.{are_too_many, asks_wrongly, compacts_wrongly, most_primitives, v7, v10}
+use Rattle.ray_rules.specs.Shapes.{are_too_many, asks_wrongly, compacts_wrongly, most_primitives, uses_wrongly, v7, v10}
 use Rattle.ray_rules.specs.Sources.{first_stale, is_stale, is_unbuilt, v17, v20, v21}
 use Rattle.ray_rules.specs.Spans.{reaches_out, region_reaches_out, v4}
 use Rattle.ray_rules.specs.Status.{Status, after_infos, built_at, copied_by, fill_in}
 use Rattle.ray_rules.specs.Status as status
 use Rattle.ray_rules.specs.Structures.{differ_in_kind, is_bottom, is_bottom_at, is_top, is_top_at, v19}
 use Rattle.ray_action.specs.Memory.{Memory}
-use Rattle.ray_action.specs.Action.{Action, MakeBuffer, MakeStructure, DestroyBuffer, DestroyStructure, ShowSizes, ShowBytes, UpdateBytes, FillBytes, CopyStructure, Rest}
-use Rattle.ray_action.specs.Pieces.{actions_of, can_tell, cull_mask, host_action, is_built_form, property_action, rays_action, region_action, trace_pieces}
+use Rattle.ray_action.specs.Action.{Action, MakeBuffer, MakeStructure, DestroyBuffer, DestroyStructure, ShowSizes, ShowBytes, UpdateBytes, FillBytes, CopyStructure, SerializeStructure, DeserializeStructure, Rest}
+use Rattle.ray_action.specs.Pieces.{actions_of, cull_mask, host_action, property_action, rays_action, region_action, stretch_range, trace_pieces}
 use Rattle.ray_action.specs.Readiness.{AreCounts}
 use Rattle.ray_ready.specs.Accepted.{MayRun}
 use Rattle.ray_ready.proofs.Ties.{Ties, form_of}
 use Rattle.ray_ready.proofs.Storing.{ties_created, ties_destroyed, ties_gone, ties_later, ties_made}
-use Rattle.ray_ready.proofs.Allowed.{FitsKind, IsBuiltOf, IsLiveOf, MayCopy, MayTellAll, MayTrace}
+use Rattle.ray_ready.proofs.Allowed.{FitsKind, IsBuiltAny, IsBuiltOf, IsLiveOf, MayCopy, MayDeserialize, MayTellAll, MayTrace}
 use Rattle.ray_ready.proofs.Ready.{allowed_ready}
-use Rattle.ray_ready.proofs.Building.{structure_copied}
+use Rattle.ray_ready.proofs.Building.{structure_copied, structure_restored}
 use Rattle.ray_ready.proofs.Leading.{AreOfBytes, Leads, bytes_lead, leads_to, one_leads}
 use Rattle.ray_ready.proofs.Infos.{infos_apart, infos_lead}
 use Rattle.ray_ready.proofs.InfoRules.{infos_allowed}
@@ -141,33 +142,62 @@ copy_allowed rec z mode src dst k =
 
 -- ---- properties
 
-tell_all : (z : Status) (what : Asked) (ids : List ℕ) → can_tell what ≡ true → Fail (lacks_structure z) ids → asks_wrongly z what ids ≡ false → Fail (is_unbuilt z) ids
+any_built : (found : Option LiveStructure) → IsSome found → IsSome (option_and_then (λ (s : LiveStructure). s.built) found) → IsBuiltAny found
+any_built None live is = absurd cc
+any_built (Some s) live is = record { kind = s.kind; built = built_of s.kind (Some s) (record { structure = s; is_it = refl; same_kind = refl }) is }
+
+tell_all : (z : Status) (what : Asked) (ids : List ℕ) → Fail (lacks_structure z) ids → asks_wrongly z what ids ≡ false → Fail (is_unbuilt z) ids
     → MayTellAll z what ids
-tell_all z what [] can live kind built = tt
-tell_all z asked.Compacted (id ∷ ids) can live kind built = (
+tell_all z what [] live kind built = tt
+tell_all z asked.Compacted (id ∷ ids) live kind built = (
   built_of kinds.Bottom (look z.structures id)
       (bottom_of (look z.structures id) (is_there (look z.structures id) live.0) (neither_first (is_top_at z id) (list_any (is_top_at z) ids) kind))
       (is_there (built_at z id) built.0),
-  tell_all z asked.Compacted ids can live.1 (neither_second (is_top_at z id) (list_any (is_top_at z) ids) kind) built.1,
+  tell_all z asked.Compacted ids live.1 (neither_second (is_top_at z id) (list_any (is_top_at z) ids) kind) built.1,
 )
-tell_all z asked.Size (id ∷ ids) can live kind built = (is_there (look z.structures id) live.0, tell_all z asked.Size ids can live.1 kind built.1)
-tell_all z asked.Serialized (id ∷ ids) can live kind built = absurd cc
-tell_all z asked.Handles (id ∷ ids) can live kind built = absurd cc
+tell_all z asked.Size (id ∷ ids) live kind built = (is_there (look z.structures id) live.0, tell_all z asked.Size ids live.1 kind built.1)
+tell_all z asked.Serialized (id ∷ ids) live kind built = (
+  any_built (look z.structures id) (is_there (look z.structures id) live.0) (is_there (built_at z id) built.0),
+  tell_all z asked.Serialized ids live.1 kind built.1,
+)
+tell_all z asked.Handles (id ∷ ids) live kind built = (
+  any_built (look z.structures id) (is_there (look z.structures id) live.0) (is_there (built_at z id) built.0),
+  tell_all z asked.Handles ids live.1 kind built.1,
+)
 
-property_on : (rec : List Command) (z : Status) (what : Asked) (ids : List ℕ) (dst : Spot) → can_tell what ≡ true → MayTellAll z what ids
-    → AreOfBytes rec z (property_action what ids dst ∷ [])
-property_on rec z asked.Compacted ids dst can may = ((may, tt), tt)
-property_on rec z asked.Size ids dst can may = ((may, tt), tt)
-property_on rec z asked.Serialized ids dst can may = absurd cc
-property_on rec z asked.Handles ids dst can may = absurd cc
-
-property_allowed : (rec : List Command) (z : Status) (what : Asked) (ids : List ℕ) (dst : Spot) → can_tell what ≡ true
-    → Keeps rec z (commands.Property what ids dst) → MayTellAll z what ids
+property_allowed : (rec : List Command) (z : Status) (what : Asked) (ids : List ℕ) (dst : Spot) → Keeps rec z (commands.Property what ids dst) → MayTellAll z what ids
 unfolding v1 v7 v17
-property_allowed rec z what ids dst can k =
-    tell_all z what ids can
+property_allowed rec z what ids dst k =
+    tell_all z what ids
     (none_any (lacks_structure z) ids (neither_first (list_any (lacks_structure z) ids) (lacks_buffer z dst.buffer) (not_broken (list_any (lacks_structure z) ids || lacks_buffer z dst.buffer) k.names)))
     (not_broken (asks_wrongly z what ids) k.kinds) (no_part (is_unbuilt z) ids k.built)
+
+-- ---- serialized copies
+
+serialize_allowed : (rec : List Command) (z : Status) (src : ℕ) (dst : Stretch) → Keeps rec z (commands.Serialize src dst) → IsBuiltAny (look z.structures src)
+unfolding v1 v17
+serialize_allowed rec z src dst k =
+    any_built (look z.structures src)
+    (is_there (look z.structures src) (neither_first (lacks_structure z src) (lacks_buffer z dst.buffer) (not_broken (lacks_structure z src || lacks_buffer z dst.buffer) k.names)))
+    (is_there (built_at z src) (not_broken (is_unbuilt z src) k.built))
+
+deserialize_allowed : (rec : List Command) (z : Status) (src : Stretch) (dst : ℕ) (uses : List ℕ) → Keeps rec z (commands.Deserialize src dst uses)
+    → MayDeserialize z (stretch_range src) dst uses
+unfolding v1 v4 v7 v17
+deserialize_allowed rec z src dst uses k =
+    let named = neither_second (lacks_buffer z src.buffer) (lacks_structure z dst || list_any (lacks_structure z) uses)
+    (not_broken (lacks_buffer z src.buffer || (lacks_structure z dst || list_any (lacks_structure z) uses)) k.names) in
+    let used = none_any (lacks_structure z) uses (neither_second (lacks_structure z dst) (list_any (lacks_structure z) uses) named) in
+    let tops = none_any (is_top_at z) uses
+    (neither_first (list_any (is_top_at z) uses) (is_bottom_at z dst && not (length uses == 0)) (not_broken (uses_wrongly z dst uses) k.kinds)) in
+    let built = none_any (is_unbuilt z) uses (not_broken (list_any (is_unbuilt z) uses) k.built) in record {
+      within = within z.buffers (stretch_range src) (not_broken (reaches_out z src.buffer src.offset src.size) k.spans);
+      live = is_there (look z.structures dst) (neither_first (lacks_structure z dst) (list_any (lacks_structure z) uses) named);
+      are_built = λ u has_it.
+          built_of kinds.Bottom (look z.structures u)
+          (bottom_of (look z.structures u) (is_there (look z.structures u) (fails_at (lacks_structure z) uses u used has_it)) (fails_at (is_top_at z) uses u tops has_it))
+          (is_there (built_at z u) (fails_at (is_unbuilt z) uses u built has_it));
+    }
 
 -- ---- traces
 
@@ -266,7 +296,7 @@ structure_new z id kind buffer offset size e =
     nothing (look z.structures id) (neither_first (is_live z.structures id) (lacks_buffer z buffer) (not_broken (is_live z.structures id || lacks_buffer z buffer) e))
 
 pub command_leads : (rec : List Command) (i : ℕ) (z : Status) (c : Command) (m : Memory) → slice_get rec i ≡ Some c → MayRun rec z c → Ties rec i 0 z m → LeadsOn rec i z c m
-unfolding actions_of host_action status.after v4 v16 is_built_form
+unfolding actions_of host_action status.after v4 v16
 command_leads rec i z (commands.Buffer id size usage content) m is may ties =
     let k = keeps rec z (commands.Buffer id size usage content) may.rules in
     let a : Action = MakeBuffer id size (unwrap_or content []) in
@@ -311,18 +341,19 @@ command_leads rec i z (commands.CopyStructure mode src dst) m is may ties =
     one_leads (CopyStructure mode src dst) m (Ties rec (i + 1) 0 (status.after i (commands.CopyStructure mode src dst) z))
     (allowed_ready rec i 0 z m (CopyStructure mode src dst) ties copy)
     (λ o e. ties_later rec i 0 _ _ (structure_copied rec i z m mode src dst o copy e ties))
-command_leads rec i z (commands.Serialize src dst) m is may ties = absurd (unbuilt may.form)
-  where
-    unbuilt : false ≡ true → ⊥
-    unbuilt e = absurd cc
-command_leads rec i z (commands.Deserialize src dst uses) m is may ties = absurd (unbuilt may.form)
-  where
-    unbuilt : false ≡ true → ⊥
-    unbuilt e = absurd cc
+command_leads rec i z (commands.Serialize src dst) m is may ties =
+    let k = keeps rec z (commands.Serialize src dst) may.rules in
+    bytes_on rec i z (SerializeStructure src (stretch_range dst) ∷ []) m ((serialize_allowed rec z src dst k, tt), tt) ties
+command_leads rec i z (commands.Deserialize src dst uses) m is may ties =
+    let k = keeps rec z (commands.Deserialize src dst uses) may.rules in
+    let a : Action = DeserializeStructure (stretch_range src) dst uses in
+    let allowed = deserialize_allowed rec z src dst uses k in
+    one_leads a m (Ties rec (i + 1) 0 (status.after i (commands.Deserialize src dst uses) z)) (allowed_ready rec i 0 z m a ties allowed)
+    (λ o e. ties_later rec i 1 _ _ (structure_restored rec i z m src dst uses o is allowed e ties))
 command_leads rec i z (commands.Property what structures dst) m is may ties =
     let k = keeps rec z (commands.Property what structures dst) may.rules in
     bytes_on rec i z (property_action what structures dst ∷ []) m
-    (property_on rec z what structures dst may.form (property_allowed rec z what structures dst may.form k)) ties
+    ((property_allowed rec z what structures dst k, tt), tt) ties
 command_leads rec i z (commands.Barrier src_stages src_access dst_stages dst_access) m is may ties = bytes_on rec i z (Rest ∷ []) m ((tt, tt), tt) ties
 command_leads rec i z (commands.Trace top rays count hits flags mask script) m is may ties =
     let k = keeps rec z (commands.Trace top rays count hits flags mask script) may.rules in

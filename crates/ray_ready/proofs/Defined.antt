@@ -5,12 +5,19 @@ use Rattle.ray_bytes.specs.declared.data_fault.DataFault.{DataFault}
 use Rattle.ray_bottom.specs.Contents as bottoms
 use Rattle.ray_bottom.specs.Builders.{BuilderValue}
 use Rattle.ray_top.specs.Contents as tops
+use Rattle.ray_top.specs.declared.used.Used.{Used}
+use Rattle.ray_serial.specs.Form.{broken_line}
+use Rattle.ray_serial.specs.Meaning.{is_top_form, deserialized_in, bottom_in}
+use Rattle.ray_serial.specs.TopMeaning.{top_in}
+use Rattle.ray_serial.proofs.BottomForms.{bottom_there}
+use Rattle.ray_cmd.specs.declared.structure_kind.StructureKind.{StructureKind}
+use Rattle.ray_cmd.specs.declared.structure_kind.StructureKind.TheVariants as kinds
 use Rattle.ray_cmd.specs.declared.copy_mode.CopyMode.{CopyMode}
 use Rattle.ray_cmd.specs.declared.copy_mode.CopyMode.TheVariants as copies
 use Rattle.ray_action.specs.declared.form.Form.{Form}
 use Rattle.ray_action.specs.Memory.{Contents, as_bottom}
-use Rattle.ray_action.specs.Action.{Tracing, MakeBuffer, MakeStructure, DestroyBuffer, DestroyStructure, ShowSizes, ShowBytes, UpdateBytes, FillBytes, CopyBytes, BuildBottom, UpdateBottom, BuildTop, UpdateTop, CopyStructure, TellProperty, TraceRays, Rest, Unbuilt}
-use Rattle.ray_action.specs.Outcomes.{Outcome, Fault, Undefined, bottom_outcome, bytes_outcome, compact_copy, compacted_of, copy_outcome, hits_outcome, property_outcome, top_outcome, trace_outcome}
+use Rattle.ray_action.specs.Action.{Tracing, MakeBuffer, MakeStructure, DestroyBuffer, DestroyStructure, ShowSizes, ShowBytes, UpdateBytes, FillBytes, CopyBytes, BuildBottom, UpdateBottom, BuildTop, UpdateTop, CopyStructure, SerializeStructure, DeserializeStructure, TellProperty, TraceRays, Rest, Impossible}
+use Rattle.ray_action.specs.Outcomes.{Outcome, Fault, Undefined, bottom_outcome, bytes_outcome, compact_copy, compacted_of, copy_outcome, deserialize_outcome, fitting_in, hits_outcome, kept_outcome, linked_outcome, opened_outcome, serialized_into, size_of_serialized, structure_in, property_outcome, top_outcome, trace_outcome}
 use Rattle.ray_action.specs.Readiness.{IsCopyReady, FitsMode}
 use Rattle.ray_action.specs.Seeing.{SeenBytes, SeenStructures}
 use Rattle.ray_ready.specs.Laws.{IsDefined, ReadyIsDefined}
@@ -58,6 +65,44 @@ hits : (found : Result (List (List ℕ)) Fault) → IsDefined (hits_outcome foun
 hits (Ok found) = tt
 hits (Err fault) = tt
 
+-- what is written into so many bytes
+written : (size : ℕ) (c : Contents) → IsDefined (serialized_into size c)
+written size c = either (nat_lt size (size_of_serialized c)) _ _ tt tt
+
+-- what bytes stand for that break no line
+linked : (found : Result tops.TopValue DataFault) → IsDefined (linked_outcome found)
+linked (Ok t) = tt
+linked (Err fault) = tt
+
+stands : (used : List Used) (bytes : List ℕ) (kind : StructureKind) → (kind ≡ kinds.Bottom → IsSome (bottom_in bytes)) → IsDefined (structure_in used bytes kind)
+stands used bytes kinds.Bottom is = made (bottom_in bytes) _ (is refl) (λ b. tt)
+stands used bytes kinds.Top is = linked (top_in used bytes)
+
+fits : (size : ℕ) (used : List Used) (bytes : List ℕ) (kind : StructureKind) → (kind ≡ kinds.Bottom → IsSome (bottom_in bytes)) → IsDefined (fitting_in size used bytes kind)
+fits size used bytes kind is = either (nat_lt size (deserialized_in bytes)) _ _ tt (stands used bytes kind is)
+
+either_so : (b : Bool) (x y : Outcome) → IsDefined x → (b ≡ false → IsDefined y) → IsDefined (if b then x else y)
+either_so true x y h k = h
+either_so false x y h k = k refl
+
+no_bottom : {X : Type 0} → kinds.Top ≡ kinds.Bottom → X
+no_bottom e = absurd cc
+
+kept : (kind : StructureKind) (size : ℕ) (used : List Used) (bytes : List ℕ) → broken_line bytes ≡ None → IsDefined (kept_outcome kind size used bytes)
+kept kinds.Bottom size used bytes unbroken =
+    either_so (is_top_form bytes) _ _ tt (λ bottom. fits size used bytes kinds.Bottom (λ same. bottom_there bytes unbroken bottom))
+kept kinds.Top size used bytes unbroken =
+    either (is_top_form bytes) _ _ (fits size used bytes kinds.Top (λ same. no_bottom same)) tt
+
+opened : (form : Form) (used : List Used) (bytes : List ℕ) (line : Option ℕ) → broken_line bytes ≡ line → IsDefined (opened_outcome form used bytes line)
+opened form used bytes (Some number) is = tt
+opened form used bytes None is = kept form.kind form.size used bytes is
+
+restored : (used : List Used) (bytes : SeenBytes) (form : Option Form) → IsSome bytes → IsSome form → IsDefined (deserialize_outcome used bytes form)
+restored used None form is there = absurd cc
+restored used (Some bytes) None is there = absurd cc
+restored used (Some bytes) (Some form) is there = opened form used bytes (broken_line bytes) refl
+
 traced : (trace : Tracing) (uses : SeenStructures) (rays : SeenBytes) (t : Option tops.TopValue) → IsSome rays → IsSome t → IsDefined (trace_outcome trace uses rays t)
 traced trace uses None t is there = absurd cc
 traced trace uses (Some rays) None is there = absurd cc
@@ -78,7 +123,9 @@ defined (UpdateBottom build src geometries) memory ready = made _ _ ready.0 (λ 
 defined (BuildTop build flags uses instances) memory ready = top _ _
 defined (UpdateTop build src uses instances) memory ready = made _ _ (some _ ready.0.top ready.0.is_it) (λ old. top _ _)
 defined (CopyStructure mode src dst) memory ready = copied mode _ _ ready.0 ready.1
+defined (SerializeStructure src to) memory ready = made _ (serialized_into to.size) ready (written to.size)
+defined (DeserializeStructure from dst uses) memory ready = restored _ _ _ ready.bytes ready.dst
 defined (TellProperty what structures to) memory ready = told _ ready
 defined (TraceRays trace) memory ready = traced trace _ _ _ ready.rays (some _ ready.top ready.is_it)
 defined Rest memory ready = tt
-defined Unbuilt memory ready = ready
+defined Impossible memory ready = ready

@@ -19,7 +19,7 @@ use Rattle.ray_rules.specs.declared.built.Built.{Built}
 use Rattle.ray_rules.specs.declared.live_structure.LiveStructure.{LiveStructure}
 use Rattle.ray_rules.specs.Ids.{look}
 use Rattle.ray_rules.specs.Names.{lacks_buffer, lacks_input, lacks_named, lacks_source, lacks_structure, v1}
-use Rattle.ray_rules.specs.Origins.{info_of}
+use Rattle.ray_rules.specs.Origins.{info_of, is_deserialized}
 use Rattle.ray_rules.specs.Places.{first_part, part_at}
 use Rattle.ray_rules.specs.Ranges.{count_of, primitives}
 use Rattle.ray_rules.specs.Shapes.{are_of_bottom, are_of_top, are_too_many, is_instances, is_misshapen, is_too_large, is_wrong_info, prefers_both, updates_wrongly, uses_wrongly, v7, v8, v9, v10}
@@ -30,6 +30,7 @@ use Rattle.ray_rules.specs.Structures.{differ_in_kind, is_bottom_at, is_top_at}
 use Rattle.ray_action.specs.Areas.{has}
 use Rattle.ray_action.specs.Pieces.{bottom_action, building, info_action, info_action_by, info_action_on, top_action, top_action_of}
 use Rattle.ray_cmd.specs.Sources.{has_its_source}
+use Rattle.ray_ready.proofs.Ties.{IsBuilt}
 use Rattle.ray_ready.proofs.Allowed.{AreReadable, IsAllowed, IsBuiltOf, IsLiveOf, MayBuildBottom, MayBuildTop}
 use Rattle.ray_ready.proofs.Kept.{Fail, Keeps, both_first, both_second, bottom_of, built_of, fails_at, is_so, is_there, neither_first, neither_second, no_part, none_any, not_second, readable, says_bottom, says_top, top_of}
 use Rattle.ray_ready.proofs.Infos.{AreAllowedFrom}
@@ -216,6 +217,13 @@ top_may rec z k info g gs is live keeps =
       readable = (subst (AreReadable z.buffers) gs (inputs_readable rec z info keeps)).0;
     }
 
+built_is : (z : Status) (src : ℕ) (b : Built) → IsBuilt (look z.structures src) kinds.Top b → built_at z src ≡ Some b
+built_is z src b is = ap (option_and_then (λ (s : LiveStructure). s.built)) is.is_it ∙ is.built
+
+not_deserialized : (rec : List Command) (b : Built) (o : Option Built) → o ≡ Some b → is_no_source rec o ≡ false → is_deserialized rec b ≡ false
+not_deserialized rec b None is e = absurd cc
+not_deserialized rec b (Some p) is e = let same : p ≡ b = cc in subst (λ q. is_deserialized rec q ≡ false) same e
+
 top_by : (rec : List Command) (z : Status) (k : ℕ) (info : Info) (g : Geometry) (mode : BuildMode) (src : Option ℕ) → info.geometries ≡ g ∷ [] → is_instances g ≡ true
     → IsLiveOf kinds.Top (look z.structures info.dst)
     → InfoKeeps rec z info → source_fits mode src ≡ true → lacks_source z src ≡ false → updates_wrongly z info.dst src ≡ false
@@ -228,9 +236,9 @@ top_by rec z k info g modes.Update (Some src) gs is live keeps fits named kind s
       record {
         by = built.by;
         built = built.built;
+        own = not_deserialized rec built.by (built_at z src) (built_is z src built.by built.built) source;
         as_many = λ by_info found.
-            updates_same rec z info by_info src built.by g gs is
-            (ap (option_and_then (λ (s : LiveStructure). s.built)) built.built.is_it ∙ built.built.built) found same;
+            updates_same rec z info by_info src built.by g gs is (built_is z src built.by built.built) found same;
       },
       top_may rec z k info g gs is live keeps,
     )

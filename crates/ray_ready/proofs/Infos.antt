@@ -157,6 +157,7 @@ source_still : (rec : List Command) (d : ℕ) (z w : Status) (src : ℕ) (instan
 source_still rec d z w src instances same differs is = record {
   by = is.by;
   built = subst (λ found. IsBuilt found kinds.Top is.by) (sym (same.other src differs)) is.built;
+  own = is.own;
   as_many = is.as_many;
 }
 

@@ -26,12 +26,12 @@ use Rattle.ray_rules.specs.Ranges.{inputs_read}
 use Rattle.ray_rules.specs.Status.{Status}
 use Rattle.ray_action.specs.Areas.{has}
 use Rattle.ray_action.specs.Memory.{Contents, Memory, Bottom, Top, ByteAt, BufferAt, StructureAt, ContentsAt, as_bottom, as_top, bytes_at, bytes_from, kind_of, number_before}
-use Rattle.ray_action.specs.Action.{Action, Building, Tracing, MakeBuffer, MakeStructure, DestroyBuffer, DestroyStructure, ShowSizes, ShowBytes, UpdateBytes, FillBytes, CopyBytes, BuildBottom, UpdateBottom, BuildTop, UpdateTop, CopyStructure, TellProperty, TraceRays, Rest, Unbuilt, content_buffer}
+use Rattle.ray_action.specs.Action.{Action, Building, Tracing, MakeBuffer, MakeStructure, DestroyBuffer, DestroyStructure, ShowSizes, ShowBytes, UpdateBytes, FillBytes, CopyBytes, BuildBottom, UpdateBottom, BuildTop, UpdateTop, CopyStructure, SerializeStructure, DeserializeStructure, TellProperty, TraceRays, Rest, Impossible, content_buffer}
 use Rattle.ray_action.specs.Seeing.{SeenBytes, see_geometry, see_range, see_structure, see_structures}
 use Rattle.ray_action.specs.Outcomes.{bottoms_in, number_of, numbers_of}
 use Rattle.ray_action.specs.Readiness.{AreBottoms, AreThere, IsBottomReady, FitsMode, IsMade, IsReady, IsThere, IsTopReady, IsTopSource}
-use Rattle.ray_ready.proofs.Ties.{Fills, IsBounded, IsTopBy, TiedBuffers, TiedContents, TiedForms, Ties, form_of, size_of}
-use Rattle.ray_ready.proofs.Allowed.{AreReadable, AreWithin, FitsKind, IsAllowed, IsBuiltOf, IsLiveOf, IsReadable, IsSource, IsWithin, IsWithinIf, MayBuildBottom, MayBuildTop, MayCopy, MayTell, MayTellAll, MayTrace}
+use Rattle.ray_ready.proofs.Ties.{Fills, IsAsMany, IsBounded, IsTopBy, TiedBuffers, TiedContents, TiedForms, Ties, form_of, size_of}
+use Rattle.ray_ready.proofs.Allowed.{AreReadable, AreWithin, FitsKind, IsAllowed, IsBuiltAny, IsBuiltOf, IsLiveOf, IsReadable, IsSource, IsWithin, IsWithinIf, MayBuildBottom, MayBuildTop, MayCopy, MayDeserialize, MayTell, MayTellAll, MayTrace}
 
 -- buffers that are tied to a memory
 abbrev Buffers : Ids LiveBuffer → Memory → Type 0
@@ -130,10 +130,11 @@ top_ready rec i k z m build uses instances ties may = record {
 source_there : (rec : List Command) (i k : ℕ) (z : Status) (m : Memory) (src : ℕ) (instances : Geometry) → Ties rec i k z m → IsSource rec z src instances
     → IsTopSource instances (m (ContentsAt src))
 source_there rec i k z m src instances ties is =
-    let by : IsTopBy rec is.by (m (ContentsAt src)) = ties.contents.held src kinds.Top is.by is.built in record {
+    let by : IsTopBy rec is.by (m (ContentsAt src)) = ties.contents.held src kinds.Top is.by is.built in
+    let many : IsAsMany rec is.by by.top = by.count is.own in record {
       top = by.top;
       is_it = ap (option_and_then as_top) by.is_it;
-      as_many = is.as_many by.by by.info ∙ sym by.count;
+      as_many = is.as_many many.by many.info ∙ sym many.count;
     }
 
 -- ---- copies
@@ -148,6 +149,16 @@ the_contents rec kinds.Bottom b None fills = absurd cc
 the_contents rec kinds.Bottom b (Some (Bottom c)) fills = (Bottom c, (refl, refl))
 the_contents rec kinds.Bottom b (Some (Top t)) fills = absurd cc
 the_contents rec kinds.Top b found fills = (Top fills.top, (fills.is_it, refl))
+
+is_some_of : {X : Type 0} (found : Option X) (x : X) → found ≡ Some x → IsSome found
+is_some_of None x e = absurd cc
+is_some_of (Some y) x e = refl
+
+contents_there : (rec : List Command) (i k : ℕ) (z : Status) (m : Memory) (id : ℕ) → Ties rec i k z m → IsBuiltAny (look z.structures id) → IsSome (m (ContentsAt id))
+contents_there rec i k z m id ties is =
+    let by : Built = is.built.by in
+    let found = the_contents rec is.kind by (m (ContentsAt id)) (ties.contents.held id is.kind by is.built.built) in
+    is_some_of (m (ContentsAt id)) found.0 found.1.0
 
 mode_fits : (rec : List Command) (mode : CopyMode) (kind : StructureKind) (b : Built) (found : Option Contents) → FitsKind mode kind → Fills rec kind b found → FitsMode mode found
 mode_fits rec copies.Clone kind b found fits fills = tt
@@ -166,11 +177,24 @@ copy_ready rec i k z m mode src dst ties may =
       mode_fits rec mode may.kind may.source.by (m (ContentsAt src)) may.fits fills,
     )
 
--- ---- properties
+-- ---- serialized copies
 
 some_map : {X Y : Type 0} (f : X → Y) (found : Option X) → IsSome found → IsSome (option_map f found)
 some_map f None is = absurd cc
 some_map f (Some x) is = refl
+
+form_there : (z : Status) (m : Memory) (id : ℕ) → TiedForms z.structures (λ q. m (StructureAt q)) → IsSome (look z.structures id) → IsSome (m (StructureAt id))
+form_there z m id tied live = subst IsSome (sym (tied.form id)) (some_map form_of (look z.structures id) live)
+
+deserialize_ready : (rec : List Command) (i k : ℕ) (z : Status) (m : Memory) (from : ByteRange) (dst : ℕ) (uses : List ℕ) → Ties rec i k z m
+    → MayDeserialize z from dst uses → IsReady (DeserializeStructure from dst uses) m
+deserialize_ready rec i k z m from dst uses ties may = record {
+  bytes = range_there z.buffers m from ties.buffers may.within;
+  dst = form_there z m dst ties.forms may.live;
+  uses = uses_there rec i k z.structures m uses ties.contents may.are_built;
+}
+
+-- ---- properties
 
 number_there : (rec : List Command) (i k : ℕ) (z : Status) (m : Memory) (what : Asked) (id : ℕ) → Ties rec i k z m → MayTell z what id
     → IsSome (number_of what (see_structure m id))
@@ -178,8 +202,8 @@ number_there rec i k z m asked.Compacted id ties may =
     some_map _ (option_and_then as_bottom (m (ContentsAt id))) (bottom_there rec i k z.structures (λ q. m (ContentsAt q)) id ties.contents may)
 number_there rec i k z m asked.Size id ties may =
     some_map _ (m (StructureAt id)) (subst IsSome (sym (ties.forms.form id)) (some_map form_of (look z.structures id) may))
-number_there rec i k z m asked.Serialized id ties may = absurd may
-number_there rec i k z m asked.Handles id ties may = absurd may
+number_there rec i k z m asked.Serialized id ties may = some_map _ (m (ContentsAt id)) (contents_there rec i k z m id ties may)
+number_there rec i k z m asked.Handles id ties may = some_map _ (m (ContentsAt id)) (contents_there rec i k z m id ties may)
 
 numbers_there : (rec : List Command) (i k : ℕ) (z : Status) (m : Memory) (what : Asked) (ids : List ℕ) → Ties rec i k z m → MayTellAll z what ids
     → IsSome (numbers_of what (map (see_structure m) ids))
@@ -249,7 +273,9 @@ allowed_ready rec i k z m (BuildTop build flags uses instances) ties may = (top_
 allowed_ready rec i k z m (UpdateTop build src uses instances) ties may =
     (source_there rec i k z m src instances ties may.0, top_ready rec i k z m build uses instances ties may.1)
 allowed_ready rec i k z m (CopyStructure mode src dst) ties may = copy_ready rec i k z m mode src dst ties may
+allowed_ready rec i k z m (SerializeStructure src to) ties may = contents_there rec i k z m src ties may
+allowed_ready rec i k z m (DeserializeStructure from dst uses) ties may = deserialize_ready rec i k z m from dst uses ties may
 allowed_ready rec i k z m (TellProperty what structures to) ties may = numbers_there rec i k z m what structures ties may
 allowed_ready rec i k z m (TraceRays trace) ties may = trace_ready rec i k z m trace ties may
 allowed_ready rec i k z m Rest ties may = tt
-allowed_ready rec i k z m Unbuilt ties may = may
+allowed_ready rec i k z m Impossible ties may = may

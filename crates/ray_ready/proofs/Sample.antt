@@ -15,7 +15,6 @@ use Rattle.ray_rules.specs.Sources.{v13, v14, v15, v17, v18, v20, v21}
 use Rattle.ray_rules.specs.Spans.{v4, v5, v12, v31}
 use Rattle.ray_rules.specs.Status.{after}
 use Rattle.ray_rules.specs.Structures.{v6, v11, v19}
-use Rattle.ray_action.specs.Pieces.{is_built_form}
 use Rattle.ray_ready.specs.Accepted.{IsAccepted, MayRun}
 
 abbrev pub sample : List Command
@@ -27,32 +26,32 @@ some_same : (c d : Command) → Some c ≡ Some d → c ≡ d
 some_same c d e = cc
 
 kept_0 : MayRun sample (status_at sample 0) (commands.Buffer 0 64 (record { 0 = 8 }) None)
-unfolding v1 v2 v3 v4 v5 v6 v7 v8 v9 v10 v11 v12 v13 v14 v15 v16 v17 v18 v19 v20 v21 v22 v23 v24 v29 v30 v31 phase_needed after is_built_form
-kept_0 = record { rules = (refl, (refl, (refl, (refl, (refl, (refl, (refl, (refl, (refl, (refl, (refl, (refl, (refl, (refl, (refl, (refl, (refl, (refl, (refl, (refl, (refl, (refl, (refl, (refl, (refl, (refl, (refl, (refl, tt)))))))))))))))))))))))))))); form = refl; sources = refl }
+unfolding v1 v2 v3 v4 v5 v6 v7 v8 v9 v10 v11 v12 v13 v14 v15 v16 v17 v18 v19 v20 v21 v22 v23 v24 v29 v30 v31 phase_needed after
+kept_0 = record { rules = (refl, (refl, (refl, (refl, (refl, (refl, (refl, (refl, (refl, (refl, (refl, (refl, (refl, (refl, (refl, (refl, (refl, (refl, (refl, (refl, (refl, (refl, (refl, (refl, (refl, (refl, (refl, (refl, tt)))))))))))))))))))))))))))); sources = refl }
 
 kept_1 : MayRun sample (status_at sample 1) (commands.Begin)
-unfolding v1 v2 v3 v4 v5 v6 v7 v8 v9 v10 v11 v12 v13 v14 v15 v16 v17 v18 v19 v20 v21 v22 v23 v24 v29 v30 v31 phase_needed after is_built_form
-kept_1 = record { rules = (refl, (refl, (refl, (refl, (refl, (refl, (refl, (refl, (refl, (refl, (refl, (refl, (refl, (refl, (refl, (refl, (refl, (refl, (refl, (refl, (refl, (refl, (refl, (refl, (refl, (refl, (refl, (refl, tt)))))))))))))))))))))))))))); form = refl; sources = refl }
+unfolding v1 v2 v3 v4 v5 v6 v7 v8 v9 v10 v11 v12 v13 v14 v15 v16 v17 v18 v19 v20 v21 v22 v23 v24 v29 v30 v31 phase_needed after
+kept_1 = record { rules = (refl, (refl, (refl, (refl, (refl, (refl, (refl, (refl, (refl, (refl, (refl, (refl, (refl, (refl, (refl, (refl, (refl, (refl, (refl, (refl, (refl, (refl, (refl, (refl, (refl, (refl, (refl, (refl, tt)))))))))))))))))))))))))))); sources = refl }
 
 kept_2 : MayRun sample (status_at sample 2) (commands.Fill 0 0 64 7)
-unfolding v1 v2 v3 v4 v5 v6 v7 v8 v9 v10 v11 v12 v13 v14 v15 v16 v17 v18 v19 v20 v21 v22 v23 v24 v29 v30 v31 phase_needed after is_built_form
-kept_2 = record { rules = (refl, (refl, (refl, (refl, (refl, (refl, (refl, (refl, (refl, (refl, (refl, (refl, (refl, (refl, (refl, (refl, (refl, (refl, (refl, (refl, (refl, (refl, (refl, (refl, (refl, (refl, (refl, (refl, tt)))))))))))))))))))))))))))); form = refl; sources = refl }
+unfolding v1 v2 v3 v4 v5 v6 v7 v8 v9 v10 v11 v12 v13 v14 v15 v16 v17 v18 v19 v20 v21 v22 v23 v24 v29 v30 v31 phase_needed after
+kept_2 = record { rules = (refl, (refl, (refl, (refl, (refl, (refl, (refl, (refl, (refl, (refl, (refl, (refl, (refl, (refl, (refl, (refl, (refl, (refl, (refl, (refl, (refl, (refl, (refl, (refl, (refl, (refl, (refl, (refl, tt)))))))))))))))))))))))))))); sources = refl }
 
 kept_3 : MayRun sample (status_at sample 3) (commands.End)
-unfolding v1 v2 v3 v4 v5 v6 v7 v8 v9 v10 v11 v12 v13 v14 v15 v16 v17 v18 v19 v20 v21 v22 v23 v24 v29 v30 v31 phase_needed after is_built_form
-kept_3 = record { rules = (refl, (refl, (refl, (refl, (refl, (refl, (refl, (refl, (refl, (refl, (refl, (refl, (refl, (refl, (refl, (refl, (refl, (refl, (refl, (refl, (refl, (refl, (refl, (refl, (refl, (refl, (refl, (refl, tt)))))))))))))))))))))))))))); form = refl; sources = refl }
+unfolding v1 v2 v3 v4 v5 v6 v7 v8 v9 v10 v11 v12 v13 v14 v15 v16 v17 v18 v19 v20 v21 v22 v23 v24 v29 v30 v31 phase_needed after
+kept_3 = record { rules = (refl, (refl, (refl, (refl, (refl, (refl, (refl, (refl, (refl, (refl, (refl, (refl, (refl, (refl, (refl, (refl, (refl, (refl, (refl, (refl, (refl, (refl, (refl, (refl, (refl, (refl, (refl, (refl, tt)))))))))))))))))))))))))))); sources = refl }
 
 kept_4 : MayRun sample (status_at sample 4) (commands.Submit)
-unfolding v1 v2 v3 v4 v5 v6 v7 v8 v9 v10 v11 v12 v13 v14 v15 v16 v17 v18 v19 v20 v21 v22 v23 v24 v29 v30 v31 phase_needed after is_built_form
-kept_4 = record { rules = (refl, (refl, (refl, (refl, (refl, (refl, (refl, (refl, (refl, (refl, (refl, (refl, (refl, (refl, (refl, (refl, (refl, (refl, (refl, (refl, (refl, (refl, (refl, (refl, (refl, (refl, (refl, (refl, tt)))))))))))))))))))))))))))); form = refl; sources = refl }
+unfolding v1 v2 v3 v4 v5 v6 v7 v8 v9 v10 v11 v12 v13 v14 v15 v16 v17 v18 v19 v20 v21 v22 v23 v24 v29 v30 v31 phase_needed after
+kept_4 = record { rules = (refl, (refl, (refl, (refl, (refl, (refl, (refl, (refl, (refl, (refl, (refl, (refl, (refl, (refl, (refl, (refl, (refl, (refl, (refl, (refl, (refl, (refl, (refl, (refl, (refl, (refl, (refl, (refl, tt)))))))))))))))))))))))))))); sources = refl }
 
 kept_5 : MayRun sample (status_at sample 5) (commands.Wait)
-unfolding v1 v2 v3 v4 v5 v6 v7 v8 v9 v10 v11 v12 v13 v14 v15 v16 v17 v18 v19 v20 v21 v22 v23 v24 v29 v30 v31 phase_needed after is_built_form
-kept_5 = record { rules = (refl, (refl, (refl, (refl, (refl, (refl, (refl, (refl, (refl, (refl, (refl, (refl, (refl, (refl, (refl, (refl, (refl, (refl, (refl, (refl, (refl, (refl, (refl, (refl, (refl, (refl, (refl, (refl, tt)))))))))))))))))))))))))))); form = refl; sources = refl }
+unfolding v1 v2 v3 v4 v5 v6 v7 v8 v9 v10 v11 v12 v13 v14 v15 v16 v17 v18 v19 v20 v21 v22 v23 v24 v29 v30 v31 phase_needed after
+kept_5 = record { rules = (refl, (refl, (refl, (refl, (refl, (refl, (refl, (refl, (refl, (refl, (refl, (refl, (refl, (refl, (refl, (refl, (refl, (refl, (refl, (refl, (refl, (refl, (refl, (refl, (refl, (refl, (refl, (refl, tt)))))))))))))))))))))))))))); sources = refl }
 
 kept_6 : MayRun sample (status_at sample 6) (commands.Read 0 0 8 Hex)
-unfolding v1 v2 v3 v4 v5 v6 v7 v8 v9 v10 v11 v12 v13 v14 v15 v16 v17 v18 v19 v20 v21 v22 v23 v24 v29 v30 v31 phase_needed after is_built_form
-kept_6 = record { rules = (refl, (refl, (refl, (refl, (refl, (refl, (refl, (refl, (refl, (refl, (refl, (refl, (refl, (refl, (refl, (refl, (refl, (refl, (refl, (refl, (refl, (refl, (refl, (refl, (refl, (refl, (refl, (refl, tt)))))))))))))))))))))))))))); form = refl; sources = refl }
+unfolding v1 v2 v3 v4 v5 v6 v7 v8 v9 v10 v11 v12 v13 v14 v15 v16 v17 v18 v19 v20 v21 v22 v23 v24 v29 v30 v31 phase_needed after
+kept_6 = record { rules = (refl, (refl, (refl, (refl, (refl, (refl, (refl, (refl, (refl, (refl, (refl, (refl, (refl, (refl, (refl, (refl, (refl, (refl, (refl, (refl, (refl, (refl, (refl, (refl, (refl, (refl, (refl, (refl, tt)))))))))))))))))))))))))))); sources = refl }
 
 kept_at : (i : ℕ) (c : Command) → slice_get sample i ≡ Some c → MayRun sample (status_at sample i) c
 kept_at zero c is = subst (MayRun sample (status_at sample 0)) (some_same (commands.Buffer 0 64 (record { 0 = 8 }) None) c is) kept_0

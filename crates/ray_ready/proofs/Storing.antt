@@ -13,7 +13,7 @@ use Rattle.ray_rules.specs.Ids.{look, with_id, without_id}
 use Rattle.ray_rules.specs.Status.{Status, fill_in, structure_built, with_buffer, with_built, with_structure}
 use Rattle.ray_action.specs.Areas.{is_contents_of, is_in_range}
 use Rattle.ray_action.specs.Memory.{Contents, Memory, ByteAt, BufferAt, StructureAt, ContentsAt}
-use Rattle.ray_action.specs.Action.{Action, MakeBuffer, MakeStructure, DestroyBuffer, DestroyStructure, ShowSizes, ShowBytes, UpdateBytes, FillBytes, CopyBytes, BuildBottom, UpdateBottom, BuildTop, UpdateTop, CopyStructure, TellProperty, TraceRays, Rest, Unbuilt}
+use Rattle.ray_action.specs.Action.{Action, MakeBuffer, MakeStructure, DestroyBuffer, DestroyStructure, ShowSizes, ShowBytes, UpdateBytes, FillBytes, CopyBytes, BuildBottom, UpdateBottom, BuildTop, UpdateTop, CopyStructure, SerializeStructure, DeserializeStructure, TellProperty, TraceRays, Rest, Impossible}
 use Rattle.ray_action.specs.Outcomes.{Output, Nothing, Bytes, Holds, Gives}
 use Rattle.ray_action.specs.Storing.{bytes_left, filled, holding, put, stored}
 use Rattle.ray_ready.proofs.Ties.{IsBuilt, TiedBuffers, Ties, form_of}
@@ -42,6 +42,7 @@ WritesBytes (ShowBytes from form) = Unit {0}
 WritesBytes (UpdateBytes to content) = Unit {0}
 WritesBytes (FillBytes to value) = Unit {0}
 WritesBytes (CopyBytes from to) = Unit {0}
+WritesBytes (SerializeStructure src to) = Unit {0}
 WritesBytes (TellProperty what structures to) = Unit {0}
 WritesBytes (TraceRays trace) = Unit {0}
 WritesBytes Rest = Unit {0}
@@ -74,6 +75,12 @@ ties_written rec i k z m (CopyBytes from to) output w ties = record {
   forms = ties.forms;
   contents = ties.contents;
 }
+ties_written rec i k z m (SerializeStructure src to) output w ties = record {
+  buffers = with_bytes rec i k z m (λ q at. put (SerializeStructure src to) (Gives output) m (ByteAt q at))
+      (λ q at is. either (is_in_range to (ByteAt q at)) (bytes_left to.from output (ByteAt q at) (m (ByteAt q at))) (m (ByteAt q at)) (left_there to.from output q at (m (ByteAt q at)) is) is) ties;
+  forms = ties.forms;
+  contents = ties.contents;
+}
 ties_written rec i k z m (TellProperty what structures to) output w ties = record {
   buffers = with_bytes rec i k z m (λ q at. put (TellProperty what structures to) (Gives output) m (ByteAt q at))
       (λ q at is. either (is_in_range to (ByteAt q at)) (bytes_left to.from output (ByteAt q at) (m (ByteAt q at))) (m (ByteAt q at)) (left_there to.from output q at (m (ByteAt q at)) is) is) ties;
@@ -96,7 +103,8 @@ ties_written rec i k z m (UpdateBottom build src gs) output w ties = absurd w
 ties_written rec i k z m (BuildTop build flags uses instances) output w ties = absurd w
 ties_written rec i k z m (UpdateTop build src uses instances) output w ties = absurd w
 ties_written rec i k z m (CopyStructure mode src dst) output w ties = absurd w
-ties_written rec i k z m Unbuilt output w ties = absurd w
+ties_written rec i k z m (DeserializeStructure from dst uses) output w ties = absurd w
+ties_written rec i k z m Impossible output w ties = absurd w
 
 -- ---- buffers come and go
 

@@ -1,5 +1,5 @@
 -- The invariant of the induction: how the status of a recording and the memory of the device are tied.
-use Rattle.std.proofs.Common.{◌≡◌, ◌<◌, ◌≤◌, ℕ, true, List, Option, Some, IsSome, IfSome, All, length}
+use Rattle.std.proofs.Common.{◌≡◌, ◌<◌, ◌≤◌, ℕ, false, true, List, Option, Some, IsSome, IfSome, All, length}
 use Rattle.std.specs.Option.{option_map, option_and_then}
 use Rattle.ray_geom.specs.Boxes.{BoxValue}
 use Rattle.ray_bottom.specs.Contents as bottoms
@@ -14,7 +14,7 @@ use Rattle.ray_rules.specs.declared.built.Built.{Built}
 use Rattle.ray_rules.specs.declared.live_buffer.LiveBuffer.{LiveBuffer}
 use Rattle.ray_rules.specs.declared.live_structure.LiveStructure.{LiveStructure}
 use Rattle.ray_rules.specs.Ids.{Ids, look}
-use Rattle.ray_rules.specs.Origins.{info_of, uses_of}
+use Rattle.ray_rules.specs.Origins.{info_of, is_deserialized, uses_of}
 use Rattle.ray_rules.specs.Ranges.{primitives, size_at}
 use Rattle.ray_rules.specs.Status.{Status}
 use Rattle.ray_action.specs.declared.form.Form.{Form}
@@ -45,16 +45,20 @@ pub record IsEarlier (i k : ℕ) (b : Built) : Type 0 where
 
 -- ---- what the memory holds
 
--- the contents of a top structure that was built by this: its instances are as many as its info has, each
--- active one refers to a structure in use, and those are the ones that its info names
+-- a top structure has as many instances as the info by which it was built
+pub record IsAsMany (rec : List Command) (b : Built) (top : tops.TopValue) : Type 0 where
+  pub by : Info
+  pub info : info_of rec b ≡ Some by
+  pub count : length top.contents.instances ≡ primitives by.geometries
+
+-- the contents of a top structure that was built by this: each active instance refers to a structure in use,
+-- those are the ones that its command names, and where an info built it, it has as many instances as that
 pub record IsTopBy (rec : List Command) (b : Built) (found : Option Contents) : Type 0 where
   pub top : tops.TopValue
   pub is_it : found ≡ Some (Top top)
   pub in_use : (u : ℕ) (x : Option BoxValue) → bounds_in top.used u ≡ Some x → has (uses_of rec b) u ≡ true
   pub active : All (λ (i : Option InstanceValue). IfSome i (λ v. IsSome (bounds_in top.used v.id))) top.contents.instances
-  pub by : Info
-  pub info : info_of rec b ≡ Some by
-  pub count : length top.contents.instances ≡ primitives by.geometries
+  pub count : is_deserialized rec b ≡ false → IsAsMany rec b top
 
 -- the contents of a structure of a kind that was built by this
 abbrev pub Fills : List Command → StructureKind → Built → Option Contents → Type 0

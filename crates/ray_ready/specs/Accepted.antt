@@ -1,4 +1,4 @@
--- The commands of a recording that may be run: they keep the static rules, and their forms are built. (Own.)
+-- The commands of a recording that may be run: they keep the static rules. (Own.)
 use Rattle.std.specs.Prelude.{ℕ, ◌≡◌, ◌<◌, List, Option, Some, None, true, slice_get}
 use Rattle.ray_cmd.specs.declared.command.Command.{Command}
 use Rattle.ray_cmd.specs.declared.refusal.Refusal.{Refusal}
@@ -6,12 +6,10 @@ use Rattle.ray_cmd.specs.Sources.{have_their_sources}
 use Rattle.ray_rules.specs.Hazards.{status_at}
 use Rattle.ray_rules.specs.Refusals.{AreKept, static_table}
 use Rattle.ray_rules.specs.Status.{Status}
-use Rattle.ray_action.specs.Pieces.{is_built_form}
 
--- a command keeps the static rules where this status stands before it, and its form is built
+-- a command keeps the static rules where this status stands before it
 pub record MayRun (rec : List Command) (z : Status) (c : Command) : Type 0 where
   pub rules : AreKept (static_table rec z c)
-  pub form : is_built_form c ≡ true
   pub sources : have_their_sources c ≡ true
 
 -- it is so with each command of a recording below number n
