@@ -17,3 +17,4 @@ pub mod Finding
 pub mod Refused
 pub mod All
 pub mod Sample
+pub mod Orders

@@ -6,7 +6,6 @@ use Rattle.std.specs.Option.{option_map_or, option_to_list}
 use Rattle.ray_flags.specs.declared.ray_flags.RayFlags.{RayFlags}
 use Rattle.ray_script.specs.declared.raw_rule.RawRule.{RawRule}
 use Rattle.ray_cmd.specs.declared.asked.Asked.{Asked}
-use Rattle.ray_cmd.specs.declared.asked.Asked.TheVariants as asked
 use Rattle.ray_cmd.specs.declared.build_mode.BuildMode.{BuildMode}
 use Rattle.ray_cmd.specs.declared.build_mode.BuildMode.TheVariants as modes
 use Rattle.ray_cmd.specs.declared.command.Command.{Command}
@@ -30,10 +29,10 @@ use Rattle.ray_rules.specs.Origins.{uses_of}
 use Rattle.ray_rules.specs.Ranges.{inputs_read, range}
 use Rattle.ray_rules.specs.Sources.{first_stale, is_stale, v21}
 use Rattle.ray_rules.specs.Status.{Status, built_at}
-use Rattle.ray_action.specs.Action.{Action, Building, CopyStructure, FillBytes, TellProperty, Unbuilt, UpdateBytes, areas_read, content_buffer, geometry_areas, structure_areas}
+use Rattle.ray_action.specs.Action.{Action, Building, CopyStructure, DeserializeStructure, FillBytes, SerializeStructure, TellProperty, UpdateBytes, areas_read, content_buffer, geometry_areas, structure_areas}
 use Rattle.ray_action.specs.Areas.{Area, Bytes, ContentsOf, ContentsOfEach, FormOf, cover, covers, has, is_contents_of, is_contents_of_any, is_form, is_in_range, is_size}
 use Rattle.ray_action.specs.Memory.{Location, ByteAt, BufferAt, StructureAt, ContentsAt}
-use Rattle.ray_action.specs.Pieces.{actions_of, bottom_action, building, info_action, info_action_by, info_action_on, info_actions, property_action, rays_action, region_action, top_action, top_action_of, trace_pieces}
+use Rattle.ray_action.specs.Pieces.{actions_of, bottom_action, building, info_action, info_action_by, info_action_on, info_actions, property_action, rays_action, region_action, stretch_range, top_action, top_action_of, trace_pieces}
 use Rattle.ray_action.specs.Storing.{writes}
 use Rattle.ray_ready.specs.Accepted.{MayRun}
 use Rattle.ray_ready.proofs.Ties.{IsBuilt}
@@ -254,17 +253,30 @@ asked_there z (id ∷ ids) l live e =
     (λ rest. either (is_contents_of id l) (cover (flat_map structure_areas ids) l) rest
     (λ contents. contents_there z id l there contents) (λ later. asked_there z ids l live.1 later))
 
-nothing_named : (z : Status) → IsNamed z Unbuilt
-nothing_named z = record { reads = λ l e. absurd cc; writes = λ l e. absurd cc }
+serialize_named : (z : Status) (src : ℕ) (r : ByteRange) → IsSome (look z.structures src) → IsSome (look z.buffers r.buffer) → IsNamed z (SerializeStructure src r)
+serialize_named z src r from to = record {
+  reads = λ l e. either (is_contents_of src l) false e (λ source. contents_there z src l from source) (λ none. absurd cc);
+  writes = λ l e. bytes_there z r l to e;
+}
+
+deserialize_named : (z : Status) (r : ByteRange) (dst : ℕ) (uses : List ℕ) → IsSome (look z.buffers r.buffer) → IsSome (look z.structures dst) → Fail (lacks_structure z) uses
+    → IsNamed z (DeserializeStructure r dst uses)
+deserialize_named z r dst uses from to live = record {
+  reads = λ l e.
+      either (is_in_range r l) (cover (FormOf dst ∷ (ContentsOfEach uses ∷ [])) l) e
+      (λ here. bytes_there z r l from here)
+      (λ rest. either (is_form dst l) (cover (ContentsOfEach uses ∷ []) l) rest
+      (λ form. form_there z dst l to form)
+      (λ later. either (is_contents_of_any uses l) false later
+      (λ used. each_there z uses l (λ u named. is_there (look z.structures u) (fails_at (lacks_structure z) uses u live named)) used) (λ none. absurd cc)));
+  writes = λ l e. contents_there z dst l to e;
+}
 
 tell_named : (z : Status) (what : Asked) (ids : List ℕ) (r : ByteRange) → Fail (lacks_structure z) ids → IsSome (look z.buffers r.buffer) → IsNamed z (TellProperty what ids r)
 tell_named z what ids r live to = record { reads = λ l e. asked_there z ids l live e; writes = λ l e. bytes_there z r l to e }
 
 property_named : (z : Status) (what : Asked) (ids : List ℕ) (dst : Spot) → Fail (lacks_structure z) ids → IsSome (look z.buffers dst.buffer) → IsNamed z (property_action what ids dst)
-property_named z asked.Compacted ids dst live to = tell_named z asked.Compacted ids (range dst.buffer dst.offset (8 * length ids)) live to
-property_named z asked.Size ids dst live to = tell_named z asked.Size ids (range dst.buffer dst.offset (8 * length ids)) live to
-property_named z asked.Serialized ids dst live to = nothing_named z
-property_named z asked.Handles ids dst live to = nothing_named z
+property_named z what ids dst live to = tell_named z what ids (range dst.buffer dst.offset (8 * length ids)) live to
 
 -- ---- rays
 
@@ -321,8 +333,20 @@ named rec z (commands.CopyStructure mode src dst) s k a may stage there =
     subst (IsNamed z) (one_item _ a k there).1
     (copy_named z mode src dst (is_there (look z.structures src) (no_first (lacks_structure z src) (lacks_structure z dst) live))
     (is_there (look z.structures dst) (no_second (lacks_structure z src) (lacks_structure z dst) live)))
-named rec z (commands.Serialize src dst) s k a may stage there = subst (IsNamed z) (one_item Unbuilt a k there).1 (nothing_named z)
-named rec z (commands.Deserialize src dst uses) s k a may stage there = subst (IsNamed z) (one_item Unbuilt a k there).1 (nothing_named z)
+named rec z (commands.Serialize src dst) s k a may stage there =
+    let keep = keeps rec z (commands.Serialize src dst) may.rules in
+    let live = not_broken (lacks_structure z src || lacks_buffer z dst.buffer) keep.names in
+    subst (IsNamed z) (one_item _ a k there).1
+    (serialize_named z src (stretch_range dst) (is_there (look z.structures src) (no_first (lacks_structure z src) (lacks_buffer z dst.buffer) live))
+    (is_there (look z.buffers dst.buffer) (no_second (lacks_structure z src) (lacks_buffer z dst.buffer) live)))
+named rec z (commands.Deserialize src dst uses) s k a may stage there =
+    let keep = keeps rec z (commands.Deserialize src dst uses) may.rules in
+    let live = not_broken (lacks_buffer z src.buffer || (lacks_structure z dst || list_any (lacks_structure z) uses)) keep.names in
+    let structures = no_second (lacks_buffer z src.buffer) (lacks_structure z dst || list_any (lacks_structure z) uses) live in
+    subst (IsNamed z) (one_item _ a k there).1
+    (deserialize_named z (stretch_range src) dst uses (is_there (look z.buffers src.buffer) (no_first (lacks_buffer z src.buffer) (lacks_structure z dst || list_any (lacks_structure z) uses) live))
+    (is_there (look z.structures dst) (no_first (lacks_structure z dst) (list_any (lacks_structure z) uses) structures))
+    (none_any (lacks_structure z) uses (no_second (lacks_structure z dst) (list_any (lacks_structure z) uses) structures)))
 named rec z (commands.Property what structures dst) s k a may stage there =
     let keep = keeps rec z (commands.Property what structures dst) may.rules in
     let live = not_broken (list_any (lacks_structure z) structures || lacks_buffer z dst.buffer) keep.names in

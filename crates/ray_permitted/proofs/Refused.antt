@@ -94,13 +94,12 @@ hazards_kept rec i c less is =
     kept_from rec 0 at_first rec i i c (omega arith) is (subst (λ m. i < refused_from m (rule_refusal_from rec 0 at_first rec)) count less)
 
 pub break_no_rule : UnrefusedBreakNoRule
-break_no_rule rec n upto built =
+break_no_rule rec n upto sourced =
     let within : refused_from (length rec) (rule_refusal rec) ≤ length rec = some_refused rec in record {
       accepted = record {
         each = λ i c less is. record {
           rules = unrefused rec i c (omega (arith, less, upto)) is;
-          form = built.forms i c less is;
-          sources = built.sources i c less is;
+          sources = sourced.each i c less is;
         };
       };
       hazards = λ i less.

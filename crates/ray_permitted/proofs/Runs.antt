@@ -46,15 +46,15 @@ recording_order_is rec n p = memory_is rec (first_actions rec n) p
 -- ---- one run
 
 -- the memory in which action number p stands, from a memory on
-abbrev memory_from : Memory → List Numbered → ℕ → Memory
+abbrev pub memory_from : Memory → List Numbered → ℕ → Memory
 memory_from m units zero = m
 memory_from m units (suc p) = after (action_at units p) (memory_from m units p)
 
-from_nothing : (units : List Numbered) (p : ℕ) → memory_from nothing_live units p ≡ memory_before units p
+pub from_nothing : (units : List Numbered) (p : ℕ) → memory_from nothing_live units p ≡ memory_before units p
 from_nothing units zero = refl
 from_nothing units (suc p) = ap (after (action_at units p)) (from_nothing units p)
 
-one_later : (m : Memory) (u : Numbered) (units : List Numbered) (p : ℕ) → memory_from m (u ∷ units) (suc p) ≡ memory_from (after u.action m) units p
+pub one_later : (m : Memory) (u : Numbered) (units : List Numbered) (p : ℕ) → memory_from m (u ∷ units) (suc p) ≡ memory_from (after u.action m) units p
 one_later m u units zero = refl
 one_later m u units (suc p) = ap (after (action_at units p)) (one_later m u units p)
 

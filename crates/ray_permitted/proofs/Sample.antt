@@ -19,7 +19,6 @@ use Rattle.ray_rules.specs.Spans.{v4, v5, v12, v31}
 use Rattle.ray_rules.specs.Status.{after}
 use Rattle.ray_rules.specs.Structures.{v6, v11, v19}
 use Rattle.ray_rules.specs.Verdict.{hazard_table}
-use Rattle.ray_action.specs.Pieces.{is_built_form}
 use Rattle.ray_ready.specs.Accepted.{MayRun}
 use Rattle.ray_permitted.specs.Rules.{BreakNoRule}
 use Rattle.ray_permitted.proofs.Refused.{kept_rows}
@@ -39,44 +38,44 @@ sample =
     ∷ commands.Read 0 0 4 Hex ∷ []
 
 run_0 : MayRun sample (status_at sample 0) (commands.Buffer 0 4 (record { 0 = 8 }) None)
-unfolding v1 v2 v3 v4 v5 v6 v7 v8 v9 v10 v11 v12 v13 v14 v15 v16 v17 v18 v19 v20 v21 v22 v23 v24 v29 v30 v31 phase_needed after is_unsupported is_built_form
-run_0 = record { rules = kept_rows 0 (static_table sample (status_at sample 0) (commands.Buffer 0 4 (record { 0 = 8 }) None)) refl; form = refl; sources = refl }
+unfolding v1 v2 v3 v4 v5 v6 v7 v8 v9 v10 v11 v12 v13 v14 v15 v16 v17 v18 v19 v20 v21 v22 v23 v24 v29 v30 v31 phase_needed after is_unsupported
+run_0 = record { rules = kept_rows 0 (static_table sample (status_at sample 0) (commands.Buffer 0 4 (record { 0 = 8 }) None)) refl; sources = refl }
 
 run_1 : MayRun sample (status_at sample 1) (commands.Begin)
-unfolding v1 v2 v3 v4 v5 v6 v7 v8 v9 v10 v11 v12 v13 v14 v15 v16 v17 v18 v19 v20 v21 v22 v23 v24 v29 v30 v31 phase_needed after is_unsupported is_built_form
-run_1 = record { rules = kept_rows 1 (static_table sample (status_at sample 1) (commands.Begin)) refl; form = refl; sources = refl }
+unfolding v1 v2 v3 v4 v5 v6 v7 v8 v9 v10 v11 v12 v13 v14 v15 v16 v17 v18 v19 v20 v21 v22 v23 v24 v29 v30 v31 phase_needed after is_unsupported
+run_1 = record { rules = kept_rows 1 (static_table sample (status_at sample 1) (commands.Begin)) refl; sources = refl }
 
 run_2 : MayRun sample (status_at sample 2) (commands.Fill 0 0 4 7)
-unfolding v1 v2 v3 v4 v5 v6 v7 v8 v9 v10 v11 v12 v13 v14 v15 v16 v17 v18 v19 v20 v21 v22 v23 v24 v29 v30 v31 phase_needed after is_unsupported is_built_form
-run_2 = record { rules = kept_rows 2 (static_table sample (status_at sample 2) (commands.Fill 0 0 4 7)) refl; form = refl; sources = refl }
+unfolding v1 v2 v3 v4 v5 v6 v7 v8 v9 v10 v11 v12 v13 v14 v15 v16 v17 v18 v19 v20 v21 v22 v23 v24 v29 v30 v31 phase_needed after is_unsupported
+run_2 = record { rules = kept_rows 2 (static_table sample (status_at sample 2) (commands.Fill 0 0 4 7)) refl; sources = refl }
 
 run_3 : MayRun sample (status_at sample 3) (commands.Barrier (record { 0 = 1 }) (record { 0 = 2 }) (record { 0 = 9 }) (record { 0 = 66 }))
-unfolding v1 v2 v3 v4 v5 v6 v7 v8 v9 v10 v11 v12 v13 v14 v15 v16 v17 v18 v19 v20 v21 v22 v23 v24 v29 v30 v31 phase_needed after is_unsupported is_built_form
-run_3 = record { rules = kept_rows 3 (static_table sample (status_at sample 3) (commands.Barrier (record { 0 = 1 }) (record { 0 = 2 }) (record { 0 = 9 }) (record { 0 = 66 }))) refl; form = refl; sources = refl }
+unfolding v1 v2 v3 v4 v5 v6 v7 v8 v9 v10 v11 v12 v13 v14 v15 v16 v17 v18 v19 v20 v21 v22 v23 v24 v29 v30 v31 phase_needed after is_unsupported
+run_3 = record { rules = kept_rows 3 (static_table sample (status_at sample 3) (commands.Barrier (record { 0 = 1 }) (record { 0 = 2 }) (record { 0 = 9 }) (record { 0 = 66 }))) refl; sources = refl }
 
 run_4 : MayRun sample (status_at sample 4) (commands.Fill 0 0 4 9)
-unfolding v1 v2 v3 v4 v5 v6 v7 v8 v9 v10 v11 v12 v13 v14 v15 v16 v17 v18 v19 v20 v21 v22 v23 v24 v29 v30 v31 phase_needed after is_unsupported is_built_form
-run_4 = record { rules = kept_rows 4 (static_table sample (status_at sample 4) (commands.Fill 0 0 4 9)) refl; form = refl; sources = refl }
+unfolding v1 v2 v3 v4 v5 v6 v7 v8 v9 v10 v11 v12 v13 v14 v15 v16 v17 v18 v19 v20 v21 v22 v23 v24 v29 v30 v31 phase_needed after is_unsupported
+run_4 = record { rules = kept_rows 4 (static_table sample (status_at sample 4) (commands.Fill 0 0 4 9)) refl; sources = refl }
 
 run_5 : MayRun sample (status_at sample 5) (commands.Barrier (record { 0 = 1 }) (record { 0 = 2 }) (record { 0 = 8 }) (record { 0 = 64 }))
-unfolding v1 v2 v3 v4 v5 v6 v7 v8 v9 v10 v11 v12 v13 v14 v15 v16 v17 v18 v19 v20 v21 v22 v23 v24 v29 v30 v31 phase_needed after is_unsupported is_built_form
-run_5 = record { rules = kept_rows 5 (static_table sample (status_at sample 5) (commands.Barrier (record { 0 = 1 }) (record { 0 = 2 }) (record { 0 = 8 }) (record { 0 = 64 }))) refl; form = refl; sources = refl }
+unfolding v1 v2 v3 v4 v5 v6 v7 v8 v9 v10 v11 v12 v13 v14 v15 v16 v17 v18 v19 v20 v21 v22 v23 v24 v29 v30 v31 phase_needed after is_unsupported
+run_5 = record { rules = kept_rows 5 (static_table sample (status_at sample 5) (commands.Barrier (record { 0 = 1 }) (record { 0 = 2 }) (record { 0 = 8 }) (record { 0 = 64 }))) refl; sources = refl }
 
 run_6 : MayRun sample (status_at sample 6) (commands.End)
-unfolding v1 v2 v3 v4 v5 v6 v7 v8 v9 v10 v11 v12 v13 v14 v15 v16 v17 v18 v19 v20 v21 v22 v23 v24 v29 v30 v31 phase_needed after is_unsupported is_built_form
-run_6 = record { rules = kept_rows 6 (static_table sample (status_at sample 6) (commands.End)) refl; form = refl; sources = refl }
+unfolding v1 v2 v3 v4 v5 v6 v7 v8 v9 v10 v11 v12 v13 v14 v15 v16 v17 v18 v19 v20 v21 v22 v23 v24 v29 v30 v31 phase_needed after is_unsupported
+run_6 = record { rules = kept_rows 6 (static_table sample (status_at sample 6) (commands.End)) refl; sources = refl }
 
 run_7 : MayRun sample (status_at sample 7) (commands.Submit)
-unfolding v1 v2 v3 v4 v5 v6 v7 v8 v9 v10 v11 v12 v13 v14 v15 v16 v17 v18 v19 v20 v21 v22 v23 v24 v29 v30 v31 phase_needed after is_unsupported is_built_form
-run_7 = record { rules = kept_rows 7 (static_table sample (status_at sample 7) (commands.Submit)) refl; form = refl; sources = refl }
+unfolding v1 v2 v3 v4 v5 v6 v7 v8 v9 v10 v11 v12 v13 v14 v15 v16 v17 v18 v19 v20 v21 v22 v23 v24 v29 v30 v31 phase_needed after is_unsupported
+run_7 = record { rules = kept_rows 7 (static_table sample (status_at sample 7) (commands.Submit)) refl; sources = refl }
 
 run_8 : MayRun sample (status_at sample 8) (commands.Wait)
-unfolding v1 v2 v3 v4 v5 v6 v7 v8 v9 v10 v11 v12 v13 v14 v15 v16 v17 v18 v19 v20 v21 v22 v23 v24 v29 v30 v31 phase_needed after is_unsupported is_built_form
-run_8 = record { rules = kept_rows 8 (static_table sample (status_at sample 8) (commands.Wait)) refl; form = refl; sources = refl }
+unfolding v1 v2 v3 v4 v5 v6 v7 v8 v9 v10 v11 v12 v13 v14 v15 v16 v17 v18 v19 v20 v21 v22 v23 v24 v29 v30 v31 phase_needed after is_unsupported
+run_8 = record { rules = kept_rows 8 (static_table sample (status_at sample 8) (commands.Wait)) refl; sources = refl }
 
 run_9 : MayRun sample (status_at sample 9) (commands.Read 0 0 4 Hex)
-unfolding v1 v2 v3 v4 v5 v6 v7 v8 v9 v10 v11 v12 v13 v14 v15 v16 v17 v18 v19 v20 v21 v22 v23 v24 v29 v30 v31 phase_needed after is_unsupported is_built_form
-run_9 = record { rules = kept_rows 9 (static_table sample (status_at sample 9) (commands.Read 0 0 4 Hex)) refl; form = refl; sources = refl }
+unfolding v1 v2 v3 v4 v5 v6 v7 v8 v9 v10 v11 v12 v13 v14 v15 v16 v17 v18 v19 v20 v21 v22 v23 v24 v29 v30 v31 phase_needed after is_unsupported
+run_9 = record { rules = kept_rows 9 (static_table sample (status_at sample 9) (commands.Read 0 0 4 Hex)) refl; sources = refl }
 
 may_run : (i : ℕ) (c : Command) → slice_get sample i ≡ Some c → MayRun sample (status_at sample i) c
 may_run zero c is = subst (MayRun sample (status_at sample 0)) (same_some (commands.Buffer 0 4 (record { 0 = 8 }) None) c is) run_0

@@ -19,7 +19,7 @@ use Rattle.ray_action.specs.Running.{action_at, memory_before, run_from, run_of}
 use Rattle.ray_ready.specs.Accepted.{refused_from}
 use Rattle.ray_ready.specs.Laws.{AreSources, GaveBefore, first_actions}
 use Rattle.ray_permitted.specs.Along.{run_along, run_kept}
-use Rattle.ray_permitted.specs.Rules.{AreOfBuiltForms, BreakNoRule}
+use Rattle.ray_permitted.specs.Rules.{BreakNoRule, HaveSources}
 use Rattle.ray_permitted.specs.Work.{work_of}
 
 -- ---- from the rules to the order
@@ -44,11 +44,11 @@ SchedulesComeToTheRun =
     (rec : List Command) (n : ℕ) (es : List Event) → BreakNoRule rec n → MayRun (work_of rec n) es
     → run_along rec n es ≡ run_from nothing_live (first_actions rec n)
 
--- so does every permitted schedule of a whole recording that no rule on the recording alone refuses,
--- whose forms are built and whose updates have sources
+-- so does every permitted schedule of a whole recording that no rule on the recording alone refuses, and
+-- whose updates have sources
 abbrev pub RecordingsComeToTheirRun : Type 0
 RecordingsComeToTheirRun =
-    (rec : List Command) (es : List Event) → rule_refusal rec ≡ None → AreOfBuiltForms rec (length rec)
+    (rec : List Command) (es : List Event) → rule_refusal rec ≡ None → HaveSources rec (length rec)
     → MayRun (work_of rec (length rec)) es → run_along rec (length rec) es ≡ run_of rec
 
 -- each has the outcomes, the memory and the first fault of recording order
@@ -153,9 +153,9 @@ OutcomesTellTheRun =
 
 -- ---- what is refused, and what isn't
 
--- the first commands of a recording break no rule where none of them is refused, their forms are built
--- and their updates have sources
+-- the first commands of a recording break no rule where none of them is refused, and their updates have
+-- sources
 abbrev pub UnrefusedBreakNoRule : Type 0
 UnrefusedBreakNoRule =
-    (rec : List Command) (n : ℕ) → n ≤ refused_from (length rec) (rule_refusal rec) → AreOfBuiltForms rec n
+    (rec : List Command) (n : ℕ) → n ≤ refused_from (length rec) (rule_refusal rec) → HaveSources rec n
     → BreakNoRule rec n

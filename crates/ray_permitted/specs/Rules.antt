@@ -3,7 +3,6 @@ use Rattle.std.specs.Prelude.{ℕ, ◌≡◌, ◌<◌, List, Some, true, slice_g
 use Rattle.ray_cmd.specs.declared.command.Command.{Command}
 use Rattle.ray_rules.specs.Refusals.{AreKept}
 use Rattle.ray_rules.specs.Verdict.{hazard_table}
-use Rattle.ray_action.specs.Pieces.{is_built_form}
 use Rattle.ray_cmd.specs.Sources.{have_their_sources}
 use Rattle.ray_ready.specs.Accepted.{IsAccepted}
 
@@ -12,7 +11,6 @@ pub record BreakNoRule (rec : List Command) (n : ℕ) : Type 0 where
   pub accepted : IsAccepted rec n
   pub hazards : (i : ℕ) → i < n → AreKept (hazard_table rec i)
 
--- the forms of the first n commands are built, and their updates have sources
-pub record AreOfBuiltForms (rec : List Command) (n : ℕ) : Type 0 where
-  pub forms : (i : ℕ) (c : Command) → i < n → slice_get rec i ≡ Some c → is_built_form c ≡ true
-  pub sources : (i : ℕ) (c : Command) → i < n → slice_get rec i ≡ Some c → have_their_sources c ≡ true
+-- the updates among the first n commands have sources, as those of a recording that was read have
+pub record HaveSources (rec : List Command) (n : ℕ) : Type 0 where
+  pub each : (i : ℕ) (c : Command) → i < n → slice_get rec i ≡ Some c → have_their_sources c ≡ true
