@@ -3,8 +3,6 @@ use Rattle.std.proofs.Common.{ℕ, zero, suc, ◌≡◌, ◌<◌, ◌+◌, ◌/�
 use Rattle.std.specs.Prelude.{slice_get, option_map, unwrap_or}
 use Rattle.std.specs.List.{range_with_len}
 use Rattle.std.proofs.lemmas.Option.{slice_get-map, get_or_from_slice_get}
-use Rattle.ray_cmd.specs.declared.asked.Asked.{Asked}
-use Rattle.ray_cmd.specs.declared.asked.Asked.TheVariants as asked
 use Rattle.ray_cmd.specs.declared.build_mode.BuildMode.{BuildMode}
 use Rattle.ray_cmd.specs.declared.build_mode.BuildMode.TheVariants as modes
 use Rattle.ray_cmd.specs.declared.command.Command.{Command}
@@ -23,13 +21,13 @@ use Rattle.ray_rules.specs.Hazards.{status_at}
 use Rattle.ray_rules.specs.Ids.{look}
 use Rattle.ray_rules.specs.Status.{Status}
 use Rattle.ray_action.specs.Memory.{Memory, Location}
-use Rattle.ray_action.specs.Action.{Action, Building, UpdateBytes, FillBytes, CopyStructure, Rest, Unbuilt}
+use Rattle.ray_action.specs.Action.{Action, Building, UpdateBytes, FillBytes, CopyStructure, SerializeStructure, DeserializeStructure, Rest}
 use Rattle.ray_action.specs.Outcomes.{Output, Gives}
-use Rattle.ray_action.specs.Pieces.{actions_of, command_at, building, bottom_action, top_action_of, top_action, info_action_by, info_action_on, info_action, info_actions, region_action, rays_action, trace_pieces, property_action}
+use Rattle.ray_action.specs.Pieces.{actions_of, command_at, building, bottom_action, top_action_of, top_action, info_action_by, info_action_on, info_action, info_actions, region_action, rays_action, trace_pieces, property_action, stretch_range}
 use Rattle.ray_action.specs.Storing.{put}
 use Rattle.ray_device.specs.declared.piece.Piece.{Piece}
 use Rattle.ray_device.specs.Pieces.{piece_count, part_action, piece_action, IsPiece}
-use Rattle.ray_device.specs.Storing.{IsStorable, CanHold, CanStore, CanHoldIn, put_part, put_contents, put_region, put_info, put_property, property_range}
+use Rattle.ray_device.specs.Storing.{IsStorable, CanHold, CanStore, CanHoldIn, put_part, put_contents, put_region, put_info}
 
 -- the command of a number that is there
 pub command_is : (rec : List Command) (i : ℕ) (c : Command) → slice_get rec i ≡ Some c → command_at rec i ≡ c
@@ -174,13 +172,6 @@ info-can : (z : Status) (k : ℕ) (found : Option Info) (output : Output) (m : M
 info-can z k None output m s = tt
 info-can z k (Some info) output m s = info-holds (building z k info) info output m (look z.structures info.dst) s
 
-property-stores : (what : Asked) (structures : List ℕ) (dst : Spot) (output : Output) (m : Memory) (l : Location)
-    → put (property_action what structures dst) (Gives output) m l ≡ put_property what (property_range dst structures) output m l
-property-stores asked.Compacted structures dst output m l = refl
-property-stores asked.Size structures dst output m l = refl
-property-stores asked.Serialized structures dst output m l = refl
-property-stores asked.Handles structures dst output m l = refl
-
 -- what is stored of part k of a command
 part-stores : (rec : List Command) (z : Status) (c : Command) (k : ℕ) (output : Output) (m : Memory) → k < piece_count c
     → IsStorable (part_action rec z c k) output m → Stores rec z c k output m
@@ -211,12 +202,12 @@ part-stores rec z (commands.CopyStructure mode src dst) k output m within s =
     stores-by rec z (commands.CopyStructure mode src dst) k output m (CopyStructure mode src dst)
     (first-part _ k within) (λ l. refl)
 part-stores rec z (commands.Serialize src dst) k output m within s =
-    stores-by rec z (commands.Serialize src dst) k output m Unbuilt (first-part _ k within) (λ l. refl)
+    stores-by rec z (commands.Serialize src dst) k output m (SerializeStructure src (stretch_range dst)) (first-part _ k within) (λ l. refl)
 part-stores rec z (commands.Deserialize src dst uses) k output m within s =
-    stores-by rec z (commands.Deserialize src dst uses) k output m Unbuilt (first-part _ k within) (λ l. refl)
+    stores-by rec z (commands.Deserialize src dst uses) k output m (DeserializeStructure (stretch_range src) dst uses) (first-part _ k within) (λ l. refl)
 part-stores rec z (commands.Property what structures dst) k output m within s =
     stores-by rec z (commands.Property what structures dst) k output m (property_action what structures dst)
-    (first-part _ k within) (property-stores what structures dst output m)
+    (first-part _ k within) (λ l. refl)
 part-stores rec z (commands.Barrier src_stages src_access dst_stages dst_access) k output m within s =
     stores-by rec z (commands.Barrier src_stages src_access dst_stages dst_access) k output m Rest (first-part _ k within) (λ l. refl)
 part-stores rec z (commands.Trace top rays count hits flags mask script) k output m within s =
@@ -245,7 +236,8 @@ part-can rec z (commands.Build infos) k output m within s =
 part-can rec z (commands.CopyStructure mode src dst) k output m within s =
     subst (λ a. IsStorable a output m) (first-part (CopyStructure mode src dst) k within) s
 part-can rec z (commands.Serialize src dst) k output m within s = tt
-part-can rec z (commands.Deserialize src dst uses) k output m within s = tt
+part-can rec z (commands.Deserialize src dst uses) k output m within s =
+    subst (λ a. IsStorable a output m) (first-part (DeserializeStructure (stretch_range src) dst uses) k within) s
 part-can rec z (commands.Property what structures dst) k output m within s = tt
 part-can rec z (commands.Barrier src_stages src_access dst_stages dst_access) k output m within s = tt
 part-can rec z (commands.Trace top rays count hits flags mask script) k output m within s = tt

@@ -7,8 +7,6 @@ use Rattle.std.proofs.lemmas.List.Elements.{All-cons, All-nil}
 use Rattle.std.proofs.lemmas.Option.{slice_get-get_or}
 use Rattle.ray_flags.specs.declared.ray_flags.RayFlags.{RayFlags}
 use Rattle.ray_script.specs.declared.raw_rule.RawRule.{RawRule}
-use Rattle.ray_cmd.specs.declared.asked.Asked.{Asked}
-use Rattle.ray_cmd.specs.declared.asked.Asked.TheVariants as asked
 use Rattle.ray_cmd.specs.declared.build_mode.BuildMode.{BuildMode}
 use Rattle.ray_cmd.specs.declared.build_mode.BuildMode.TheVariants as modes
 use Rattle.ray_cmd.specs.declared.command.Command.{Command}
@@ -18,6 +16,7 @@ use Rattle.ray_cmd.specs.declared.geometry.Geometry.{Geometry}
 use Rattle.ray_cmd.specs.declared.info.Info.{Info}
 use Rattle.ray_cmd.specs.declared.region.Region.{Region}
 use Rattle.ray_cmd.specs.declared.spot.Spot.{Spot}
+use Rattle.ray_cmd.specs.declared.stretch.Stretch.{Stretch}
 use Rattle.ray_cmd.specs.declared.structure_kind.StructureKind.{StructureKind}
 use Rattle.ray_cmd.specs.declared.structure_kind.StructureKind.TheVariants as kinds
 use Rattle.ray_rules.specs.declared.live_buffer.LiveBuffer.{LiveBuffer}
@@ -29,10 +28,10 @@ use Rattle.ray_rules.specs.Ranges.{size_at, inputs_read, range}
 use Rattle.ray_rules.specs.Shapes.{is_triangles, is_boxes}
 use Rattle.ray_rules.specs.Status.{Status}
 use Rattle.ray_action.specs.Memory.{Memory, StructureAt, ContentsAt, BufferAt, bytes_at}
-use Rattle.ray_action.specs.Action.{Action, Building, UpdateBytes, FillBytes, CopyStructure, Rest, Unbuilt, content_buffer}
+use Rattle.ray_action.specs.Action.{Action, Building, UpdateBytes, FillBytes, CopyStructure, SerializeStructure, DeserializeStructure, Rest, content_buffer}
 use Rattle.ray_action.specs.Building.{add_all, new_builder, update_builder, top_of, top_again}
-use Rattle.ray_action.specs.Outcomes.{Outcome, bytes_outcome, copy_outcome, outcome_of, bottom_outcome, top_outcome, of_bottom, of_top}
-use Rattle.ray_action.specs.Pieces.{bottom_action, top_action_of, top_action, info_action_by, info_action_on, info_action, region_action, rays_action, property_action, command_at, actions_of, cull_mask}
+use Rattle.ray_action.specs.Outcomes.{Outcome, bytes_outcome, copy_outcome, deserialize_outcome, outcome_of, serialize_outcome, bottom_outcome, top_outcome, of_bottom, of_top}
+use Rattle.ray_action.specs.Pieces.{bottom_action, top_action_of, top_action, info_action_by, info_action_on, info_action, region_action, rays_action, property_action, command_at, actions_of, cull_mask, stretch_range}
 use Rattle.ray_action.specs.Readiness.{IsReady, IsMade, IsThere, AreThere, AreOfBottom}
 use Rattle.ray_action.specs.Seeing.{SeenBytes, see_geometry, see_range}
 use Rattle.ray_device.specs.declared.fetch_fault.FetchFault.{FetchFault}
@@ -44,6 +43,7 @@ use Rattle.ray_device.specs.Infos.{CanBuild, CanBuildBottom, CanBuildForm, CanBu
 use Rattle.ray_device.specs.Parts.{CanBuildInfo, CanFetch, CanReadRegion, info_given, part_given, rays_range, region_given}
 use Rattle.ray_device.specs.Pieces.{IsPiece, part_action, piece_action, piece_count}
 use Rattle.ray_device.specs.Ranges.{ranges_with}
+use Rattle.ray_device.specs.Tops.{used_now}
 use Rattle.ray_device.specs.Tracing.{traced}
 use Rattle.ray_device.proofs.Commands.{build-part, command_is, copy-part, trace-part, first-part}
 use Rattle.ray_device.proofs.Inputs.{ranges_are}
@@ -179,13 +179,13 @@ info-free : (m : Memory) (z : Status) (k : ℕ) (found : Option Info) → IsRead
 info-free m z k None ready = (tt, refl)
 info-free m z k (Some info) ready = found-free m k z.buffers info (look z.structures info.dst) ready
 
-property-free : (rec : List Command) (m : Memory) (what : Asked) (structures : List ℕ) (dst : Spot) (k : ℕ) → IsReady (property_action what structures dst) m
-    → IsFree (property_action what structures dst) m (CanFetch m (commands.Property what structures dst) k) (part_given m (commands.Property what structures dst) k)
-unfolding part_given
-property-free rec m asked.Compacted structures dst k ready = (ready, refl)
-property-free rec m asked.Size structures dst k ready = (ready, refl)
-property-free rec m asked.Serialized structures dst k ready = absurd ready
-property-free rec m asked.Handles structures dst k ready = absurd ready
+deserialize-free : (m : Memory) (src : Stretch) (dst : ℕ) (uses : List ℕ) → IsReady (DeserializeStructure (stretch_range src) dst uses) m
+    → IsFree (DeserializeStructure (stretch_range src) dst uses) m (IsSome (bytes_at m (stretch_range src)) × IsSome (m (StructureAt dst)))
+    (deserialize_outcome (map (used_now m) uses) (bytes_at m (stretch_range src)) (m (StructureAt dst)))
+deserialize-free m src dst uses ready = (
+  (ready.bytes, ready.dst),
+  ap (λ used. deserialize_outcome used (bytes_at m (stretch_range src)) (m (StructureAt dst))) (used_list m uses),
+)
 
 pub part_free : (rec : List Command) (z : Status) (c : Command) (k : ℕ) (m : Memory) → k < piece_count c
     → IsReady (part_action rec z c k) m → IsFree (part_action rec z c k) m (CanFetch m c k) (part_given m c k)
@@ -212,11 +212,11 @@ part_free rec z (commands.Build infos) k m within ready =
 part_free rec z (commands.CopyStructure mode src dst) k m within ready =
     part-if m _ (CopyStructure mode src dst) _ _ (first-part _ k within) (λ r. (r, refl)) ready
 part_free rec z (commands.Serialize src dst) k m within ready =
-    part-if m _ Unbuilt _ _ (first-part _ k within) (λ r. absurd r) ready
+    part-if m _ (SerializeStructure src (stretch_range dst)) _ _ (first-part _ k within) (λ r. (r, refl)) ready
 part_free rec z (commands.Deserialize src dst uses) k m within ready =
-    part-if m _ Unbuilt _ _ (first-part _ k within) (λ r. absurd r) ready
+    part-if m _ (DeserializeStructure (stretch_range src) dst uses) _ _ (first-part _ k within) (deserialize-free m src dst uses) ready
 part_free rec z (commands.Property what structures dst) k m within ready =
-    part-if m _ (property_action what structures dst) _ _ (first-part _ k within) (property-free rec m what structures dst k) ready
+    part-if m _ (property_action what structures dst) _ _ (first-part _ k within) (λ r. (r, refl)) ready
 part_free rec z (commands.Barrier src_stages src_access dst_stages dst_access) k m within ready =
     part-if m _ Rest _ _ (first-part _ k within) (λ r. (tt, refl)) ready
 part_free rec z (commands.Trace top rays count hits flags mask script) k m within ready =
@@ -249,6 +249,15 @@ info_is m infos k d below = ap (info_given m k) (sym (slice_get-get_or infos k d
 pub copy_is : (m : Memory) (mode : CopyMode) (src dst k : ℕ) → copy_outcome mode (m (ContentsAt src)) (m (StructureAt dst)) ≡ part_given m (commands.CopyStructure mode src dst) k
 unfolding part_given
 copy_is m mode src dst k = refl
+
+pub serialize_is : (m : Memory) (src : ℕ) (dst : Stretch) (k : ℕ) → serialize_outcome (stretch_range dst) (m (ContentsAt src)) ≡ part_given m (commands.Serialize src dst) k
+unfolding part_given
+serialize_is m src dst k = refl
+
+pub deserialize_is : (m : Memory) (src : Stretch) (dst : ℕ) (uses : List ℕ) (k : ℕ)
+    → deserialize_outcome (map (used_now m) uses) (bytes_at m (stretch_range src)) (m (StructureAt dst)) ≡ part_given m (commands.Deserialize src dst uses) k
+unfolding part_given
+deserialize_is m src dst uses k = refl
 
 pub trace_is : (m : Memory) (top : ℕ) (rays : Spot) (count : ℕ) (hits : Spot) (flags : RayFlags) (mask : ℕ) (script : List RawRule) (k : ℕ)
     → traced m top (rays_range rays count k) (64 * k) (rays_of_piece count k) flags (cull_mask mask) script ≡ part_given m (commands.Trace top rays count hits flags mask script) k

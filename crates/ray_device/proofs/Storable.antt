@@ -10,18 +10,23 @@ use Rattle.ray_bytes.specs.declared.data_fault.DataFault.{DataFault}
 use Rattle.ray_bottom.specs.Contents as bottoms
 use Rattle.ray_bottom.specs.Builders.{BuilderValue}
 use Rattle.ray_top.specs.Contents as tops
+use Rattle.ray_top.specs.declared.used.Used.{Used}
+use Rattle.ray_serial.specs.Form.{broken_line}
+use Rattle.ray_serial.specs.Meaning.{bottom_in, deserialized_in, is_top_form}
+use Rattle.ray_serial.specs.TopMeaning.{top_in}
 use Rattle.ray_cmd.specs.declared.command.Command.TheVariants as commands
 use Rattle.ray_cmd.specs.declared.copy_mode.CopyMode.{CopyMode}
 use Rattle.ray_cmd.specs.declared.copy_mode.CopyMode.TheVariants as copies
 use Rattle.ray_cmd.specs.declared.info.Info.{Info}
+use Rattle.ray_cmd.specs.declared.structure_kind.StructureKind.{StructureKind}
 use Rattle.ray_cmd.specs.declared.structure_kind.StructureKind.TheVariants as kinds
 use Rattle.ray_rules.specs.Status.{Status}
 use Rattle.ray_action.specs.declared.form.Form.{Form}
-use Rattle.ray_action.specs.Memory.{Memory, Contents, Bottom, Top, StructureAt, ContentsAt, kind_of, as_bottom, as_top}
-use Rattle.ray_action.specs.Action.{MakeBuffer, MakeStructure, DestroyBuffer, DestroyStructure, ShowSizes, ShowBytes, UpdateBytes, FillBytes, CopyBytes, BuildBottom, UpdateBottom, BuildTop, UpdateTop, CopyStructure, TellProperty, TraceRays, Rest, Unbuilt}
+use Rattle.ray_action.specs.Memory.{Memory, Contents, Bottom, Top, StructureAt, ContentsAt, kind_of, as_bottom, as_top, bytes_at}
+use Rattle.ray_action.specs.Action.{MakeBuffer, MakeStructure, DestroyBuffer, DestroyStructure, ShowSizes, ShowBytes, UpdateBytes, FillBytes, CopyBytes, BuildBottom, UpdateBottom, BuildTop, UpdateTop, CopyStructure, SerializeStructure, DeserializeStructure, TellProperty, TraceRays, Rest, Impossible}
 use Rattle.ray_action.specs.Building.{add_all, new_builder, update_builder, all_used, top_of, top_again}
-use Rattle.ray_action.specs.Outcomes.{Output, Fault, Holds, compacted_of, Gives, Breaks, Undefined, bottom_outcome, top_outcome, copy_outcome}
-use Rattle.ray_action.specs.Seeing.{see_geometry, see_structures}
+use Rattle.ray_action.specs.Outcomes.{Output, Outcome, Fault, Holds, compacted_of, Gives, Breaks, Undefined, bad_bytes, bottom_outcome, top_outcome, copy_outcome, deserialize_outcome, fitting_in, kept_outcome, linked_outcome, opened_outcome, structure_in}
+use Rattle.ray_action.specs.Seeing.{SeenBytes, see_geometry, see_structures}
 use Rattle.ray_action.specs.Pieces.{info_actions, region_action, rays_action, trace_pieces, actions_of}
 use Rattle.ray_action.specs.Readiness.{IsMade}
 use Rattle.ray_device.specs.Storing.{CanHold}
@@ -84,6 +89,56 @@ copy-holds : (mode : CopyMode) (dst : ℕ) (source : Contents) (found : Option C
 copy-holds copies.Clone dst source found form output m is made e = clone-holds dst source found form output m is made e
 copy-holds copies.Compact dst source found form output m is made e = compact-holds dst source found form output m is made e
 
+-- a structure of serialized bytes is of the kind of what stands under its destination
+linked-holds : (dst : ℕ) (r : Result tops.TopValue DataFault) (output : Output) (m : Memory) → IsMade kinds.Top (m (StructureAt dst)) → linked_outcome r ≡ Gives output → CanHold dst output m
+linked-holds dst (Ok top) output m made e = holds dst (Top top) output m made e
+linked-holds dst (Err fault) output m made e = absurd cc
+
+bottom-there : (dst : ℕ) (found : Option bottoms.ContentsValue) (output : Output) (m : Memory) → IsMade kinds.Bottom (m (StructureAt dst))
+    → option_map_or (λ bottom. Gives (Holds (Bottom bottom))) found Undefined ≡ Gives output → CanHold dst output m
+bottom-there dst None output m made e = absurd cc
+bottom-there dst (Some b) output m made e = holds dst (Bottom b) output m made e
+
+structure-holds : (dst : ℕ) (used : List Used) (bytes : List ℕ) (kind : StructureKind) (output : Output) (m : Memory) → IsMade kind (m (StructureAt dst))
+    → structure_in used bytes kind ≡ Gives output → CanHold dst output m
+structure-holds dst used bytes kinds.Bottom output m made e = bottom-there dst (bottom_in bytes) output m made e
+structure-holds dst used bytes kinds.Top output m made e = linked-holds dst (top_in used bytes) output m made e
+
+second-gives : (b : Bool) (x y : Outcome) (output : Output) → (x ≡ Gives output → ⊥) → (if b then x else y) ≡ Gives output → y ≡ Gives output
+second-gives true x y output never e = absurd (never e)
+second-gives false x y output never e = e
+
+first-gives : (b : Bool) (x y : Outcome) (output : Output) → (y ≡ Gives output → ⊥) → (if b then x else y) ≡ Gives output → x ≡ Gives output
+first-gives true x y output never e = e
+first-gives false x y output never e = absurd (never e)
+
+fitting-holds : (dst size : ℕ) (used : List Used) (bytes : List ℕ) (kind : StructureKind) (output : Output) (m : Memory) → IsMade kind (m (StructureAt dst))
+    → fitting_in size used bytes kind ≡ Gives output → CanHold dst output m
+fitting-holds dst size used bytes kind output m made e =
+    structure-holds dst used bytes kind output m made
+    (second-gives (nat_lt size (deserialized_in bytes)) _ (structure_in used bytes kind) output (λ f. absurd cc) e)
+
+kept-holds : (dst : ℕ) (kind : StructureKind) (size : ℕ) (used : List Used) (bytes : List ℕ) (output : Output) (m : Memory) → IsMade kind (m (StructureAt dst))
+    → kept_outcome kind size used bytes ≡ Gives output → CanHold dst output m
+kept-holds dst kinds.Bottom size used bytes output m made e =
+    fitting-holds dst size used bytes kinds.Bottom output m made
+    (second-gives (is_top_form bytes) (bad_bytes 9) (fitting_in size used bytes kinds.Bottom) output (λ f. absurd cc) e)
+kept-holds dst kinds.Top size used bytes output m made e =
+    fitting-holds dst size used bytes kinds.Top output m made
+    (first-gives (is_top_form bytes) (fitting_in size used bytes kinds.Top) (bad_bytes 9) output (λ f. absurd cc) e)
+
+opened-holds : (dst : ℕ) (form : Form) (used : List Used) (bytes : List ℕ) (line : Option ℕ) (output : Output) (m : Memory) → m (StructureAt dst) ≡ Some form
+    → opened_outcome form used bytes line ≡ Gives output → CanHold dst output m
+opened-holds dst form used bytes (Some number) output m is e = absurd cc
+opened-holds dst form used bytes None output m is e =
+    kept-holds dst form.kind form.size used bytes output m (record { form = form; is_it = is; same_kind = refl }) e
+
+restore-holds : (dst : ℕ) (used : List Used) (seen : SeenBytes) (found : Option Form) (output : Output) (m : Memory) → m (StructureAt dst) ≡ found
+    → deserialize_outcome used seen found ≡ Gives output → CanHold dst output m
+restore-holds dst used None found output m is e = absurd cc
+restore-holds dst used (Some bytes) None output m is e = absurd cc
+restore-holds dst used (Some bytes) (Some form) output m is e = opened-holds dst form used bytes (broken_line bytes) output m is e
+
 pub outputs-are_storable : OutputsAreStorable
 outputs-are_storable (MakeBuffer id size content) m output ready e = tt
 outputs-are_storable (MakeStructure id form) m output ready e = tt
@@ -106,10 +161,13 @@ outputs-are_storable (UpdateTop build src uses instances) m output ready e =
     (λ old. top_again old (all_used (see_structures m uses) uses) instances (see_geometry m build.buffers instances)) output m ready.1.dst e
 outputs-are_storable (CopyStructure mode src dst) m output ready e =
     copy-holds mode dst ready.0.source (m (ContentsAt src)) (m (StructureAt dst)) output m ready.0.is_it ready.0.made e
+outputs-are_storable (SerializeStructure src to) m output ready e = tt
+outputs-are_storable (DeserializeStructure from dst uses) m output ready e =
+    restore-holds dst (all_used (see_structures m uses) uses) (bytes_at m from) (m (StructureAt dst)) output m refl e
 outputs-are_storable (TellProperty what structures to) m output ready e = tt
 outputs-are_storable (TraceRays trace) m output ready e = tt
 outputs-are_storable Rest m output ready e = tt
-outputs-are_storable Unbuilt m output ready e = absurd ready
+outputs-are_storable Impossible m output ready e = absurd ready
 
 -- ---- how many there are
 

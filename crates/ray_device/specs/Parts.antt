@@ -9,11 +9,12 @@ use Rattle.ray_rules.specs.declared.byte_range.ByteRange.{ByteRange}
 use Rattle.ray_rules.specs.Access.{rays_of_piece}
 use Rattle.ray_rules.specs.Ranges.{range}
 use Rattle.ray_action.specs.Memory.{Memory, StructureAt, ContentsAt, bytes_at}
-use Rattle.ray_action.specs.Outcomes.{Outcome, Gives, Undefined, Nothing, bytes_outcome, copy_outcome, numbers_of, property_outcome}
-use Rattle.ray_action.specs.Pieces.{cull_mask}
+use Rattle.ray_action.specs.Outcomes.{Outcome, Gives, Nothing, bytes_outcome, copy_outcome, deserialize_outcome, numbers_of, property_outcome, serialize_outcome}
+use Rattle.ray_action.specs.Pieces.{cull_mask, stretch_range}
 use Rattle.ray_action.specs.Readiness.{IsCopyReady, FitsMode}
 use Rattle.ray_action.specs.Seeing.{see_structure}
 use Rattle.ray_device.specs.Infos.{info_now, CanBuild}
+use Rattle.ray_device.specs.Tops.{used_now}
 use Rattle.ray_device.specs.Tracing.{IsTraceable, traced}
 
 -- where the rays of piece k of a trace stand
@@ -36,8 +37,9 @@ unfoldable pub part_given : Memory → Command → ℕ → Outcome
 part_given memory (commands.Copy src dst regions) k = region_given memory src (slice_get regions k)
 part_given memory (commands.Build infos) k = info_given memory k (slice_get infos k)
 part_given memory (commands.CopyStructure mode src dst) k = copy_outcome mode (memory (ContentsAt src)) (memory (StructureAt dst))
-part_given memory (commands.Serialize src dst) k = Undefined
-part_given memory (commands.Deserialize src dst uses) k = Undefined
+part_given memory (commands.Serialize src dst) k = serialize_outcome (stretch_range dst) (memory (ContentsAt src))
+part_given memory (commands.Deserialize src dst uses) k =
+    deserialize_outcome (map (used_now memory) uses) (bytes_at memory (stretch_range src)) (memory (StructureAt dst))
 part_given memory (commands.Property what structures dst) k = property_outcome (numbers_of what (map (see_structure memory) structures))
 part_given memory (commands.Trace top rays count hits flags mask script) k =
     traced memory top (rays_range rays count k) (64 * k) (rays_of_piece count k) flags (cull_mask mask) script
@@ -58,8 +60,9 @@ CanFetch memory (commands.Copy src dst regions) k = CanReadRegion memory src (sl
 CanFetch memory (commands.Build infos) k = CanBuildInfo memory (slice_get infos k)
 CanFetch memory (commands.CopyStructure mode src dst) k =
     IsCopyReady (memory (ContentsAt src)) (memory (StructureAt dst)) × FitsMode mode (memory (ContentsAt src))
-CanFetch memory (commands.Serialize src dst) k = ⊥
-CanFetch memory (commands.Deserialize src dst uses) k = ⊥
+CanFetch memory (commands.Serialize src dst) k = IsSome (memory (ContentsAt src))
+CanFetch memory (commands.Deserialize src dst uses) k =
+    IsSome (bytes_at memory (stretch_range src)) × IsSome (memory (StructureAt dst))
 CanFetch memory (commands.Property what structures dst) k = IsSome (numbers_of what (map (see_structure memory) structures))
 CanFetch memory (commands.Trace top rays count hits flags mask script) k =
     IsTraceable memory top (rays_range rays count k) flags script

@@ -1,7 +1,5 @@
 -- The store of a piece's output, as its command alone tells it. (Own.)
 use Rattle.std.specs.Prelude.{ℕ, ◌+◌, ◌*◌, List, length, slice_get, Option, Some, None, if◌then◌else◌}
-use Rattle.ray_cmd.specs.declared.asked.Asked.{Asked}
-use Rattle.ray_cmd.specs.declared.asked.Asked.TheVariants as asked
 use Rattle.ray_cmd.specs.declared.command.Command.{Command}
 use Rattle.ray_cmd.specs.declared.command.Command.TheVariants as commands
 use Rattle.ray_cmd.specs.declared.info.Info.{Info}
@@ -12,8 +10,9 @@ use Rattle.ray_rules.specs.Access.{rays_of_piece}
 use Rattle.ray_rules.specs.Ranges.{range}
 use Rattle.ray_action.specs.Memory.{Memory, StructureAt, kind_of}
 use Rattle.ray_action.specs.Areas.{is_in_range, is_contents_of}
-use Rattle.ray_action.specs.Action.{Action, MakeBuffer, MakeStructure, DestroyBuffer, DestroyStructure, ShowSizes, ShowBytes, UpdateBytes, FillBytes, CopyBytes, BuildBottom, UpdateBottom, BuildTop, UpdateTop, CopyStructure, TellProperty, TraceRays, Rest, Unbuilt}
+use Rattle.ray_action.specs.Action.{Action, MakeBuffer, MakeStructure, DestroyBuffer, DestroyStructure, ShowSizes, ShowBytes, UpdateBytes, FillBytes, CopyBytes, BuildBottom, UpdateBottom, BuildTop, UpdateTop, CopyStructure, SerializeStructure, DeserializeStructure, TellProperty, TraceRays, Rest, Impossible}
 use Rattle.ray_action.specs.Outcomes.{Output, Nothing, Bytes, Holds}
+use Rattle.ray_action.specs.Pieces.{stretch_range}
 use Rattle.ray_action.specs.Readiness.{IsMade}
 use Rattle.ray_action.specs.Storing.{stored, filled, bytes_left, contents_left}
 
@@ -41,10 +40,12 @@ IsStorable (UpdateBottom build src geometries) output memory = CanHold build.dst
 IsStorable (BuildTop build flags uses instances) output memory = CanHold build.dst output memory
 IsStorable (UpdateTop build src uses instances) output memory = CanHold build.dst output memory
 IsStorable (CopyStructure mode src dst) output memory = CanHold dst output memory
+IsStorable (SerializeStructure src to) output memory = Unit {0}
+IsStorable (DeserializeStructure from dst uses) output memory = CanHold dst output memory
 IsStorable (TellProperty what structures to) output memory = Unit {0}
 IsStorable (TraceRays trace) output memory = Unit {0}
 IsStorable Rest output memory = Unit {0}
-IsStorable Unbuilt output memory = ⊥
+IsStorable Impossible output memory = ⊥
 
 -- the same of part k of a command
 abbrev pub CanHoldIn : Option Info → Output → Memory → Type 0
@@ -54,6 +55,7 @@ CanHoldIn (Some info) output memory = CanHold info.dst output memory
 abbrev pub CanStore : Command → ℕ → Output → Memory → Type 0
 CanStore (commands.Build infos) k output memory = CanHoldIn (slice_get infos k) output memory
 CanStore (commands.CopyStructure mode src dst) k output memory = CanHold dst output memory
+CanStore (commands.Deserialize src dst uses) k output memory = CanHold dst output memory
 CanStore _ k output memory = Unit {0}
 
 -- ---- what it leaves
@@ -82,7 +84,7 @@ property_range dst structures = range dst.buffer dst.offset (8 * length structur
 abbrev pub hits_range : Spot → ℕ → ℕ → ByteRange
 hits_range hits count k = range hits.buffer (hits.offset + 80 * (64 * k)) (80 * rays_of_piece count k)
 
--- the memory with what is given of a region, of an info, and of a property
+-- the memory with what is given of a region, and of an info
 abbrev pub put_region : ℕ → Option Region → Output → Memory → Memory
 put_region dst None output memory l = memory l
 put_region dst (Some region) output memory l = put_bytes (region_range dst region) output memory l
@@ -91,12 +93,6 @@ abbrev pub put_info : Option Info → Output → Memory → Memory
 put_info None output memory l = memory l
 put_info (Some info) output memory l = put_contents info.dst output memory l
 
-abbrev pub put_property : Asked → ByteRange → Output → Memory → Memory
-put_property asked.Compacted to output memory l = put_bytes to output memory l
-put_property asked.Size to output memory l = put_bytes to output memory l
-put_property asked.Serialized to output memory l = memory l
-put_property asked.Handles to output memory l = memory l
-
 -- the memory once part k of a device command is stored
 unfoldable pub put_part : Command → ℕ → Output → Memory → Memory
 put_part (commands.Update buffer offset content) k output memory l = put_content (range buffer offset (length content)) content memory l
@@ -104,6 +100,8 @@ put_part (commands.Fill buffer offset size value) k output memory l = put_fill (
 put_part (commands.Copy src dst regions) k output memory l = put_region dst (slice_get regions k) output memory l
 put_part (commands.Build infos) k output memory l = put_info (slice_get infos k) output memory l
 put_part (commands.CopyStructure mode src dst) k output memory l = put_contents dst output memory l
-put_part (commands.Property what structures dst) k output memory l = put_property what (property_range dst structures) output memory l
+put_part (commands.Serialize src dst) k output memory l = put_bytes (stretch_range dst) output memory l
+put_part (commands.Deserialize src dst uses) k output memory l = put_contents dst output memory l
+put_part (commands.Property what structures dst) k output memory l = put_bytes (property_range dst structures) output memory l
 put_part (commands.Trace top rays count hits flags mask script) k output memory l = put_bytes (hits_range hits count k) output memory l
 put_part _ k output memory l = memory l

@@ -11,6 +11,7 @@ ghost use Rattle.ray_device.specs.Fetching.{IsFetched, clone_outcome, number_tol
 
 use crate::fetch_fault::FetchFault;
 use crate::output::Output;
+use crate::serializing::{handle_count_at, serialized_size_at};
 use ray_bottom::Bottom;
 use ray_bytes::DataRule;
 use ray_cmd::{Asked, CopyMode, Place};
@@ -139,7 +140,8 @@ fn number(state: &State, what: Asked, id: u32) -> Option<u64>
     match what {
         Asked::Compacted => Some(state.bottom(id)?.compacted_size()),
         Asked::Size => Some(state.form(id)?.size),
-        Asked::Serialized | Asked::Handles => None,
+        Asked::Serialized => serialized_size_at(state, id),
+        Asked::Handles => handle_count_at(state, id),
     }
 }
 

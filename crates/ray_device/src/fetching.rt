@@ -14,6 +14,7 @@ use crate::output::Output;
 use crate::parts::RAYS_A_PIECE;
 use crate::piece::Piece;
 use crate::piece_out::PieceOut;
+use crate::serializing::{deserialized, serialized};
 use crate::storing::range;
 use crate::tracing::traced_rays;
 use ray_cmd::{Command, Recording, Spot};
@@ -24,8 +25,8 @@ use std::alloc::Global;
 use std::sync::ledger::Ledger;
 use std::thread::Threads;
 
-/// What a piece gives of the memory as it is, or the first data rule that what it reads breaks, with
-/// its place. The piece's action is ready there. A piece of a trace takes a step for each primitive
+/// What a piece gives of the memory as it is, or the first data rule that what it reads breaks,
+/// with its place. The piece's action is ready there. A piece of a trace takes a step for each primitive
 /// that it tests; every other piece takes none of them. (The operations of each device command of
 /// Vulkan.)
 #[tactic(auto, using(crate::proofs::Commands::part_within))]
@@ -76,6 +77,17 @@ fn fetch_part<R: Threads + Sync, L: Ledger>(
         Command::CopyStructure { mode, src, dst } => {
             copied_structure(alloc, state, *mode, *src, *dst)
         }
+        Command::Serialize { src, dst } => {
+            serialized(alloc, state, *src, range(dst.buffer, dst.offset, dst.size))
+        }
+        Command::Deserialize { src, dst, uses } => deserialized(
+            rt,
+            alloc,
+            state,
+            range(src.buffer, src.offset, src.size),
+            *dst,
+            uses.as_slice(),
+        ),
         Command::Property {
             what,
             structures,
@@ -101,9 +113,6 @@ fn fetch_part<R: Threads + Sync, L: Ledger>(
             script.as_slice(),
             steps,
         ),
-        Command::Serialize { .. } | Command::Deserialize { .. } => {
-            unreachable!("the form of the command is built")
-        }
         _ => Ok(Output::Nothing),
     }
 }

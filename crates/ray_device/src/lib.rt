@@ -2,14 +2,15 @@
 //! what each gives at its fetch, and what its store leaves. A piece is fetched at one moment, when
 //! all that it reads is read, and stored at a later one; between them its output is a [`PieceOut`].
 //!
-//! Contracts speak of the actions of ray_action (`piece_action` of `specs/Pieces`) and of the memory
-//! that a [`ray_memory::State`] holds, as it is. The layer above uses [`fetch`] and [`store`], each
-//! with one condition, that the action is ready there or its output can be stored there, and the law
-//! that what is given where an action is ready can be stored, [`outputs_are_storable`].
+//! Contracts speak of the actions of ray_action (`piece_action` of `specs/Pieces`) and of the
+//! memory that a [`ray_memory::State`] holds, as it is. The layer above uses [`fetch`] and
+//! [`store`], each with one condition, that the action is ready there or its output can be stored
+//! there, and the law that what is given where an action is ready can be stored,
+//! [`outputs_are_storable`].
 //!
 //! It stands on ray_memory (what a state lends, and how it is changed), on ray_action (what each
-//! command does), on ray_bottom and ray_top (what structures hold), and on ray_walk and ray_script
-//! (what a trace answers).
+//! command does), on ray_bottom and ray_top (what structures hold), on ray_serial (serialized
+//! structures), and on ray_walk and ray_script (what a trace answers).
 #![tactic(auto)]
 
 mod bottoms;
@@ -23,6 +24,7 @@ mod parts;
 mod piece;
 mod piece_out;
 mod ranges;
+mod serializing;
 mod storing;
 #[cfg(test)]
 mod tests;
@@ -39,6 +41,7 @@ pub use crate::parts::pieces;
 pub use crate::piece::Piece;
 pub use crate::piece_out::PieceOut;
 pub use crate::ranges::ranges_read;
+pub use crate::serializing::{deserialized, serialized};
 pub use crate::storing::store;
 pub use crate::tops::{built_top, bytes_read, structures_used, updated_top};
 pub use crate::tracing::traced_rays;

@@ -5,12 +5,14 @@ ghost use Rattle.ray_action.specs.Storing.{put};
 ghost use Rattle.ray_memory.specs.State.{memory_of};
 ghost use Rattle.ray_device.specs.Fetched.{given};
 ghost use Rattle.ray_device.specs.Pieces.{IsPiece, piece_action, piece_count};
-ghost use Rattle.ray_device.specs.Storing.{IsStorable, CanHold, CanStore, put_part, put_bytes, put_contents, put_property, property_range, hits_range};
+ghost use Rattle.ray_device.specs.Storing.{IsStorable, CanHold, CanStore};
+ghost use Rattle.ray_device.specs.Storing.{put_part, put_bytes, put_contents};
+ghost use Rattle.ray_device.specs.Storing.{property_range, hits_range};
 
 use crate::output::Output;
 use crate::parts::RAYS_A_PIECE;
 use crate::piece_out::PieceOut;
-use ray_cmd::{Asked, Command, Recording, Spot};
+use ray_cmd::{Command, Recording, Spot};
 use ray_memory::State;
 use ray_rules::ByteRange;
 
@@ -59,11 +61,15 @@ fn store_part(state: &mut State, command: &Command, part: u32, output: Output)
             store_contents(state, infos.as_slice()[part as usize].dst, output)
         }
         Command::CopyStructure { dst, .. } => store_contents(state, *dst, output),
+        Command::Serialize { dst, .. } => {
+            store_bytes(state, range(dst.buffer, dst.offset, dst.size), output);
+        }
+        Command::Deserialize { dst, .. } => store_contents(state, *dst, output),
         Command::Property {
-            what,
             structures,
             dst,
-        } => store_property(state, *what, *dst, structures.as_slice(), output),
+            ..
+        } => store_bytes(state, range_of_numbers(*dst, structures.as_slice()), output),
         Command::Trace { count, hits, .. } => {
             store_bytes(state, hits_of_piece(*hits, *count, part), output)
         }
@@ -95,22 +101,14 @@ fn hits_of_piece(hits: Spot, count: u32, part: u32) -> ByteRange
     }
 }
 
-// Writes the numbers that are asked of structures.
-fn store_property(state: &mut State, what: Asked, dst: Spot, structures: &[u32], output: Output)
-    ensures { (l : Location) → memory_of state.new l ≡ put_property what
-        (property_range dst structures.now) (given output) (memory_of state.old) l }
+// Where the numbers stand that are asked of structures.
+fn range_of_numbers(dst: Spot, structures: &[u32]) -> ByteRange
+    ensures { result ≡ property_range dst structures.now }
 {
-    match what {
-        Asked::Compacted | Asked::Size => store_bytes(
-            state,
-            ByteRange {
-                buffer: dst.buffer,
-                from: u128::from(dst.offset),
-                size: 8 * structures.len() as u128,
-            },
-            output,
-        ),
-        Asked::Serialized | Asked::Handles => {}
+    ByteRange {
+        buffer: dst.buffer,
+        from: u128::from(dst.offset),
+        size: 8 * structures.len() as u128,
     }
 }
 

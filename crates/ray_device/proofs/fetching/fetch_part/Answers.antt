@@ -1,16 +1,17 @@
-use Rattle.std.proofs.Common.{◌<◌, ◌*◌, ◌∙◌, length, ap, subst, sym}
+use Rattle.std.proofs.Common.{◌<◌, ◌*◌, ◌∙◌, length, map, ap, subst, sym}
 use Rattle.ray_cmd.specs.declared.command.Command.{Command}
 use Rattle.ray_cmd.specs.declared.command.Command.TheVariants as commands
-use Rattle.ray_action.specs.Memory.{bytes_at}
-use Rattle.ray_action.specs.Outcomes.{Outcome, bytes_outcome}
+use Rattle.ray_action.specs.Memory.{ContentsAt, StructureAt, bytes_at}
+use Rattle.ray_action.specs.Outcomes.{Outcome, bytes_outcome, deserialize_outcome, serialize_outcome}
 use Rattle.ray_action.specs.Pieces.{cull_mask}
 use Rattle.ray_memory.specs.State.{memory_of}
 use Rattle.ray_device.specs.Fetching.{IsFetched}
 use Rattle.ray_device.specs.Infos.{info_now}
 use Rattle.ray_device.specs.Parts.{part_given}
 use Rattle.ray_device.specs.Pieces.{piece_count}
+use Rattle.ray_device.specs.Tops.{used_now}
 use Rattle.ray_device.specs.Tracing.{traced}
-use Rattle.ray_device.proofs.Free.{copy_is, info_is, region_is, trace_is}
+use Rattle.ray_device.proofs.Free.{copy_is, deserialize_is, info_is, region_is, serialize_is, trace_is}
 use Rattle.ray_device.proofs.fetching.fetch_part.Goals as goal
 
 pub returns-in-Copy-clause-value : goal.returns-in-Copy-clause-value
@@ -43,6 +44,26 @@ returns-in-CopyStructure-clause-value g c =
     subst (λ (o : Outcome). IsFetched o c.copied_structure.result)
     (copy_is m c.in-CopyStructure.mode c.in-CopyStructure.src c.in-CopyStructure.dst c.args.part ∙ ap (λ x. part_given m x c.args.part) (sym c.in-CopyStructure.is))
     c.copied_structure.ensures
+
+pub returns-in-Serialize-clause-value : goal.returns-in-Serialize-clause-value
+returns-in-Serialize-clause-value g c =
+    let m = memory_of c.args.state.now in
+    let s = c.in-Serialize in
+    subst (λ (o : Outcome). IsFetched o c.serialized.result)
+    (ap (λ r. serialize_outcome r (m (ContentsAt s.src))) c.range-in-Serialize.ensures
+    ∙ (serialize_is m s.src s.dst c.args.part ∙ ap (λ x. part_given m x c.args.part) (sym s.is)))
+    c.serialized.ensures
+
+pub returns-in-Deserialize-clause-value : goal.returns-in-Deserialize-clause-value
+returns-in-Deserialize-clause-value g c =
+    let m = memory_of c.args.state.now in
+    let d = c.in-Deserialize in
+    let uses = c.as_slice-in-Deserialize.result.now in
+    let is = ap (commands.Deserialize d.src d.dst) c.as_slice-in-Deserialize.ensures.items ∙ sym d.is in
+    subst (λ (o : Outcome). IsFetched o c.deserialized.result)
+    (ap (λ r. deserialize_outcome (map (used_now m) uses) (bytes_at m r) (m (StructureAt d.dst))) c.range-in-Deserialize.ensures
+    ∙ (deserialize_is m d.src d.dst uses c.args.part ∙ ap (λ x. part_given m x c.args.part) is))
+    c.deserialized.ensures
 
 pub returns-in-Trace-clause-value : goal.returns-in-Trace-clause-value
 returns-in-Trace-clause-value g c =
