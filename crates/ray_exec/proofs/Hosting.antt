@@ -1,5 +1,5 @@
 -- What a command of the host leaves, and what of a piece is stored.
-use Rattle.std.proofs.Common.{ℕ, ◌≡◌, ◌++◌, List, [], ◌∷◌, Option, Some, None, Bool, true, false, refl, ap, sym, subst, ◌∙◌}
+use Rattle.std.proofs.Common.{ℕ, ◌≡◌, ◌++◌, List, [], ◌∷◌, Option, Some, None, true, refl, ap, sym, subst, ◌∙◌}
 use Rattle.std.specs.Prelude.{IsSome, not}
 use Rattle.ray_cmd.specs.declared.command.Command.{Command}
 use Rattle.ray_cmd.specs.declared.command.Command.TheVariants as commands
@@ -12,7 +12,6 @@ use Rattle.ray_action.specs.Pieces.{actions_of, host_action}
 use Rattle.ray_action.specs.Readiness.{IsReady}
 use Rattle.ray_action.specs.Running.{text_with}
 use Rattle.ray_action.specs.Storing.{put}
-use Rattle.ray_action.specs.Text.{text_of}
 use Rattle.ray_device.specs.declared.piece.Piece.{Piece}
 use Rattle.ray_device.specs.Pieces.{IsPiece, is_device, piece_action}
 use Rattle.ray_device.specs.Storing.{IsStorable}

@@ -1,6 +1,6 @@
 -- What is left of a run, and one action more.
-use Rattle.std.proofs.Common.{ℕ, zero, suc, ◌≡◌, ◌<◌, ◌≤◌, ◌+◌, ◌-◌, ◌++◌, List, [], ◌∷◌, length, take, drop, get_or, map, Option, Some, None, Bool, true, false, refl, ap, sym, subst, ◌∙◌, arith, add-one, append_assoc, append-nil}
-use Rattle.std.specs.Prelude.{slice_get, slice_index_or, unwrap_or, option_map, not}
+use Rattle.std.proofs.Common.{ℕ, zero, suc, ◌≡◌, ◌<◌, ◌≤◌, ◌+◌, ◌++◌, List, [], ◌∷◌, length, take, drop, get_or, map, Some, Bool, true, false, refl, ap, sym, subst, ◌∙◌, arith, append_assoc, append-nil}
+use Rattle.std.specs.Prelude.{slice_get, unwrap_or, not}
 use Rattle.std.proofs.Math.Seq.{drop-cons}
 use Rattle.std.proofs.lemmas.Option.{slice_get-get_or, get_or_from_slice_get}
 use Rattle.ray_cmd.specs.declared.command.Command.{Command}
@@ -8,13 +8,12 @@ use Rattle.ray_cmd.specs.declared.command.Command.TheVariants as commands
 use Rattle.ray_cmd.specs.declared.refusal.Refusal.{Refusal}
 use Rattle.ray_rules.specs.Hazards.{status_at}
 use Rattle.ray_rules.specs.Status.{Status, at_first}
-use Rattle.ray_rules.specs.Status as status
 use Rattle.ray_action.specs.Memory.{Location, Memory, nothing_live}
 use Rattle.ray_action.specs.Action.{Action, Rest}
-use Rattle.ray_action.specs.Outcomes.{Fault, Output, Outcome, Gives, Breaks, outcome_of}
+use Rattle.ray_action.specs.Outcomes.{Output, Gives, outcome_of}
 use Rattle.ray_action.specs.Pieces.{Numbered, actions_from, actions_of, command_at, numbered}
 use Rattle.ray_action.specs.Readiness.{IsReady}
-use Rattle.ray_action.specs.Running.{Run, Text, Refused, Unknown, refusal_by, run_from, then_run, with_text}
+use Rattle.ray_action.specs.Running.{Run, Text, Refused, Unknown, run_from, then_run, with_text}
 use Rattle.ray_action.specs.Storing.{after, put}
 use Rattle.ray_action.specs.Text.{text_of}
 use Rattle.ray_ready.specs.Accepted.{IsAccepted}
@@ -22,17 +21,41 @@ use Rattle.ray_ready.specs.Laws.{first_actions}
 use Rattle.ray_ready.proofs.Giving.{gives_may}
 use Rattle.ray_ready.proofs.Leading.{AreReadyBelow}
 use Rattle.ray_ready.proofs.Recording.{all_ready, at_beginning, next_status}
+use Rattle.ray_permitted.proofs.Runs.{from_nothing, memory_from, one_later}
 use Rattle.ray_device.specs.Pieces.{is_device, part_action, piece_count}
 use Rattle.ray_device.proofs.Storable.{parts-are_actions}
-use Rattle.ray_exec.specs.Runs.{run_below}
-use Rattle.ray_exec.specs.Steps.{IsShown, IsStored, IsBroken}
+use Rattle.ray_exec.specs.Runs.{memory_below, run_below}
+use Rattle.ray_exec.specs.Steps.{IsBroken}
 
 -- ---- what is left
 
--- the actions that are left are ready one after the other, and with the text so far they come to the whole
-pub record IsLeft (n : ℕ) (whole : Run) (left : List Numbered) (memory : Memory) (text : List ℕ) : Type 0 where
+-- the memory that actions leave, one after the other
+abbrev pub memory_after : Memory → List Numbered → Memory
+memory_after memory [] = memory
+memory_after memory (u ∷ us) = memory_after (after u.action memory) us
+
+all-from : (us : List Numbered) (m : Memory) → memory_from m us (length us) ≡ memory_after m us
+all-from [] m = refl
+all-from (u ∷ us) m = one_later m u us (length us) ∙ all-from us (after u.action m)
+
+memory-below : (rec : List Command) (n : ℕ) → memory_below rec n ≡ memory_after nothing_live (first_actions rec n)
+memory-below rec n =
+    sym (from_nothing (first_actions rec n) (length (first_actions rec n))) ∙ all-from (first_actions rec n) nothing_live
+
+-- a whole run: what it comes to, and the memory that it leaves where it comes to a text
+pub record Course : Type 0 where
+  pub run : Run
+  pub memory : Memory
+
+abbrev pub course_below : List Command → ℕ → Course
+course_below rec n = record { run = run_below rec n; memory = memory_below rec n }
+
+-- the actions that are left are ready one after the other, with the text so far they come to the whole, and
+-- they leave its memory
+pub record IsLeft (n : ℕ) (whole : Course) (left : List Numbered) (memory : Memory) (text : List ℕ) : Type 0 where
   pub ready : AreReadyBelow n left memory
-  pub run : whole ≡ with_text text (run_from memory left)
+  pub run : whole.run ≡ with_text text (run_from memory left)
+  pub leaves : whole.memory ≡ memory_after memory left
 
 -- the actions of the commands from number i on, of those below number n
 abbrev pub commands_left : List Command → ℕ → ℕ → List Numbered
@@ -61,14 +84,14 @@ same-memory : (m n : Memory) → ((l : Location) → m l ≡ n l) → m ≡ n
 same-memory m n h = λ i l. h l i
 
 -- the first that is left is ready
-pub first_ready : (n : ℕ) (whole : Run) (u : Numbered) (us : List Numbered) (m : Memory) (text : List ℕ) → IsLeft n whole (u ∷ us) m text → u.command < n → IsReady u.action m
+pub first_ready : (n : ℕ) (whole : Course) (u : Numbered) (us : List Numbered) (m : Memory) (text : List ℕ) → IsLeft n whole (u ∷ us) m text → u.command < n → IsReady u.action m
 first_ready n whole u us m text is below = is.ready.0 below
 
 after-is : (a : Action) (m : Memory) (o : Output) → outcome_of a m ≡ Gives o → after a m ≡ put a (Gives o) m
 after-is a m o e = ap (λ x. put a x m) e
 
 -- once it is stored, the others are left
-pub next_left : (n : ℕ) (whole : Run) (u : Numbered) (us : List Numbered) (old new : Memory) (text_old text_new : List ℕ) → IsLeft n whole (u ∷ us) old text_old
+pub next_left : (n : ℕ) (whole : Course) (u : Numbered) (us : List Numbered) (old new : Memory) (text_old text_new : List ℕ) → IsLeft n whole (u ∷ us) old text_old
     → (o : Output) → outcome_of u.action old ≡ Gives o → ((l : Location) → new l ≡ put u.action (Gives o) old l) → text_new ≡ text_old ++ text_of u.action o
     → IsLeft n whole us new text_new
 next_left n whole u us old new text_old text_new is o gives stored text =
@@ -80,19 +103,23 @@ next_left n whole u us old new text_old text_new is o gives stored text =
           ∙ (ap (λ m. with_text text_old (with_text (text_of u.action o) (run_from m us))) (after-is u.action old o gives ∙ sym memory)
           ∙ (more-text text_old (text_of u.action o) (run_from new us)
           ∙ ap (λ t. with_text t (run_from new us)) (sym text))));
+      leaves = is.leaves ∙ ap (λ m. memory_after m us) (after-is u.action old o gives ∙ sym memory);
     }
 
 -- where it breaks a data rule the whole is refused
-pub left_stops : (n : ℕ) (whole : Run) (u : Numbered) (us : List Numbered) (m : Memory) (text : List ℕ) (refusal : Refusal) → IsLeft n whole (u ∷ us) m text
-    → IsBroken u.command (outcome_of u.action m) refusal → whole ≡ Refused refusal
+pub left_stops : (n : ℕ) (whole : Course) (u : Numbered) (us : List Numbered) (m : Memory) (text : List ℕ) (refusal : Refusal) → IsLeft n whole (u ∷ us) m text
+    → IsBroken u.command (outcome_of u.action m) refusal → whole.run ≡ Refused refusal
 left_stops n whole u us m text refusal is broken =
     is.run
     ∙ (ap (λ x. with_text text (then_run u x (run_from (after u.action m) us))) broken.broken
     ∙ ap Refused (sym broken.named))
 
--- where none is left the whole is the text
-pub none_left : (n : ℕ) (whole : Run) (m : Memory) (text : List ℕ) → IsLeft n whole [] m text → whole ≡ Text text
+-- where none is left the whole is the text, and the memory is that of the whole
+pub none_left : (n : ℕ) (whole : Course) (m : Memory) (text : List ℕ) → IsLeft n whole [] m text → whole.run ≡ Text text
 none_left n whole m text is = is.run ∙ ap Text (append-nil text)
+
+pub last_memory : (n : ℕ) (whole : Course) (m : Memory) (text : List ℕ) → IsLeft n whole [] m text → (l : Location) → m l ≡ whole.memory l
+last_memory n whole m text is l = ap (λ (x : Memory). x l) (sym is.leaves)
 
 -- ---- the commands of a recording
 
@@ -105,7 +132,7 @@ taken (suc n) (d ∷ rec) (suc k) c is = taken n rec k c is
 
 -- at the beginning all are left
 pub all_left : (rec : List Command) (n : ℕ) (m : Memory) (text : List ℕ) → IsAccepted rec n → ((l : Location) → m l ≡ nothing_live l) → text ≡ []
-    → IsLeft n (run_below rec n) (commands_left rec n 0) m text
+    → IsLeft n (course_below rec n) (commands_left rec n 0) m text
 all_left rec n m text accepted new empty = record {
   ready =
       subst (AreReadyBelow n (first_actions rec n)) (sym (same-memory m nothing_live new))
@@ -114,6 +141,7 @@ all_left rec n m text accepted new empty = record {
   run =
       sym (ap (λ t. with_text t (run_from m (first_actions rec n))) empty ∙ (no-text (run_from m (first_actions rec n))
       ∙ ap (λ x. run_from x (first_actions rec n)) (same-memory m nothing_live new)));
+  leaves = memory-below rec n ∙ sym (ap (λ x. memory_after x (first_actions rec n)) (same-memory m nothing_live new));
 }
 
 -- a command of those below a number

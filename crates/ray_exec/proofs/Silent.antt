@@ -1,11 +1,9 @@
 -- A piece of a device command has no text.
-use Rattle.std.proofs.Common.{ℕ, zero, suc, ◌≡◌, ◌+◌, List, [], ◌∷◌, map, length, Option, Some, None, Bool, true, false, refl}
+use Rattle.std.proofs.Common.{ℕ, zero, suc, ◌≡◌, ◌+◌, List, [], ◌∷◌, map, Option, Some, None, true, refl}
 use Rattle.std.specs.Prelude.{slice_get, unwrap_or}
 use Rattle.std.specs.List.{range_with_len}
 use Rattle.ray_flags.specs.declared.ray_flags.RayFlags.{RayFlags}
 use Rattle.ray_script.specs.declared.raw_rule.RawRule.{RawRule}
-use Rattle.ray_cmd.specs.declared.asked.Asked.{Asked}
-use Rattle.ray_cmd.specs.declared.asked.Asked.TheVariants as asked
 use Rattle.ray_cmd.specs.declared.build_mode.BuildMode.{BuildMode}
 use Rattle.ray_cmd.specs.declared.build_mode.BuildMode.TheVariants as modes
 use Rattle.ray_cmd.specs.declared.command.Command.{Command}
@@ -21,7 +19,7 @@ use Rattle.ray_rules.specs.Ids.{look}
 use Rattle.ray_rules.specs.Status.{Status}
 use Rattle.ray_action.specs.Action.{Action, Building, Rest}
 use Rattle.ray_action.specs.Outcomes.{Output}
-use Rattle.ray_action.specs.Pieces.{actions_of, building, bottom_action, top_action_of, top_action, info_action_by, info_action_on, info_action, info_actions, region_action, rays_action, trace_pieces, property_action}
+use Rattle.ray_action.specs.Pieces.{actions_of, building, bottom_action, top_action_of, top_action, info_action_by, info_action_on, info_actions, region_action, rays_action, trace_pieces}
 use Rattle.ray_action.specs.Text.{text_of}
 use Rattle.ray_device.specs.Pieces.{is_device, part_action}
 
@@ -69,12 +67,6 @@ rays-silent : (rec : List Command) (z : Status) (top : ℕ) (rays hits : Spot) (
 rays-silent rec z top rays hits count flags mask script [] = tt
 rays-silent rec z top rays hits count flags mask script (k ∷ ks) = (λ o. refl, rays-silent rec z top rays hits count flags mask script ks)
 
-property-silent : (what : Asked) (structures : List ℕ) (dst : Spot) → IsSilent (property_action what structures dst)
-property-silent asked.Compacted structures dst o = refl
-property-silent asked.Size structures dst o = refl
-property-silent asked.Serialized structures dst o = refl
-property-silent asked.Handles structures dst o = refl
-
 all-silent : (rec : List Command) (z : Status) (c : Command) → is_device c ≡ true → AreSilent (actions_of rec z c)
 unfolding actions_of
 all-silent rec z (commands.Buffer id size usage content) is = absurd cc
@@ -93,7 +85,7 @@ all-silent rec z (commands.Build infos) is = infos-silent z 0 infos
 all-silent rec z (commands.CopyStructure mode src dst) is = (λ o. refl, tt)
 all-silent rec z (commands.Serialize src dst) is = (λ o. refl, tt)
 all-silent rec z (commands.Deserialize src dst uses) is = (λ o. refl, tt)
-all-silent rec z (commands.Property what structures dst) is = (property-silent what structures dst, tt)
+all-silent rec z (commands.Property what structures dst) is = (λ o. refl, tt)
 all-silent rec z (commands.Barrier src_stages src_access dst_stages dst_access) is = (λ o. refl, tt)
 all-silent rec z (commands.Trace top rays count hits flags mask script) is =
     rays-silent rec z top rays hits count flags mask script (range_with_len 0 (trace_pieces count))

@@ -11,7 +11,8 @@ ghost use Rattle.ray_ready.specs.Accepted.{IsAccepted};
 ghost use Rattle.ray_permitted.specs.Along.{run_along};
 ghost use Rattle.ray_permitted.specs.Rules.{BreakNoRule};
 ghost use Rattle.ray_permitted.specs.Work.{work_of};
-ghost use Rattle.ray_exec.specs.Runs.{run_below, IsRun};
+ghost use Rattle.ray_exec.specs.Runs.{memory_below, run_below, IsRun};
+ghost use Rattle.ray_sync.specs.Rows.{IsOrderOf};
 ghost use Rattle.ray_exec.specs.Steps.{IsShown, IsStored, Stops, stop_of};
 
 use crate::gate::Gate;
@@ -20,20 +21,24 @@ use ray_cmd::{Command, Recording, Refusal, Rule};
 use ray_device::{FetchFault, Piece, fetch, pieces, store};
 use ray_geom::Steps;
 use ray_memory::State;
+use ray_sync::Order;
 use std::alloc::Global;
 use std::marker::Brand;
 use std::thread::Threads;
 
-/// Runs the commands below `until`, of which none breaks a rule V1 to V32 and all have built forms.
-/// Gives their text, or the refusal of the first that breaks a data rule. It is that of every order
-/// of their pieces that the barriers and waits permit: here they go in recording order, on the
-/// calling thread, each piece fetched and then stored. `workers` is from 1 to 64, and says how many
-/// may fetch at once; one does today. (Own; after "Synchronization and Cache Control" in Vulkan.)
+/// Runs the commands below `until`, of which none breaks a rule V1 to V32. Gives their text, or the
+/// refusal of the first that breaks a data rule. It is that of every order of their pieces that the
+/// barriers and waits permit, which `order` is: here they go in recording order, on the calling
+/// thread, each piece fetched and then stored. `workers` is from 1 to 64, and says how many may
+/// fetch at once; one does today. After a text the state holds the memory that the run leaves; after
+/// a fault what some of the commands wrote. (Own; after "Synchronization and Cache Control" in
+/// Vulkan.)
 pub fn run_waves<R: Threads + Sync, G: Gate + Sync>(
     rt: &R,
     alloc: Global,
     state: &mut State,
     rec: &Recording,
+    order: &Order,
     until: u32,
     workers: u32,
     gate: &G,
@@ -41,10 +46,14 @@ pub fn run_waves<R: Threads + Sync, G: Gate + Sync>(
     requires new { (l : Location) → memory_of state.old l ≡ nothing_live l }
     requires within { until ≤ length rec.now }
     requires rules { BreakNoRule rec.now until }
+    requires order { IsOrderOf rec.now order.now }
+    requires ordered { until ≤ length order.now }
     requires workers { (1 ≤ workers) × (workers ≤ 64) }
     ensures run { IsRun (run_below rec.now until) result }
     ensures every_order { (es : List Event) → MayRun (work_of rec.now until) es
         → IsRun (run_along rec.now until es) result }
+    ensures left { OnOk result ((l : Location) → memory_of state.new l
+        ≡ memory_below rec.now until l) }
 {
     run_in_order(rt, alloc, state, rec, until, gate)
 }
@@ -61,7 +70,9 @@ fn run_in_order<R: Threads + Sync, G: Gate + Sync>(
     requires new { (l : Location) → memory_of state.old l ≡ nothing_live l }
     requires within { until ≤ length rec.now }
     requires accepted { IsAccepted rec.now until }
-    ensures { IsRun (run_below rec.now until) result }
+    ensures run { IsRun (run_below rec.now until) result }
+    ensures left { OnOk result ((l : Location) → memory_of state.new l
+        ≡ memory_below rec.now until l) }
 {
     let mut text = Vec::new(alloc);
     for command in 0..until {
