@@ -1,0 +1,9 @@
+pub mod Spread
+pub mod Bits
+pub mod Rising
+pub mod Turns
+pub mod InOrder
+pub mod Planting
+pub mod Numbers
+pub mod Made
+pub mod Presorted

@@ -1,0 +1,9 @@
+use Rattle.std.proofs.Common.{◌-◌, length}
+use Rattle.std.specs.List.Sorted.{IsPermutation}
+use Rattle.ray_morton.proofs.presort.sort_runs.Given as goal
+
+abbrev pub invariant-loop-from : goal.invariant-loop-from
+invariant-loop-from l = IsPermutation l.fn.entries l.entries
+
+abbrev pub decreases-loop-from : goal.decreases-loop-from
+decreases-loop-from l = length l.entries - l.from

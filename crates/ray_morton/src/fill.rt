@@ -1,0 +1,94 @@
+//! The least boxes of all nodes of a tree whose children stand after their parents.
+ghost use Rattle.std.specs.Prelude.{◌≡◌, ◌<◌, ◌≤◌, ◌+◌, IfOk, Some, length};
+ghost use Rattle.std.specs.List.{All};
+ghost use Rattle.ray_geom.specs.LeastBoxes.{HoldsBoxes, IsLeast};
+ghost use Rattle.ray_tree.specs.Trees.{item_box, boxes_of, boxes_in};
+ghost use Rattle.ray_tree.specs.Local.{IsActive, IsFit, IsLocal, AreLocal, AreFit};
+ghost use Rattle.ray_tree.specs.Plans.{AreRising};
+
+use ray_geom::{Box3, Vec3};
+use ray_tree::Node;
+use std::alloc::{AllocError as NoMemory, Global};
+
+// The box of an active item.
+fn box_of(items: &[Option<Box3>], p: u32) -> Box3
+    requires { IsActive items.now p }
+    ensures { item_box items.now p ≡ Some result }
+{
+    items[p as usize].unwrap()
+}
+
+// The least box of active items.
+fn least_of(items: &[Option<Box3>], numbers: &[u32]) -> Box3
+    requires some { 0 < length numbers.now }
+    requires active { All (IsActive items.now) numbers.now }
+    ensures { IsLeast (HoldsBoxes (boxes_of items.now numbers.now)) result }
+{
+    let mut least = box_of(items, numbers[0]);
+    for i in 1..numbers.len() {
+        least = least.union(&box_of(items, numbers[i]));
+    }
+    least
+}
+
+// The least box of the items of a leaf.
+fn least_in(items: &[Option<Box3>], order: &[u32], first: usize, count: usize) -> Box3
+    requires some { 0 < count }
+    requires within { first + count ≤ length order.now }
+    requires active { All (IsActive items.now) order.now }
+    ensures { IsLeast (HoldsBoxes (boxes_in items.now order.now first count)) result }
+{
+    let numbers = &order[first..];
+    least_of(items, &numbers[..count])
+}
+
+// The box of a node, by those of its children where it isn't a leaf.
+fn box_by(items: &[Option<Box3>], order: &[u32], boxes: &[Box3], node: Node) -> Box3
+    requires active { All (IsActive items.now) order.now }
+    requires fit { IsFit (length order.now) (length boxes.now) node }
+    ensures { IsLocal items.now order.now boxes.now result node }
+{
+    match node {
+        Node::Leaf { first, count } => least_in(items, order, first as usize, count as usize),
+        Node::Inner { left, right } => boxes[left as usize].union(&boxes[right as usize]),
+    }
+}
+
+// A box to begin with.
+fn blank() -> Box3 {
+    Box3::of_point(Vec3 { x: 0, y: 0, z: 0 })
+}
+
+// Sets the box of each node, from the last to the first.
+fn fill(items: &[Option<Box3>], order: &[u32], boxes: &mut [Box3], nodes: &[Node])
+    requires active { All (IsActive items.now) order.now }
+    requires boxed { length boxes.old ≡ length nodes.now }
+    requires fit { AreFit (length order.now) nodes.now }
+    requires rising { AreRising nodes.now }
+    ensures { AreLocal items.now order.now boxes.new nodes.now }
+{
+    let mut i = nodes.len();
+    while i > 0 {
+        i -= 1;
+        let made = box_by(items, order, boxes, nodes[i]);
+        boxes[i] = made;
+    }
+}
+
+// The boxes of all nodes.
+pub(crate) fn boxes_over(
+    alloc: Global,
+    items: &[Option<Box3>],
+    order: &[u32],
+    nodes: &[Node],
+) -> Result<Vec<Box3>, NoMemory>
+    requires active { All (IsActive items.now) order.now }
+    requires fit { AreFit (length order.now) nodes.now }
+    requires rising { AreRising nodes.now }
+    ensures local { IfOk result (λ v. AreLocal items.now order.now v.items nodes.now) }
+    ensures boxed { IfOk result (λ v. length v.items ≡ length nodes.now) }
+{
+    let mut boxes = vec![in alloc; blank(); nodes.len()]?;
+    fill(items, order, boxes.as_mut_slice(), nodes);
+    Ok(boxes)
+}

@@ -1,0 +1,149 @@
+//! Entries brought into order by words of 64 bits, which sort faster: as many bits of the keys as
+//! there is room for, and below them the place of the entry. Entries that are the same in these
+//! bits are then sorted among themselves. What is promised of all this is that the entries stay the
+//! same; whether they are in order is tested.
+ghost use Rattle.std.specs.Prelude.{◌≡◌, ◌≤◌, ◌<◌, ◌^◌, ◌/◌, ℕ, IfOk, length, map, slice_index_or};
+ghost use Rattle.std.specs.List.{range_with_len};
+ghost use Rattle.std.specs.List.Sorted.{IsPermutation};
+ghost use Rattle.ray_morton.specs.Words.{word_of, placed};
+
+use crate::entries::NUMBERS;
+use rayon::slice::par_sort_unstable;
+use std::alloc::{AllocError as NoMemory, Global};
+use std::thread::Threads;
+
+// A word has so many bits of a key, from the highest one on that differs.
+const ROOM: u32 = 44;
+
+const PARTS: u128 = 1 << ROOM;
+
+// The entry of a place, or 0 where there is none.
+fn entry_at(entries: &[u128], k: usize) -> u128
+    ensures { result ≡ slice_index_or entries.now k 0 }
+{
+    match entries.get(k) {
+        Some(e) => *e,
+        None => 0,
+    }
+}
+
+// The word of an entry.
+fn word(entries: &[u128], shift: u32, k: usize) -> u64
+    requires { shift < 128 }
+    ensures { result ≡ word_of entries.now shift k }
+{
+    let part = (entry_at(entries, k) >> shift) % PARTS;
+    (part * NUMBERS) as u64 + k as u64 % NUMBERS as u64
+}
+
+// The words of entries.
+fn words_of(alloc: Global, entries: &[u128], shift: u32) -> Result<Vec<u64>, NoMemory>
+    requires { shift < 128 }
+    ensures { IfOk result (λ v. v.items
+        ≡ map (word_of entries.now shift) (range_with_len 0 (length entries.now))) }
+{
+    let mut words = Vec::with_capacity(alloc, entries.len())?;
+    for k in 0..entries.len() {
+        words.push(word(entries, shift, k))?;
+    }
+    Ok(words)
+}
+
+// Sorts words.
+fn sort<R: Threads + Sync>(rt: &R, words: &mut Vec<u64>)
+    ensures { IsPermutation words.old.items words.new.items }
+{
+    par_sort_unstable(rt, words.as_mut_slice());
+}
+
+// The entries of the places in words.
+fn gathered(alloc: Global, entries: &[u128], words: &[u64]) -> Result<Vec<u128>, NoMemory>
+    ensures { IfOk result (λ v. v.items ≡ map (placed entries.now) words.now) }
+{
+    words
+        .iter()
+        .map(|w| entry_at(entries, (w % NUMBERS as u64) as usize))
+        .collect(alloc)
+}
+
+// How far down the bits are that have no room in a word.
+fn shift_of(entries: &[u128]) -> u32
+    ensures { result < 128 }
+{
+    let (mut none, mut all) = (0, u128::MAX);
+    for e in entries {
+        none |= *e;
+        all &= *e;
+    }
+    (128 - (none & !all).leading_zeros())
+        .saturating_sub(ROOM)
+        .clamp(20, 100)
+}
+
+// Where the entries end that are the same as the one at a place from a bit up.
+fn run_end(entries: &[u128], from: usize, shift: u32) -> usize
+    requires small { from < length entries.now }
+    requires shift { shift < 128 }
+    ensures more { from < result }
+    ensures within { result ≤ length entries.now }
+{
+    let part = entries[from] >> shift;
+    for i in from + 1..entries.len() {
+        if entries[i] >> shift != part {
+            return i;
+        }
+    }
+    entries.len()
+}
+
+// Sorts the entries of some places.
+fn sort_part(entries: &mut [u128], from: usize, to: usize)
+    requires some { from ≤ to }
+    requires within { to ≤ length entries.old }
+    ensures same { IsPermutation entries.old entries.new }
+    ensures long { length entries.new ≡ length entries.old }
+{
+    let (_before, rest) = entries.split_at_mut(from);
+    let (part, _after) = rest.split_at_mut(to - from);
+    part.sort_unstable();
+}
+
+// Sorts entries that are the same from a bit up among themselves.
+fn sort_runs(entries: &mut [u128], shift: u32)
+    requires { shift < 128 }
+    ensures { IsPermutation entries.old entries.new }
+{
+    let mut from = 0;
+    while from < entries.len() {
+        let to = run_end(entries, from, shift);
+        if to - from > 1 {
+            sort_part(entries, from, to);
+        }
+        from = to;
+    }
+}
+
+// The same, of all entries.
+fn sort_all_runs(entries: &mut Vec<u128>, shift: u32)
+    requires { shift < 128 }
+    ensures { IsPermutation entries.old.items entries.new.items }
+{
+    sort_runs(entries.as_mut_slice(), shift);
+}
+
+// The same entries, in order.
+pub(crate) fn presorted<R: Threads + Sync>(
+    rt: &R,
+    alloc: Global,
+    entries: &[u128],
+) -> Result<Vec<u128>, NoMemory>
+    requires { length entries.now ≤ 2 ^ 20 }
+    ensures { IfOk result (λ v. IsPermutation entries.now v.items) }
+{
+    let shift = shift_of(entries);
+    let mut words = words_of(alloc, entries, shift)?;
+    sort(rt, &mut words);
+    let mut sorted = gathered(alloc, entries, &words)?;
+    sort_all_runs(&mut sorted, shift);
+    Ok(sorted)
+}

@@ -1,0 +1,10 @@
+pub mod Eights
+pub mod Subtrees
+pub mod Cutting
+pub mod Placing
+pub mod PlacedOne
+pub mod Growing
+pub mod Rooting
+pub mod Laning
+pub mod Reaching
+pub mod Boxing

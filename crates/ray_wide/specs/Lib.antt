@@ -1,0 +1,5 @@
+pub mod Subtrees
+pub mod Wides
+pub mod Ways
+pub mod Cuts
+pub mod Lanes
