@@ -1,5 +1,5 @@
 -- A good call is answered: each other answer is contradicted.
-use Rattle.std.proofs.Common.{◌≡◌, [], ◌∷◌, refl, ℕ, ◌+◌, ◌<◌, List, length, drop, Option, Some, None, Result, Ok, Err, ap, sym, subst, ◌∙◌, inl, inr, arith, Global}
+use Rattle.std.proofs.Common.{◌≡◌, ◌⊎◌, [], ◌∷◌, refl, ℕ, ◌+◌, ◌<◌, ◌≤◌, List, length, drop, Option, Some, None, Result, Ok, Err, ap, sym, subst, ◌∙◌, inl, inr, arith, Global}
 use Rattle.std.specs.Prelude.{String, IfSome, codes, decimal, map, string_bytes}
 use Rattle.std.proofs.lemmas.Fmt.{decimal_injective}
 use Rattle.ray_cmd.specs.declared.command.Command.{Command}
@@ -10,22 +10,22 @@ use Rattle.ray_cmd.specs.Recordings.{recording_of}
 use Rattle.vkray.specs.declared.status.Status.{Status}
 use Rattle.vkray.specs.declared.status.Status.TheVariants as statuses
 use Rattle.vkray.specs.declared.stop.Stop.{Stop}
-use Rattle.vkray.specs.declared.stop.Stop.TheVariants.{BadWords, ReadFault, TooLong, NotJson, BadShape, Unbuilt, Refused, NoMemory}
+use Rattle.vkray.specs.declared.stop.Stop.TheVariants.{BadWords, ReadFault, TooLong, NotJson, BadShape, Refused, NoMemory}
 use Rattle.vkray.specs.declared.asked.Asked.{Asked}
 use Rattle.vkray.specs.declared.asked.Asked.TheVariants.{Run, Check}
-use Rattle.vkray.specs.Answer.{Ending, answer_of, checked, ending_of, ending_of_reading, ending_of_run, ran, refused_or, run_with, unbuilt_in}
+use Rattle.vkray.specs.Answer.{Ending, answer_of, checked, ending_of, ending_of_read, ending_of_run, ran, refused_or, run_with}
 use Rattle.ray_scene.specs.Recording.{scene_text}
 use Rattle.vkray.specs.declared.request.Request.TheVariants.{Input, Generate}
 use Rattle.vkray.specs.declared.request.Scene.{Scene}
-use Rattle.vkray.specs.Words.{AskInput, AskRun, Asks, AsksFor, IsWord}
-use Rattle.vkray.specs.Call.{Reading, Writing, Answers, HasFailed, IsAnswerOfInput, IsCompleted, IsEnding, IsGoodCall, IsRead, IsSent, IsTooLong, Runs, most_bytes, text_of_scene}
+use Rattle.vkray.specs.declared.request.SelfRun.{SelfRun}
+use Rattle.vkray.specs.Words.{AskBy, AskInput, AskRun, Asks, AsksFor, AsksSelfRun, IsWord}
+use Rattle.vkray.specs.Call.{Reading, Writing, Answers, HasFailed, IsAnswer, IsCompleted, IsEnding, IsGoodCall, IsRead, IsSent, IsTooLong, Runs, most_bytes}
+use Rattle.vkray.specs.Scenes.{text_of_scene}
 use Rattle.vkray.specs.Written.{status_of, text_of}
 
--- the run of a recording that breaks no rule and whose commands have built forms is its text
+-- the run of a recording that breaks no rule is its text
 pub run_is_text : (rec : List Command) (text : List ℕ) → rule_refusal rec ≡ None → Runs rec text → ran rec ≡ Ok text
-run_is_text rec text kept runs =
-    ap (λ refusal. run_with rec refusal (unbuilt_in rec)) kept
-    ∙ (ap (run_with rec None) runs.built ∙ ap ending_of_run runs.run)
+run_is_text rec text kept runs = ap (run_with rec) kept ∙ ap ending_of_run runs.run
 
 -- the check of a recording that breaks no rule is `ok`
 pub check_is_ok : (rec : List Command) → rule_refusal rec ≡ None → checked rec ≡ Ok (codes "ok\n")
@@ -46,8 +46,41 @@ not_both words Check scene asks other =
     let one : length (map string_bytes words) ≡ 1 = ap length asks in
     absurd (omega arith)
 
+-- and no self run, which asks for no scene either
+self_length : (words : List (String Global)) (by : SelfRun) → AsksSelfRun words by → (length (map string_bytes words) ≡ 4) ⊎ (length (map string_bytes words) ≡ 6)
+self_length words by asks = length_by asks.are
+  where
+    length_by : AskBy words by → (length (map string_bytes words) ≡ 4) ⊎ (length (map string_bytes words) ≡ 6)
+    length_by (inl alone) = inl (ap length alone.0)
+    length_by (inr more) = inr (ap length more.1)
+
+input_length : (words : List (String Global)) (asked : Asked) → Asks words asked → length (map string_bytes words) ≤ 3
+input_length words (Run workers) (inl alone) = let one : length (map string_bytes words) ≡ 1 = ap length alone.0 in omega arith
+input_length words (Run workers) (inr three) = let third : length (map string_bytes words) ≡ 3 = ap length three.1 in omega arith
+input_length words Check asks = let one : length (map string_bytes words) ≡ 1 = ap length asks in omega arith
+
+pub not_self : (words : List (String Global)) (asked : Asked) (by : SelfRun) → Asks words asked → AsksSelfRun words by → ⊥
+not_self words asked by asks other =
+    let few : length (map string_bytes words) ≤ 3 = input_length words asked asks in
+    elim (self_length words by other) [
+      | inl four ↦ omega (arith, few, four)
+      | inr six ↦ omega (arith, few, six)
+    ]
+
+pub not_scene_and_self : (words : List (String Global)) (scene : Scene) (by : SelfRun) → AsksFor words scene → AsksSelfRun words by → ⊥
+not_scene_and_self words scene by asks other = by_words other.are
+  where
+    by_words : AskBy words by → ⊥
+    by_words (inl alone) =
+        let same : codes "gen" ∷ decimal scene.side ∷ decimal scene.layers ∷ decimal scene.rays ∷ []
+        ≡ codes "selfrun" ∷ decimal by.scene.side ∷ decimal by.scene.layers ∷ decimal by.scene.rays ∷ [] = sym asks.are ∙ alone.0 in cc
+    by_words (inr more) =
+        let four : length (map string_bytes words) ≡ 4 = ap length asks.are in
+        let six : length (map string_bytes words) ≡ 6 = ap length more.1 in
+        omega (arith, four, six)
+
 -- an input is asked for one thing, but for the number of workers, on which no answer depends
-workers-alike : (a b : ℕ) (read : Result (List Command) RecordingFault) → ending_of_reading (Run a) read ≡ ending_of_reading (Run b) read
+workers-alike : (a b : ℕ) (read : Result (List Command) RecordingFault) → ending_of_read (ending_of (Run a)) read ≡ ending_of_read (ending_of (Run b)) read
 workers-alike a b (Ok rec) = refl
 workers-alike a b (Err recordings.NotJson) = refl
 workers-alike a b (Err (recordings.BadShape command)) = refl
@@ -71,7 +104,7 @@ module _ (asked : Asked) (words : List (String Global)) (reading : Reading) (wri
   -- the answer of the input is the text
   answer_is_text : answer_of asked input ≡ Ok text
   unfolding answer_of
-  answer_is_text = ap (ending_of_reading asked) good.reads ∙ answers
+  answer_is_text = ap (ending_of_read (ending_of asked)) good.reads ∙ answers
 
   -- the input that was read is the one that the source told
   same_input : (read : List ℕ) → IsRead reading read → read ≡ input
@@ -81,11 +114,12 @@ module _ (asked : Asked) (words : List (String Global)) (reading : Reading) (wri
       all.0
 
   -- an answer of what was read is the text
-  same_answer : (ending : Ending) → IsAnswerOfInput words reading ending → ending ≡ Ok text
-  same_answer ending h =
+  same_answer : (ending : Ending) → IsAnswer words reading ending → ending ≡ Ok text
+  same_answer ending (inl h) =
       sym h.is
       ∙ (one_answer words h.asked asked h.input h.asks good.asks
       ∙ (ap (answer_of asked) (same_input h.input h.read) ∙ answer_is_text))
+  same_answer ending (inr h) = absurd (not_self words asked h.asked good.asks h.asks)
 
   -- there aren't too many bytes
   not_too_long : IsTooLong reading → ⊥
@@ -97,7 +131,7 @@ module _ (asked : Asked) (words : List (String Global)) (reading : Reading) (wri
       omega arith
 
   -- a stop isn't a text
-  not_stop : (stop : Stop) → IsAnswerOfInput words reading (Err stop) → ⊥
+  not_stop : (stop : Stop) → IsAnswer words reading (Err stop) → ⊥
   not_stop stop h = let same = same_answer (Err stop) h in cc
 
   -- the call ends with the text
@@ -109,7 +143,6 @@ module _ (asked : Asked) (words : List (String Global)) (reading : Reading) (wri
   ends_with_text (Err TooLong) h = absurd (not_too_long h.1)
   ends_with_text (Err NotJson) h = absurd (not_stop NotJson h)
   ends_with_text (Err (BadShape command)) h = absurd (not_stop (BadShape command) h)
-  ends_with_text (Err (Unbuilt command)) h = absurd (not_stop (Unbuilt command) h)
   ends_with_text (Err (Refused refusal)) h = absurd (not_stop (Refused refusal) h)
   ends_with_text (Err NoMemory) h = absurd h
 
@@ -128,9 +161,10 @@ module _ (words : List (String Global)) (reading : Reading) (writing : Writing) 
   no_input : AskInput words → ⊥
   no_input h = not_both words h.0 scene h.1 asks
 
-  -- an answer of an input isn't given
-  no_answer : (ending : Ending) → IsAnswerOfInput words reading ending → ⊥
-  no_answer ending h = no_input (h.asked, h.asks)
+  -- an answer of an input or of a self run isn't given
+  no_answer : (ending : Ending) → IsAnswer words reading ending → ⊥
+  no_answer ending (inl h) = no_input (h.asked, h.asks)
+  no_answer ending (inr h) = not_scene_and_self words scene h.asked asks h.asks
 
   -- a scene that they ask for is this one
   same_scene : (other : Scene) → AsksFor words other → text_of_scene other ≡ text_of_scene scene
@@ -153,7 +187,6 @@ module _ (words : List (String Global)) (reading : Reading) (writing : Writing) 
   ends_with_scene (Err TooLong) h = absurd (no_input h.0)
   ends_with_scene (Err NotJson) h = absurd (no_answer (Err NotJson) h)
   ends_with_scene (Err (BadShape command)) h = absurd (no_answer (Err (BadShape command)) h)
-  ends_with_scene (Err (Unbuilt command)) h = absurd (no_answer (Err (Unbuilt command)) h)
   ends_with_scene (Err (Refused refusal)) h = absurd (no_answer (Err (Refused refusal)) h)
   ends_with_scene (Err NoMemory) h = absurd h
 

@@ -1,6 +1,6 @@
 -- A run that ends well has written the text of every order that is permitted.
-use Rattle.std.proofs.Common.{◌≡◌, ◌≤◌, ℕ, List, [], length, Option, Some, None, Result, Ok, Err, Bool, true, false, ap, sym, subst, ◌∙◌, inl, inr, refl, arith, Global}
-use Rattle.std.specs.Prelude.{String, IfSome, if◌then◌else◌, nat_le}
+use Rattle.std.proofs.Common.{◌≡◌, ℕ, List, [], length, Option, Some, None, Result, Ok, Err, ap, sym, subst, ◌∙◌, inl, inr, refl, arith, Global}
+use Rattle.std.specs.Prelude.{String, IfSome}
 use Rattle.ray_cmd.specs.declared.command.Command.{Command}
 use Rattle.ray_cmd.specs.declared.fault.RecordingFault.{RecordingFault}
 use Rattle.ray_cmd.specs.declared.fault.RecordingFault.TheVariants as recordings
@@ -17,27 +17,25 @@ use Rattle.ray_exec.specs.Runs.{run_below}
 use Rattle.ray_permitted.specs.Rules.{BreakNoRule}
 use Rattle.ray_permitted.proofs.Fetching.{orderly}
 use Rattle.ray_permitted.proofs.Runs.{comes_to_the_run}
-use Rattle.ray_ready.specs.Accepted.{refused_from}
 use Rattle.vkray.specs.declared.asked.Asked.TheVariants.{Run}
 use Rattle.vkray.specs.declared.status.Status.{Status}
 use Rattle.vkray.specs.declared.status.Status.TheVariants as statuses
 use Rattle.vkray.specs.declared.stop.Stop.{Stop}
-use Rattle.vkray.specs.declared.stop.Stop.TheVariants.{BadWords, ReadFault, TooLong, NotJson, BadShape, Unbuilt, Refused, NoMemory}
-use Rattle.vkray.specs.Answer.{Ending, answer_of, ending_before, ending_of_reading, ending_of_run, ran, run_with, unbuilt_in}
-use Rattle.vkray.specs.Call.{Reading, Writing, Answers, IsAnswerOfInput, IsEnding, IsRead, IsSent, IsWritten}
+use Rattle.vkray.specs.declared.stop.Stop.TheVariants.{BadWords, ReadFault, TooLong, NotJson, BadShape, Refused, NoMemory}
+use Rattle.vkray.specs.Answer.{Ending, answer_of, ending_before, ending_of, ending_of_read, ending_of_run, run_with}
+use Rattle.vkray.specs.Call.{Reading, Writing, Answers, IsEnding, IsRead, IsSent, IsWritten}
 use Rattle.vkray.specs.Headline.{IsTextOfEveryOrder, IsTextOfInput}
 use Rattle.vkray.specs.Words.{AskRun}
 use Rattle.vkray.specs.Written.{status_of, text_of}
-use Rattle.vkray.proofs.Completeness.{not_both, one_answer}
-use Rattle.vkray.proofs.Firsts.{break_none}
+use Rattle.vkray.proofs.Completeness.{not_both, not_self, one_answer}
+use Rattle.vkray.proofs.Unrefused.{unrefused}
 
 -- ---- the run behind a text
 
--- a recording whose run is a text: no rule refuses it, all forms are built, and the run comes to the text
-record IsRunTo (rec : List Command) (refusal : Option Refusal) (unbuilt : Option ℕ) (text : List ℕ) : Type 0 where
-  kept : refusal ≡ None
-  built : unbuilt ≡ None
-  run : run_below rec (length rec) ≡ Text text
+-- a recording whose run is a text: no rule refuses it, and the run comes to the text
+pub record IsRunTo (rec : List Command) (refusal : Option Refusal) (text : List ℕ) : Type 0 where
+  pub kept : refusal ≡ None
+  pub run : run_below rec (length rec) ≡ Text text
 
 text-is : (run : action.Run) (text : List ℕ) → ending_of_run run ≡ Ok text → run ≡ Text text
 text-is (Text t) text e = let same : t ≡ text = cc in ap Text same
@@ -49,17 +47,9 @@ no-text (Text t) stop text e = cc
 no-text (action.Refused r) stop text e = cc
 no-text Unknown stop text e = cc
 
-neither : (b : Bool) (p q : Ending) (text : List ℕ) → (p ≡ Ok text → ⊥) → (q ≡ Ok text → ⊥) → (if b then p else q) ≡ Ok text → ⊥
-neither true p q text x y e = x e
-neither false p q text x y e = y e
-
-run-to : (rec : List Command) (refusal : Option Refusal) (unbuilt : Option ℕ) (text : List ℕ) → run_with rec refusal unbuilt ≡ Ok text → IsRunTo rec refusal unbuilt text
-run-to rec None None text e = record { kept = refl; built = refl; run = text-is (run_below rec (length rec)) text e }
-run-to rec None (Some u) text e = absurd (no-text (run_below rec u) (Unbuilt u) text e)
-run-to rec (Some r) None text e = absurd (no-text (run_below rec r.command) (Refused r) text e)
-run-to rec (Some r) (Some u) text e =
-    absurd (neither (nat_le r.command u) (ending_before (run_below rec r.command) (Refused r)) (ending_before (run_below rec u) (Unbuilt u)) text
-    (no-text (run_below rec r.command) (Refused r) text) (no-text (run_below rec u) (Unbuilt u) text) e)
+pub run_to : (rec : List Command) (refusal : Option Refusal) (text : List ℕ) → run_with rec refusal ≡ Ok text → IsRunTo rec refusal text
+run_to rec None text e = record { kept = refl; run = text-is (run_below rec (length rec)) text e }
+run_to rec (Some r) text e = absurd (no-text (run_below rec r.command) (Refused r) text e)
 
 -- ---- the recording behind an answer
 
@@ -67,22 +57,22 @@ run-to rec (Some r) (Some u) text e =
 record IsReadTo (read : Result (List Command) RecordingFault) (text : List ℕ) : Type 0 where
   commands : List Command
   reads : read ≡ Ok commands
-  run : IsRunTo commands (rule_refusal commands) (unbuilt_in commands) text
+  run : IsRunTo commands (rule_refusal commands) text
 
-read-to : (workers : ℕ) (read : Result (List Command) RecordingFault) (text : List ℕ) → ending_of_reading (Run workers) read ≡ Ok text → IsReadTo read text
-read-to workers (Ok rec) text e = record { commands = rec; reads = refl; run = run-to rec (rule_refusal rec) (unbuilt_in rec) text e }
+read-to : (workers : ℕ) (read : Result (List Command) RecordingFault) (text : List ℕ) → ending_of_read (ending_of (Run workers)) read ≡ Ok text → IsReadTo read text
+read-to workers (Ok rec) text e = record { commands = rec; reads = refl; run = run_to rec (rule_refusal rec) text e }
 read-to workers (Err recordings.NotJson) text e = absurd cc
 read-to workers (Err (recordings.BadShape command)) text e = absurd cc
 read-to workers (Err recordings.NoMemory) text e = absurd cc
 
-sourced : (input : List ℕ) (rec : List Command) → recording_of input ≡ Ok rec → AreSourced rec
+pub sourced : (input : List ℕ) (rec : List Command) → recording_of input ≡ Ok rec → AreSourced rec
 sourced input rec reads = are_sourced (json_of input) (Ok rec) (recorded (json_of input) (Ok rec) reads)
 
-no-rule : (input : List ℕ) (rec : List Command) (text : List ℕ) → recording_of input ≡ Ok rec → IsRunTo rec (rule_refusal rec) (unbuilt_in rec) text → BreakNoRule rec (length rec)
+no-rule : (input : List ℕ) (rec : List Command) (text : List ℕ) → recording_of input ≡ Ok rec → IsRunTo rec (rule_refusal rec) text → BreakNoRule rec (length rec)
 no-rule input rec text reads run =
-    (break_none rec None None (sym run.kept) (sym run.built) (sourced input rec reads)).below (length rec) (omega arith) (omega arith)
+    unrefused rec None (length rec) (sym run.kept) (sourced input rec reads) (omega arith)
 
-every-order : (input : List ℕ) (rec : List Command) (text : List ℕ) → recording_of input ≡ Ok rec → IsRunTo rec (rule_refusal rec) (unbuilt_in rec) text → IsTextOfEveryOrder rec text
+every-order : (input : List ℕ) (rec : List Command) (text : List ℕ) → recording_of input ≡ Ok rec → IsRunTo rec (rule_refusal rec) text → IsTextOfEveryOrder rec text
 every-order input rec text reads run es may =
     comes_to_the_run rec (length rec) es (orderly rec (length rec) (no-rule input rec text reads run)) may ∙ run.run
 
@@ -110,7 +100,8 @@ same-input reading read input is told =
 
 of-text : (words : List (String Global)) (reading : Reading) (writing : Writing) (workers : ℕ) (input text : List ℕ) → AskRun words workers → reading.before ≡ Some input
     → IsEnding words reading (Ok text) → IsWritten writing text → IsTextOfInput input writing
-of-text words reading writing workers input text asks told (inl h) written =
+of-text words reading writing workers input text asks told (inl (inr h)) written = absurd (not_self words (Run workers) h.asked asks h.asks)
+of-text words reading writing workers input text asks told (inl (inl h)) written =
     of-answer workers input text writing
     (sym (ap (answer_of (Run workers)) (same-input reading h.input input h.read told)) ∙ (sym (one_answer words h.asked (Run workers) h.input h.asks asks) ∙ h.is)) written
 of-text words reading writing workers input text asks told (inr h) written = absurd (not_both words (Run workers) h.scene asks h.asks)
@@ -123,7 +114,6 @@ of-ending words reading writing workers input (Err ReadFault) asks told cause do
 of-ending words reading writing workers input (Err TooLong) asks told cause done written = absurd cc
 of-ending words reading writing workers input (Err NotJson) asks told cause done written = absurd cc
 of-ending words reading writing workers input (Err (BadShape command)) asks told cause done written = absurd cc
-of-ending words reading writing workers input (Err (Unbuilt command)) asks told cause done written = absurd cc
 of-ending words reading writing workers input (Err (Refused refusal)) asks told cause done written = absurd cc
 of-ending words reading writing workers input (Err NoMemory) asks told cause done written = absurd cc
 

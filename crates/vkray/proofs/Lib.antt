@@ -1,5 +1,6 @@
 pub mod Completeness
 pub mod EveryOrder
-pub mod Firsts
+pub mod SelfRuns
 pub mod Telling
 pub mod Texts
+pub mod Unrefused

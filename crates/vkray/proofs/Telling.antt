@@ -1,17 +1,18 @@
 -- From why there is no text to what is written.
-use Rattle.std.proofs.Common.{◌≡◌, ℕ, List, Result, Ok, Err, Global, Vec, true, inl, inr, refl, subst, sym}
+use Rattle.std.proofs.Common.{◌≡◌, ℕ, List, Result, Ok, Err, Global, Vec, true, inl, inr, subst, sym}
 use Rattle.std.specs.Prelude.{String, IfOk, OnOk}
 use Rattle.std.specs.declared.alloc.AllocError.{AllocError}
 use Rattle.vkray.specs.declared.reply.Reply.{Reply}
 use Rattle.vkray.specs.declared.status.Status.{Status}
 use Rattle.vkray.specs.declared.stop.Stop.{Stop}
-use Rattle.vkray.specs.declared.stop.Stop.TheVariants.{BadWords, ReadFault, TooLong, NotJson, BadShape, Unbuilt, Refused, NoMemory}
-use Rattle.vkray.specs.Answer.{Ending, answer_of}
+use Rattle.vkray.specs.declared.stop.Stop.TheVariants.{BadWords, ReadFault, TooLong, NotJson, BadShape, Refused, NoMemory}
+use Rattle.vkray.specs.Answer.{Ending, answer_of, self_answer}
 use Rattle.vkray.specs.Call.{Reading, Writing, IsEnding, IsRead, IsSent, IsTold}
 use Rattle.vkray.specs.Endings.{Ends, EndsCall, IsOfScene, StopsCall, is_told}
 use Rattle.vkray.specs.declared.asked.Asked.{Asked}
 use Rattle.vkray.specs.declared.request.Scene.{Scene}
-use Rattle.vkray.specs.Words.{Asks, AsksFor}
+use Rattle.vkray.specs.declared.request.SelfRun.{SelfRun}
+use Rattle.vkray.specs.Words.{Asks, AsksFor, AsksSelfRun}
 use Rattle.vkray.specs.Written.{status_of, text_of}
 
 -- a reply tells an ending of the call
@@ -26,7 +27,6 @@ ending_of_stop words reading ReadFault h told = h
 ending_of_stop words reading TooLong h told = h
 ending_of_stop words reading NotJson h told = h
 ending_of_stop words reading (BadShape command) h told = h
-ending_of_stop words reading (Unbuilt command) h told = h
 ending_of_stop words reading (Refused refusal) h told = h
 ending_of_stop words reading NoMemory h told = absurd (cc)
 
@@ -41,14 +41,13 @@ reply_tells words reading stop (Err e) h status text told = tt
 -- the answer of an input that was read is what the call gives
 pub ends_call : (words : List (String Global)) (reading : Reading) (input : List ℕ) (result : Result (Vec ℕ Global) Stop)
     → (asked : Asked) → Asks words asked → IsRead reading input → Ends (answer_of asked input) result → EndsCall words reading result
-ends_call words reading input (Ok text) asked asks read is = inl (record { asked = asked; asks = asks; input = input; read = read; is = is })
+ends_call words reading input (Ok text) asked asks read is = inl (inl (record { asked = asked; asks = asks; input = input; read = read; is = is }))
 ends_call words reading input (Err BadWords) asked asks read is = absurd is
 ends_call words reading input (Err ReadFault) asked asks read is = absurd is
 ends_call words reading input (Err TooLong) asked asks read is = absurd is
-ends_call words reading input (Err NotJson) asked asks read is = record { asked = asked; asks = asks; input = input; read = read; is = is }
-ends_call words reading input (Err (BadShape command)) asked asks read is = record { asked = asked; asks = asks; input = input; read = read; is = is }
-ends_call words reading input (Err (Unbuilt command)) asked asks read is = record { asked = asked; asks = asks; input = input; read = read; is = is }
-ends_call words reading input (Err (Refused refusal)) asked asks read is = record { asked = asked; asks = asks; input = input; read = read; is = is }
+ends_call words reading input (Err NotJson) asked asks read is = inl (record { asked = asked; asks = asks; input = input; read = read; is = is })
+ends_call words reading input (Err (BadShape command)) asked asks read is = inl (record { asked = asked; asks = asks; input = input; read = read; is = is })
+ends_call words reading input (Err (Refused refusal)) asked asks read is = inl (record { asked = asked; asks = asks; input = input; read = read; is = is })
 ends_call words reading input (Err NoMemory) asked asks read is = tt
 
 -- what was sent of a reply is told
@@ -68,3 +67,15 @@ pub ends_generated : (words : List (String Global)) (reading : Reading) (scene :
 ends_generated words reading scene (Ok text) asks unread is =
     inr (record { scene = scene; asks = asks; unread = unread; is = sym is })
 ends_generated words reading scene (Err stop) asks unread is = subst (StopsCall words reading) (sym is) tt
+
+-- the answer of a self run that the words ask for is what the call gives, where nothing was read
+pub ends_self : (words : List (String Global)) (reading : Reading) (asked : SelfRun) (result : Result (Vec ℕ Global) Stop)
+    → AsksSelfRun words asked → reading.after ≡ reading.before → Ends (self_answer asked.scene) result → EndsCall words reading result
+ends_self words reading asked (Ok text) asks unread is = inl (inr (record { asked = asked; asks = asks; unread = unread; is = is }))
+ends_self words reading asked (Err BadWords) asks unread is = absurd is
+ends_self words reading asked (Err ReadFault) asks unread is = absurd is
+ends_self words reading asked (Err TooLong) asks unread is = absurd is
+ends_self words reading asked (Err NotJson) asks unread is = inr (record { asked = asked; asks = asks; unread = unread; is = is })
+ends_self words reading asked (Err (BadShape command)) asks unread is = inr (record { asked = asked; asks = asks; unread = unread; is = is })
+ends_self words reading asked (Err (Refused refusal)) asks unread is = inr (record { asked = asked; asks = asks; unread = unread; is = is })
+ends_self words reading asked (Err NoMemory) asks unread is = tt

@@ -1,40 +1,25 @@
 -- What an input ends with, by what it is asked for: a text, or why there is none, as one function. (Own.)
-use Rattle.std.specs.Prelude.{ℕ, zero, suc, ◌+◌, List, length, Option, Some, None, Result, Ok, Err, nat_le, if◌then◌else◌, option_and_then, codes, slice_get}
-use Rattle.std.specs.Option.{option_or}
+use Rattle.std.specs.Prelude.{ℕ, List, length, Option, Some, None, Result, Ok, Err, codes}
 use Rattle.ray_cmd.specs.declared.command.Command.{Command}
 use Rattle.ray_cmd.specs.declared.fault.RecordingFault.{RecordingFault}
 use Rattle.ray_cmd.specs.declared.fault.RecordingFault.TheVariants as recordings
 use Rattle.ray_cmd.specs.declared.refusal.Refusal.{Refusal}
 use Rattle.ray_cmd.specs.Recordings.{recording_of}
 use Rattle.ray_rules.specs.Verdict.{rule_refusal}
-use Rattle.ray_action.specs.Pieces.{is_built_form}
 use Rattle.ray_action.specs.Running as action
 use Rattle.ray_action.specs.Running.{Text, Unknown}
 use Rattle.ray_exec.specs.Runs.{run_below}
 use Rattle.vkray.specs.declared.asked.Asked.{Asked}
 use Rattle.vkray.specs.declared.asked.Asked.TheVariants.{Run, Check}
 use Rattle.vkray.specs.declared.stop.Stop.{Stop}
-use Rattle.vkray.specs.declared.stop.Stop.TheVariants.{NotJson, BadShape, Unbuilt, Refused, NoMemory}
+use Rattle.vkray.specs.declared.stop.Stop.TheVariants.{NotJson, BadShape, Refused, NoMemory}
+use Rattle.vkray.specs.declared.request.Scene.{Scene}
+use Rattle.vkray.specs.Counting.{counts_line, last_shown}
+use Rattle.vkray.specs.Scenes.{text_of_scene}
 
 -- a text, or why there is none
 abbrev pub Ending : Type 0
 Ending = Result (List ℕ) Stop
-
--- what the first number below n that has something has
-abbrev pub first_below : {A : Type 0} → (ℕ → Option A) → ℕ → Option A
-first_below f zero = None
-first_below f (suc n) = option_or (first_below f n) (f n)
-
--- the number of a command, where its form isn't built
-abbrev pub unbuilt_if : ℕ → Command → Option ℕ
-unbuilt_if i command = if is_built_form command then None else Some i
-
-abbrev pub unbuilt_at : List Command → ℕ → Option ℕ
-unbuilt_at rec i = option_and_then (unbuilt_if i) (slice_get rec i)
-
--- the number of the first command whose form isn't built
-abbrev pub unbuilt_in : List Command → Option ℕ
-unbuilt_in rec = first_below (unbuilt_at rec) (length rec)
 
 -- what a run ends with: its text, or the refusal of the first command that breaks a data rule. A run that has
 -- no meaning, as none has that is run, tells nothing
@@ -49,19 +34,14 @@ ending_before (Text text) stop = Err stop
 ending_before (action.Refused refusal) stop = Err (Refused refusal)
 ending_before Unknown stop = Err NoMemory
 
--- a run with the refusal of its recording by V1 to V32 and the first command whose form isn't built, where there are these.
--- What stands lower ends it; at one command the refusal does
-abbrev pub run_with : List Command → Option Refusal → Option ℕ → Ending
-run_with rec None None = ending_of_run (run_below rec (length rec))
-run_with rec None (Some unbuilt) = ending_before (run_below rec unbuilt) (Unbuilt unbuilt)
-run_with rec (Some refusal) None = ending_before (run_below rec refusal.command) (Refused refusal)
-run_with rec (Some refusal) (Some unbuilt) =
-    if nat_le refusal.command unbuilt then ending_before (run_below rec refusal.command) (Refused refusal)
-    else ending_before (run_below rec unbuilt) (Unbuilt unbuilt)
+-- a run with the refusal of its recording by V1 to V32, where there is one, which ends it
+abbrev pub run_with : List Command → Option Refusal → Ending
+run_with rec None = ending_of_run (run_below rec (length rec))
+run_with rec (Some refusal) = ending_before (run_below rec refusal.command) (Refused refusal)
 
 -- a run of a recording
 abbrev pub ran : List Command → Ending
-ran rec = run_with rec (rule_refusal rec) (unbuilt_in rec)
+ran rec = run_with rec (rule_refusal rec)
 
 -- a refusal, and where there is none another ending
 abbrev pub refused_or : Option Refusal → Ending → Ending
@@ -78,12 +58,27 @@ ending_of (Run workers) rec = ran rec
 ending_of Check rec = checked rec
 
 -- the same of what was read
-abbrev pub ending_of_reading : Asked → Result (List Command) RecordingFault → Ending
-ending_of_reading asked (Ok rec) = ending_of asked rec
-ending_of_reading asked (Err recordings.NotJson) = Err NotJson
-ending_of_reading asked (Err (recordings.BadShape command)) = Err (BadShape command)
-ending_of_reading asked (Err recordings.NoMemory) = Err NoMemory
+abbrev pub ending_of_read : (List Command → Ending) → Result (List Command) RecordingFault → Ending
+ending_of_read ending (Ok rec) = ending rec
+ending_of_read ending (Err recordings.NotJson) = Err NotJson
+ending_of_read ending (Err (recordings.BadShape command)) = Err (BadShape command)
+ending_of_read ending (Err recordings.NoMemory) = Err NoMemory
 
 -- the answer to what an input is asked for
 unfoldable pub answer_of : Asked → List ℕ → Ending
-answer_of asked input = ending_of_reading asked (recording_of input)
+answer_of asked input = ending_of_read (ending_of asked) (recording_of input)
+
+-- ---- a self run
+
+-- a line in place of the text of a run
+abbrev pub in_place_of_text : List ℕ → Ending → Ending
+in_place_of_text line (Ok text) = Ok line
+in_place_of_text line (Err stop) = Err stop
+
+-- the run of a recording, and the counts of the records that its last command reads, of so many rays
+abbrev pub counted : ℕ → List Command → Ending
+counted rays rec = in_place_of_text (counts_line rays (last_shown rec)) (ran rec)
+
+-- the answer to the words that ask for a self run: the recording of their scene is read and run
+unfoldable pub self_answer : Scene → Ending
+self_answer scene = ending_of_read (counted scene.rays) (recording_of (text_of_scene scene))

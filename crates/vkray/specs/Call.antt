@@ -6,21 +6,18 @@ use Rattle.ray_cmd.specs.Recordings.{recording_of}
 use Rattle.ray_io.specs.Faults.{HasRisen}
 use Rattle.ray_io.specs.ReadAll.{LeavesAllBut}
 use Rattle.ray_rules.specs.Verdict.{rule_refusal}
-use Rattle.ray_scene.specs.Recording.{scene_text}
 use Rattle.ray_action.specs.Running.{Text}
 use Rattle.ray_exec.specs.Runs.{run_below}
 use Rattle.vkray.specs.declared.asked.Asked.{Asked}
 use Rattle.vkray.specs.declared.request.Scene.{Scene}
+use Rattle.vkray.specs.declared.request.SelfRun.{SelfRun}
 use Rattle.vkray.specs.declared.status.Status.{Status}
 use Rattle.vkray.specs.declared.status.Status.TheVariants as statuses
-use Rattle.vkray.specs.declared.stop.Stop.TheVariants.{BadWords, ReadFault, TooLong, NotJson, BadShape, Unbuilt, Refused, NoMemory}
-use Rattle.vkray.specs.Answer.{Ending, answer_of, unbuilt_in}
-use Rattle.vkray.specs.Words.{AreWords, AskInput, Asks, AsksFor}
+use Rattle.vkray.specs.declared.stop.Stop.TheVariants.{BadWords, ReadFault, TooLong, NotJson, BadShape, Refused, NoMemory}
+use Rattle.vkray.specs.Answer.{Ending, answer_of, self_answer}
+use Rattle.vkray.specs.Scenes.{text_of_scene}
+use Rattle.vkray.specs.Words.{AreWords, AskInput, Asks, AsksFor, AsksSelfRun}
 use Rattle.vkray.specs.Written.{status_of, text_of}
-
--- the text of the recording of a scene
-abbrev pub text_of_scene : Scene → List ℕ
-text_of_scene scene = scene_text scene.side scene.layers scene.rays
 
 -- the greatest number of bytes of an input: 2^26
 abbrev pub most_bytes : ℕ
@@ -106,17 +103,27 @@ pub record IsGenerated (words : List (String Global)) (reading : Reading) (text 
   pub unread : reading.after ≡ reading.before
   pub is : text_of_scene scene ≡ text
 
+-- the words ask for a self run, which ends with this, and nothing was read
+pub record IsSelfAnswer (words : List (String Global)) (reading : Reading) (ending : Ending) : Type 0 where
+  pub asked : SelfRun
+  pub asks : AsksSelfRun words asked
+  pub unread : reading.after ≡ reading.before
+  pub is : self_answer asked.scene ≡ ending
+
+-- an answer of an input, or of a self run
+abbrev pub IsAnswer : List (String Global) → Reading → Ending → Type 0
+IsAnswer words reading ending = IsAnswerOfInput words reading ending ⊎ IsSelfAnswer words reading ending
+
 -- what the words and the source give: bad words read nothing; a read failed, or there are too many bytes; or else the
--- answer of the input, or the recording of a scene
+-- answer of the input or of a self run, or the recording of a scene
 abbrev pub IsEnding : List (String Global) → Reading → Ending → Type 0
-IsEnding words reading (Ok text) = IsAnswerOfInput words reading (Ok text) ⊎ IsGenerated words reading text
+IsEnding words reading (Ok text) = IsAnswer words reading (Ok text) ⊎ IsGenerated words reading text
 IsEnding words reading (Err BadWords) = (¬ AreWords words) × (reading.after ≡ reading.before)
 IsEnding words reading (Err ReadFault) = AskInput words × HasRisen reading.faults_before reading.faults_after × (¬ TakesTooMany reading) × TakesPrefix reading
 IsEnding words reading (Err TooLong) = AskInput words × IsTooLong reading
-IsEnding words reading (Err NotJson) = IsAnswerOfInput words reading (Err NotJson)
-IsEnding words reading (Err (BadShape command)) = IsAnswerOfInput words reading (Err (BadShape command))
-IsEnding words reading (Err (Unbuilt command)) = IsAnswerOfInput words reading (Err (Unbuilt command))
-IsEnding words reading (Err (Refused refusal)) = IsAnswerOfInput words reading (Err (Refused refusal))
+IsEnding words reading (Err NotJson) = IsAnswer words reading (Err NotJson)
+IsEnding words reading (Err (BadShape command)) = IsAnswer words reading (Err (BadShape command))
+IsEnding words reading (Err (Refused refusal)) = IsAnswer words reading (Err (Refused refusal))
 IsEnding words reading (Err NoMemory) = ⊥
 
 -- a text was sent: it is written, and the status is its own; or a write failed
@@ -151,9 +158,13 @@ pub record IsGoodCall (asked : Asked) (words : List (String Global)) (reading : 
   pub reads : recording_of input ≡ Ok commands
   pub rules : rule_refusal commands ≡ None
 
--- a recording whose commands have built forms, and whose run has this text
+-- the recording of a scene is read as these commands, which break no rule V1 to V32
+pub record IsGoodScene (scene : Scene) (commands : List Command) : Type 0 where
+  pub reads : recording_of (text_of_scene scene) ≡ Ok commands
+  pub rules : rule_refusal commands ≡ None
+
+-- a recording whose run has this text
 pub record Runs (commands : List Command) (text : List ℕ) : Type 0 where
-  pub built : unbuilt_in commands ≡ None
   pub run : run_below commands (length commands) ≡ Text text
 
 -- a whole text is written, or memory ran out

@@ -1,7 +1,7 @@
 -- With which number the program ends.
 use Rattle.std.specs.Prelude.{ℕ}
 use Rattle.vkray.specs.declared.status.Status.{Status}
-use Rattle.vkray.specs.declared.status.Status.TheVariants.{Done, Refused, BadRecording, BadWords, ReadFault, WriteFault, TooLong, NoMemory, Unbuilt}
+use Rattle.vkray.specs.declared.status.Status.TheVariants.{Done, Refused, BadRecording, BadWords, ReadFault, WriteFault, TooLong, NoMemory}
 
 -- the number of each status (own)
 abbrev pub code_of : Status → ℕ
@@ -13,4 +13,3 @@ code_of ReadFault = 4
 code_of WriteFault = 5
 code_of TooLong = 6
 code_of NoMemory = 7
-code_of Unbuilt = 8

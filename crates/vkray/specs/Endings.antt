@@ -1,23 +1,20 @@
 -- Words that private contracts cite: no page of definitions.
-use Rattle.std.specs.Prelude.{◌≡◌, ◌≤◌, ℕ, Bool, true, false, length, List, Vec, Result, Ok, Err, Option, None, Some, String, unwrap_or}
+use Rattle.std.specs.Prelude.{◌≡◌, ◌≤◌, ℕ, Bool, true, false, List, Vec, Result, Ok, Err, String}
 use Rattle.std.specs.declared.alloc.Global.{Global}
-use Rattle.ray_cmd.specs.declared.command.Command.{Command}
 use Rattle.ray_cmd.specs.declared.fault.RecordingFault.{RecordingFault}
 use Rattle.ray_cmd.specs.declared.fault.RecordingFault.TheVariants as recordings
-use Rattle.ray_cmd.specs.declared.refusal.Refusal.{Refusal}
 use Rattle.ray_io.specs.declared.read_error.ReadError.{ReadError}
 use Rattle.ray_io.specs.declared.read_error.ReadError.TheVariants as reads
 use Rattle.ray_exec.specs.declared.run_fault.RunFault.{RunFault}
 use Rattle.ray_exec.specs.declared.run_fault.RunFault.TheVariants as runs
-use Rattle.ray_permitted.specs.Rules.{BreakNoRule}
-use Rattle.ray_ready.specs.Accepted.{refused_from}
 use Rattle.vkray.specs.declared.asked.Asked.{Asked}
 use Rattle.vkray.specs.declared.asked.Asked.TheVariants.{Run, Check}
 use Rattle.vkray.specs.declared.request.Scene.{Scene}
 use Rattle.vkray.specs.declared.stop.Stop.{Stop}
-use Rattle.vkray.specs.declared.stop.Stop.TheVariants.{BadWords, ReadFault, TooLong, NotJson, BadShape, Unbuilt, Refused, NoMemory}
+use Rattle.vkray.specs.declared.stop.Stop.TheVariants.{BadWords, ReadFault, TooLong, NotJson, BadShape, Refused, NoMemory}
 use Rattle.vkray.specs.Answer.{Ending}
-use Rattle.vkray.specs.Call.{Reading, IsEnding, text_of_scene}
+use Rattle.vkray.specs.Call.{Reading, IsEnding}
+use Rattle.vkray.specs.Scenes.{text_of_scene}
 
 -- the stop of each fault
 abbrev pub stop_of_read : ReadError → Stop
@@ -41,7 +38,6 @@ StopsSo ending ReadFault = ⊥
 StopsSo ending TooLong = ⊥
 StopsSo ending NotJson = ending ≡ Err NotJson
 StopsSo ending (BadShape command) = ending ≡ Err (BadShape command)
-StopsSo ending (Unbuilt command) = ending ≡ Err (Unbuilt command)
 StopsSo ending (Refused refusal) = ending ≡ Err (Refused refusal)
 StopsSo ending NoMemory = Unit {0}
 
@@ -55,6 +51,11 @@ abbrev pub IsOfScene : Scene → Result (Vec ℕ Global) Stop → Type 0
 IsOfScene scene (Ok text) = text.items ≡ text_of_scene scene
 IsOfScene scene (Err stop) = stop ≡ NoMemory
 
+-- a result is a line of counts; want of memory is free
+abbrev pub IsCounted : List ℕ → Result (Vec ℕ Global) Stop → Type 0
+IsCounted line (Ok text) = text.items ≡ line
+IsCounted line (Err stop) = stop ≡ NoMemory
+
 -- whether a stop is told: want of memory isn't
 abbrev pub is_told : Stop → Bool
 is_told BadWords = true
@@ -62,7 +63,6 @@ is_told ReadFault = true
 is_told TooLong = true
 is_told NotJson = true
 is_told (BadShape command) = true
-is_told (Unbuilt command) = true
 is_told (Refused refusal) = true
 is_told NoMemory = false
 
@@ -73,7 +73,6 @@ StopsCall words reading ReadFault = IsEnding words reading (Err ReadFault)
 StopsCall words reading TooLong = IsEnding words reading (Err TooLong)
 StopsCall words reading NotJson = IsEnding words reading (Err NotJson)
 StopsCall words reading (BadShape command) = IsEnding words reading (Err (BadShape command))
-StopsCall words reading (Unbuilt command) = IsEnding words reading (Err (Unbuilt command))
 StopsCall words reading (Refused refusal) = IsEnding words reading (Err (Refused refusal))
 StopsCall words reading NoMemory = Unit {0}
 
@@ -91,8 +90,3 @@ AreWorkers workers = (1 ≤ workers) × (workers ≤ 64)
 abbrev pub IsWithinLimits : Asked → Type 0
 IsWithinLimits (Run workers) = AreWorkers workers
 IsWithinLimits Check = Unit {0}
-
--- the commands of a recording below its refusal by a rule and below the first whose form isn't built, where
--- there are these, break no rule and have built forms
-pub record BreakNone (rec : List Command) (refusal : Option Refusal) (unbuilt : Option ℕ) : Type 0 where
-  pub below : (n : ℕ) → n ≤ refused_from (length rec) refusal → n ≤ unwrap_or unbuilt (length rec) → BreakNoRule rec n

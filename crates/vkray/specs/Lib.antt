@@ -1,4 +1,6 @@
 pub mod Words
+pub mod Scenes
+pub mod Counting
 pub mod Codes
 pub mod Lines
 pub mod Answer

@@ -42,10 +42,6 @@ abbrev pub refusal_line : Refusal → List ℕ
 refusal_line refusal =
     codes "refused " ++ (decimal refusal.command ++ (codes " " ++ (rule_text refusal.rule ++ (place_text refusal.place ++ codes "\n"))))
 
--- the line of the least command whose form isn't built: `unbuilt I`
-abbrev pub unbuilt_line : ℕ → List ℕ
-unbuilt_line command = codes "unbuilt " ++ (decimal command ++ codes "\n")
-
 -- the line of the first command that has no shape of a command: `bad-shape I`
 abbrev pub bad_shape_line : ℕ → List ℕ
 bad_shape_line command = codes "bad-shape " ++ (decimal command ++ codes "\n")

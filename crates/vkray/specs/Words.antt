@@ -5,8 +5,9 @@ use Rattle.ray_scene.specs.Grid.{IsScene}
 use Rattle.vkray.specs.declared.asked.Asked.{Asked}
 use Rattle.vkray.specs.declared.asked.Asked.TheVariants.{Run, Check}
 use Rattle.vkray.specs.declared.request.Request.{Request}
-use Rattle.vkray.specs.declared.request.Request.TheVariants.{Input, Generate}
+use Rattle.vkray.specs.declared.request.Request.TheVariants.{Input, Generate, RunSelf}
 use Rattle.vkray.specs.declared.request.Scene.{Scene}
+use Rattle.vkray.specs.declared.request.SelfRun.{SelfRun}
 
 -- the words are one alone
 abbrev pub IsWord : List (String Global) → List ℕ → Type 0
@@ -43,10 +44,32 @@ pub record AsksFor (words : List (String Global)) (scene : Scene) : Type 0 where
   pub limits : IsScene scene.side scene.layers scene.rays
   pub are : IsGenerating words scene
 
+-- the words are `selfrun` and three numbers, alone, or with `--workers` and a number after them
+abbrev pub AreOfSelfRun : List (String Global) → Scene → Type 0
+AreOfSelfRun words scene =
+    map string_bytes words ≡ codes "selfrun" ∷ decimal scene.side ∷ decimal scene.layers ∷ decimal scene.rays ∷ []
+
+abbrev pub AreOfSelfRunBy : List (String Global) → Scene → ℕ → Type 0
+AreOfSelfRunBy words scene workers =
+    map string_bytes words
+    ≡ codes "selfrun" ∷ decimal scene.side ∷ decimal scene.layers ∷ decimal scene.rays ∷ codes "--workers" ∷ decimal workers ∷ []
+
+-- the words ask for a self run by so many workers, 1 to 64: one where none are said
+abbrev pub AskBy : List (String Global) → SelfRun → Type 0
+AskBy words asked =
+    (AreOfSelfRun words asked.scene × (asked.workers ≡ 1))
+    ⊎ (((1 ≤ asked.workers) × (asked.workers ≤ 64)) × AreOfSelfRunBy words asked.scene asked.workers)
+
+-- the words ask for the self run of a scene within the limits
+pub record AsksSelfRun (words : List (String Global)) (asked : SelfRun) : Type 0 where
+  pub limits : IsScene asked.scene.side asked.scene.layers asked.scene.rays
+  pub are : AskBy words asked
+
 -- the words ask for it
 abbrev pub Requests : List (String Global) → Request → Type 0
 Requests words (Input asked) = Asks words asked
 Requests words (Generate scene) = AsksFor words scene
+Requests words (RunSelf asked) = AsksSelfRun words asked
 
 -- the words ask for something
 abbrev pub AreWords : List (String Global) → Type 0

@@ -2,9 +2,9 @@
 use Rattle.std.specs.Prelude.{ℕ, List, [], Ok, Err, codes}
 use Rattle.vkray.specs.declared.status.Status.{Status}
 use Rattle.vkray.specs.declared.status.Status.TheVariants as statuses
-use Rattle.vkray.specs.declared.stop.Stop.TheVariants.{BadWords, ReadFault, TooLong, NotJson, BadShape, Unbuilt, Refused, NoMemory}
+use Rattle.vkray.specs.declared.stop.Stop.TheVariants.{BadWords, ReadFault, TooLong, NotJson, BadShape, Refused, NoMemory}
 use Rattle.vkray.specs.Answer.{Ending}
-use Rattle.vkray.specs.Lines.{refusal_line, unbuilt_line, bad_shape_line}
+use Rattle.vkray.specs.Lines.{bad_shape_line, refusal_line}
 
 -- the status of an ending, once its text is written
 abbrev pub status_of : Ending → Status
@@ -14,7 +14,6 @@ status_of (Err ReadFault) = statuses.ReadFault
 status_of (Err TooLong) = statuses.TooLong
 status_of (Err NotJson) = statuses.BadRecording
 status_of (Err (BadShape command)) = statuses.BadRecording
-status_of (Err (Unbuilt command)) = statuses.Unbuilt
 status_of (Err (Refused refusal)) = statuses.Refused
 status_of (Err NoMemory) = statuses.NoMemory
 
@@ -26,6 +25,5 @@ text_of (Err ReadFault) = codes "read-fault\n"
 text_of (Err TooLong) = codes "too-long\n"
 text_of (Err NotJson) = codes "not-json\n"
 text_of (Err (BadShape command)) = bad_shape_line command
-text_of (Err (Unbuilt command)) = unbuilt_line command
 text_of (Err (Refused refusal)) = refusal_line refusal
 text_of (Err NoMemory) = []

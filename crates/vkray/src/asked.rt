@@ -4,7 +4,7 @@ ghost use Rattle.vkray.specs.Words.{AskInput, Asks, AreOfWorkers, HasWorkers, Is
 use crate::words::{is_number, is_text, is_within, read_number};
 
 /// The greatest number of workers.
-const MOST_WORKERS: u32 = 64;
+pub(crate) const MOST_WORKERS: u32 = 64;
 
 /// What an input is asked for. (Own.)
 #[derive(Clone, Copy, Debug, PartialEq, Eq)]

@@ -1,17 +1,24 @@
-ghost use Rattle.std.specs.Prelude.{◌≡◌, ◌≤◌, ◌^◌, ◌<◌, Err, IfSome, None, Some, length};
+ghost use Rattle.std.specs.Prelude.{◌≡◌, ◌≤◌, OnOk, Some, length};
 ghost use Rattle.ray_cmd.specs.Sources.{AreSourced};
-ghost use Rattle.ray_exec.specs.Runs.{run_below, IsRun};
+ghost use Rattle.ray_scene.specs.Grid.{IsScene};
+ghost use Rattle.ray_action.specs.Memory.{Location, nothing_live};
+ghost use Rattle.ray_memory.specs.State.{memory_of};
+ghost use Rattle.ray_exec.specs.Runs.{memory_below, run_below, IsRun};
 ghost use Rattle.ray_permitted.specs.Rules.{BreakNoRule};
-ghost use Rattle.vkray.specs.Answer.{answer_of, checked, ending_before, ending_of, ran, run_with};
-ghost use Rattle.vkray.specs.Endings.{Ends, StopsSo, BreakNone, AreWorkers, IsWithinLimits};
+ghost use Rattle.vkray.specs.Answer.{answer_of, checked, counted, ending_of, ran, run_with};
+ghost use Rattle.vkray.specs.Answer.{self_answer};
+ghost use Rattle.vkray.specs.Endings.{Ends, StopsSo, AreWorkers, IsWithinLimits};
 
 use crate::asked::Asked;
-use crate::forms::first_unbuilt;
+use crate::counting::counted_line;
+use crate::request::{Scene, SelfRun};
 use crate::stop::Stop;
 use ray_check::check_rules;
 use ray_cmd::{Recording, Refusal, read_recording};
 use ray_exec::{Gate, RunFault, run_waves};
 use ray_memory::State;
+use ray_scene::gen_text;
+use ray_sync::order_of;
 use std::alloc::Global;
 use std::thread::Threads;
 
@@ -65,7 +72,49 @@ fn check(alloc: Global, recording: &Recording) -> Result<Vec<u8>, Stop>
     }
 }
 
-// Runs a recording, up to a command that a rule refuses or whose form isn't built.
+// The counts of what the run of a made-up scene commits: its recording is read and run.
+#[tactic(auto, unfolding(crate::specs::Answer::self_answer))]
+pub(crate) fn run_self<R: Threads + Sync, G: Gate + Sync>(
+    rt: &R,
+    alloc: Global,
+    asked: SelfRun,
+    gate: &G,
+) -> Result<Vec<u8>, Stop>
+    requires scene { IsScene asked.scene.side asked.scene.layers asked.scene.rays }
+    requires workers { AreWorkers asked.workers }
+    ensures { Ends (self_answer asked.scene) result }
+{
+    let Scene { side, layers, rays } = asked.scene;
+    match gen_text(alloc, side, layers, rays) {
+        Ok(text) => match read_recording(alloc, text.as_slice()) {
+            Ok(recording) => count(rt, alloc, &recording, rays, asked.workers, gate),
+            Err(fault) => Err(Stop::from(fault)),
+        },
+        Err(_) => Err(Stop::NoMemory),
+    }
+}
+
+// Runs a recording, and counts the records that its last command reads of what the run leaves.
+fn count<R: Threads + Sync, G: Gate + Sync>(
+    rt: &R,
+    alloc: Global,
+    recording: &Recording,
+    rays: u32,
+    workers: u32,
+    gate: &G,
+) -> Result<Vec<u8>, Stop>
+    requires sourced { AreSourced recording.now }
+    requires workers { AreWorkers workers }
+    ensures { Ends (counted rays recording.now) result }
+{
+    let mut state = State::new(alloc);
+    match run_in(rt, alloc, &mut state, recording, workers, gate) {
+        Ok(_) => counted_line(alloc, rays, &state, recording),
+        Err(stop) => Err(stop),
+    }
+}
+
+// Runs a recording, up to a command that a rule refuses.
 fn run<R: Threads + Sync, G: Gate + Sync>(
     rt: &R,
     alloc: Global,
@@ -77,120 +126,81 @@ fn run<R: Threads + Sync, G: Gate + Sync>(
     requires workers { AreWorkers workers }
     ensures { Ends (ran recording.now) result }
 {
-    let Ok(refusal) = check_rules(alloc, recording) else {
-        return Err(Stop::NoMemory);
-    };
-    match first_unbuilt(recording) {
-        Some(command) => Err(run_built(rt, alloc, recording, refusal, command, workers, gate)),
-        None => run_all(rt, alloc, recording, refusal, workers, gate),
-    }
+    let mut state = State::new(alloc);
+    run_in(rt, alloc, &mut state, recording, workers, gate)
 }
 
-// Runs a recording whose commands have built forms, up to its refusal by a rule where it has one.
-fn run_all<R: Threads + Sync, G: Gate + Sync>(
+// The same in a new state, which holds afterwards what the run leaves, where it comes to a text.
+fn run_in<R: Threads + Sync, G: Gate + Sync>(
     rt: &R,
     alloc: Global,
+    state: &mut State,
     recording: &Recording,
-    refusal: Option<Refusal>,
     workers: u32,
     gate: &G,
 ) -> Result<Vec<u8>, Stop>
-    requires within { IfSome refusal (λ r. r.command ≤ length recording.now) }
-    requires rules { BreakNone recording.now refusal None }
+    requires new { (l : Location) → memory_of state.old l ≡ nothing_live l }
+    requires sourced { AreSourced recording.now }
     requires workers { AreWorkers workers }
-    ensures { Ends (run_with recording.now refusal None) result }
+    ensures run { Ends (ran recording.now) result }
+    ensures left { OnOk result ((l : Location) → memory_of state.new l
+        ≡ memory_below recording.now (length recording.now) l) }
 {
+    let Ok(refusal) = check_rules(alloc, recording) else {
+        return Err(Stop::NoMemory);
+    };
     match refusal {
-        Some(refusal) => Err(run_to(
-            rt,
-            alloc,
-            recording,
-            refusal.command,
-            Stop::Refused(refusal),
-            workers,
-            gate,
-        )),
-        None => match run_until(rt, alloc, recording, recording.len(), workers, gate) {
+        Some(refusal) => Err(run_to(rt, alloc, state, recording, refusal, workers, gate)),
+        None => match run_until(rt, alloc, state, recording, recording.len(), workers, gate) {
             Ok(text) => Ok(text),
             Err(fault) => Err(Stop::from(fault)),
         },
     }
 }
 
-// Runs a recording up to the first command that breaks a rule or whose form isn't built, whichever
-// stands lower.
-fn run_built<R: Threads + Sync, G: Gate + Sync>(
-    rt: &R,
-    alloc: Global,
-    recording: &Recording,
-    refusal: Option<Refusal>,
-    unbuilt: u32,
-    workers: u32,
-    gate: &G,
-) -> Stop
-    requires within { unbuilt ≤ length recording.now }
-    requires rules { BreakNone recording.now refusal (Some unbuilt) }
-    requires workers { AreWorkers workers }
-    ensures { StopsSo (run_with recording.now refusal (Some unbuilt)) result }
-{
-    match refusal {
-        Some(refusal) if refusal.command <= unbuilt => run_to(
-            rt,
-            alloc,
-            recording,
-            refusal.command,
-            Stop::Refused(refusal),
-            workers,
-            gate,
-        ),
-        _ => run_to(
-            rt,
-            alloc,
-            recording,
-            unbuilt,
-            Stop::Unbuilt(unbuilt),
-            workers,
-            gate,
-        ),
-    }
-}
-
-// Runs the commands below a number, where this stops the run unless one of them breaks a data rule.
+// Runs the commands below one that is refused, which ends the run unless one of them breaks a data
+// rule.
 fn run_to<R: Threads + Sync, G: Gate + Sync>(
     rt: &R,
     alloc: Global,
+    state: &mut State,
     recording: &Recording,
-    until: u32,
-    stop: Stop,
+    refusal: Refusal,
     workers: u32,
     gate: &G,
 ) -> Stop
-    requires within { until ≤ length recording.now }
-    requires rules { BreakNoRule recording.now until }
-    requires of_input { StopsSo (Err stop) stop }
+    requires new { (l : Location) → memory_of state.old l ≡ nothing_live l }
+    requires within { refusal.command ≤ length recording.now }
+    requires rules { BreakNoRule recording.now refusal.command }
     requires workers { AreWorkers workers }
-    ensures { StopsSo (ending_before (run_below recording.now until) stop) result }
+    ensures { StopsSo (run_with recording.now (Some refusal)) result }
 {
-    match run_until(rt, alloc, recording, until, workers, gate) {
-        Ok(_) => stop,
+    match run_until(rt, alloc, state, recording, refusal.command, workers, gate) {
+        Ok(_) => Stop::Refused(refusal),
         Err(fault) => Stop::from(fault),
     }
 }
 
-// Runs the commands below a number.
+// Runs the commands below a number, in the order that barriers and waits give.
 fn run_until<R: Threads + Sync, G: Gate + Sync>(
     rt: &R,
     alloc: Global,
+    state: &mut State,
     recording: &Recording,
     until: u32,
     workers: u32,
     gate: &G,
 ) -> Result<Vec<u8>, RunFault>
+    requires new { (l : Location) → memory_of state.old l ≡ nothing_live l }
     requires within { until ≤ length recording.now }
     requires rules { BreakNoRule recording.now until }
     requires workers { AreWorkers workers }
-    ensures { IsRun (run_below recording.now until) result }
+    ensures run { IsRun (run_below recording.now until) result }
+    ensures left { OnOk result ((l : Location) → memory_of state.new l
+        ≡ memory_below recording.now until l) }
 {
-    let mut state = State::new(alloc);
-    run_waves(rt, alloc, &mut state, recording, until, workers, gate)
+    match order_of(alloc, recording, until) {
+        Ok(order) => run_waves(rt, alloc, state, recording, &order, until, workers, gate),
+        Err(_) => Err(RunFault::NoMemory),
+    }
 }

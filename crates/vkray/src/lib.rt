@@ -8,26 +8,26 @@
 //! Its clause `headline` says of a run that ends well that what is written is the text of every order
 //! that the barriers and waits of the recording permit, by `specs/Headline`.
 //!
-//! A recording runs up to the command that a rule V1 to V32 refuses, by `check_rules` of ray_check,
-//! and as far as the forms of its commands are built, which [`first_unbuilt`] says; `run_waves` of
-//! ray_exec runs so many commands.
+//! A recording runs up to the command that a rule V1 to V32 refuses, by `check_rules` of ray_check;
+//! `run_waves` of ray_exec runs so many commands. A self run reads and runs the recording of a
+//! made-up scene by the same calls, and counts the records that it leaves, by `specs/Counting`.
 //!
 //! It stands on ray_io (all bytes read and written), ray_cmd (the recording), ray_check (the rules on
 //! the recording alone), ray_exec (its run) and ray_scene (recordings that are made up).
 #![tactic(auto)]
 
 mod asked;
+mod counting;
 mod executing;
-mod forms;
 mod line;
 mod reply;
 mod request;
+mod self_words;
 mod status;
 mod stop;
 mod top_call;
 mod words;
 
-pub use forms::first_unbuilt;
 pub use line::refusal_line;
 pub use ray_exec::{Gate, NoGate};
 pub use ray_scene::gen_text;

@@ -12,13 +12,6 @@ pub(crate) fn bad_shape_line(alloc: Global, command: u32) -> Result<String, NoMe
     format!(in alloc; "bad-shape {command}\n")
 }
 
-// The line of a command whose form isn't built.
-pub(crate) fn unbuilt_line(alloc: Global, command: u32) -> Result<String, NoMemory>
-    ensures { IfOk result (λ line. string_bytes line ≡ lines.unbuilt_line command) }
-{
-    format!(in alloc; "unbuilt {command}\n")
-}
-
 /// The line of a refusal: `refused I RULE` and its place, and a newline. (Own.)
 ///
 /// # Errors

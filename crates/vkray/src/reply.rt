@@ -2,7 +2,7 @@ ghost use Rattle.std.specs.Prelude.{◌≡◌, Err, IfOk, OnOk, true};
 ghost use Rattle.vkray.specs.Endings.{is_told};
 ghost use Rattle.vkray.specs.Written.{status_of, text_of};
 
-use crate::line::{bad_shape_line, refusal_line, unbuilt_line};
+use crate::line::{bad_shape_line, refusal_line};
 use crate::status::Status;
 use crate::stop::Stop;
 use std::alloc::{AllocError as NoMemory, Global};
@@ -29,10 +29,6 @@ impl Reply {
             Stop::BadShape(command) => {
                 let line = bad_shape_line(alloc, command)?;
                 Reply::of_line(alloc, Status::BadRecording, line.as_bytes())
-            }
-            Stop::Unbuilt(command) => {
-                let line = unbuilt_line(alloc, command)?;
-                Reply::of_line(alloc, Status::Unbuilt, line.as_bytes())
             }
             Stop::Refused(refusal) => {
                 let line = refusal_line(alloc, &refusal)?;

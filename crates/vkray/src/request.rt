@@ -4,6 +4,7 @@ ghost use Rattle.vkray.specs.declared.request.Scene.{Scene as AScene};
 ghost use Rattle.vkray.specs.Words.{AreWords, AsksFor, IsGenerating, Requests};
 
 use crate::asked::Asked;
+use crate::self_words::self_run_of;
 use crate::words::{is_number, is_text, is_within, read_number};
 
 /// How large a made-up scene is. (Own.)
@@ -17,6 +18,15 @@ pub struct Scene {
     pub rays: u32,
 }
 
+/// The self run of a made-up scene. (Own.)
+#[derive(Clone, Copy, Debug, PartialEq, Eq)]
+pub struct SelfRun {
+    /// The scene.
+    pub scene: Scene,
+    /// How many may fetch pieces at once, 1 to 64: 1 where none is said.
+    pub workers: u32,
+}
+
 /// What the words after the program's name ask for. (Own.)
 #[derive(Clone, Copy, Debug, PartialEq, Eq)]
 pub enum Request {
@@ -24,6 +34,9 @@ pub enum Request {
     Input(Asked),
     /// `gen SIDE LAYERS RAYS`: the recording of a made-up scene. No input is read.
     Generate(Scene),
+    /// `selfrun SIDE LAYERS RAYS`, or the same with `--workers N` after it: the counts of what the
+    /// run of that recording commits. No input is read.
+    RunSelf(SelfRun),
 }
 
 impl Request {
@@ -36,7 +49,10 @@ impl Request {
             Some(asked) => Some(Request::Input(asked)),
             None => match scene_of(words) {
                 Some(scene) => Some(Request::Generate(scene)),
-                None => None,
+                None => match self_run_of(words) {
+                    Some(asked) => Some(Request::RunSelf(asked)),
+                    None => None,
+                },
             },
         }
     }
@@ -64,7 +80,7 @@ fn numbers_of(words: &[String]) -> Option<Scene>
 }
 
 // The numbers that three words spell.
-fn read_scene(side: &str, layers: &str, rays: &str) -> Option<Scene>
+pub(crate) fn read_scene(side: &str, layers: &str, rays: &str) -> Option<Scene>
     ensures { (scene : AScene) → IsScene scene.side scene.layers scene.rays
         → side.now ≡ decimal scene.side → layers.now ≡ decimal scene.layers
         → rays.now ≡ decimal scene.rays → result ≡ Some scene }
@@ -83,7 +99,7 @@ fn asks_for(words: &[String], scene: Scene) -> bool
 }
 
 // Whether a scene is within the limits.
-fn is_scene(scene: Scene) -> bool
+pub(crate) fn is_scene(scene: Scene) -> bool
     ensures { IsTrue result ↔ IsScene scene.side scene.layers scene.rays }
 {
     is_within(scene.side, 256) && is_within(scene.layers, 4) && is_within(scene.rays, 65_536)

@@ -20,12 +20,10 @@ pub enum Status {
     TooLong,
     /// Memory ran out.
     NoMemory,
-    /// A command of the recording has a form that isn't built yet.
-    Unbuilt,
 }
 
 impl Status {
-    /// The number with which the program ends, from 0 to 8.
+    /// The number with which the program ends, from 0 to 7.
     pub fn code(self) -> u8
         ensures { result ≡ code_of self }
     {
@@ -38,7 +36,6 @@ impl Status {
             Status::WriteFault => 5,
             Status::TooLong => 6,
             Status::NoMemory => 7,
-            Status::Unbuilt => 8,
         }
     }
 }

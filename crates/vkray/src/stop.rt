@@ -15,9 +15,7 @@ pub enum Stop {
     NotJson,
     /// The command of this number is the first that has no shape of a command.
     BadShape(u32),
-    /// The command of this number has a form that isn't built yet.
-    Unbuilt(u32),
-    /// A command breaks a rule, and no lesser one does or has a form that isn't built.
+    /// A command breaks a rule, and no lesser one does.
     Refused(Refusal),
     /// Memory ran out.
     NoMemory,

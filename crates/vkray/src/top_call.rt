@@ -3,15 +3,18 @@ ghost use Rattle.ray_cmd.specs.declared.command.Command.{Command};
 ghost use Rattle.ray_scene.specs.Grid.{IsScene};
 ghost use Rattle.vkray.specs.declared.asked.Asked.TheVariants.{Check, Run};
 ghost use Rattle.vkray.specs.declared.request.Scene.{Scene as AScene};
-ghost use Rattle.vkray.specs.Words.{AskInput, AskRun, AsksFor};
+ghost use Rattle.vkray.specs.declared.request.SelfRun.{SelfRun as ASelfRun};
+ghost use Rattle.vkray.specs.Words.{AskInput, AskRun, AsksFor, AsksSelfRun};
 ghost use Rattle.vkray.specs.Answer.{Ending};
 ghost use Rattle.vkray.specs.Call.{reading, writing, Answers, HasFailed, IsEnding, IsSent, IsGoodCall, IsCompleted};
-ghost use Rattle.vkray.specs.Call.{Runs, TakesPrefix, text_of_scene};
-ghost use Rattle.vkray.specs.Headline.{IsTextOfInput};
+ghost use Rattle.vkray.specs.Call.{IsGoodScene, Runs, TakesPrefix};
+ghost use Rattle.vkray.specs.Counting.{counts_line, last_shown};
+ghost use Rattle.vkray.specs.Headline.{AreCountsOfScene, IsTextOfInput};
+ghost use Rattle.vkray.specs.Scenes.{text_of_scene};
 ghost use Rattle.vkray.specs.Endings.{EndsCall, IsOfScene};
 ghost use Rattle.vkray.specs.Written.{status_of, text_of};
 
-use crate::executing::execute;
+use crate::executing::{execute, run_self};
 use crate::reply::Reply;
 use crate::request::{Request, Scene};
 use crate::status::Status;
@@ -26,11 +29,12 @@ use std::thread::Threads;
 pub const MOST_BYTES: u32 = 1 << 26;
 
 /// The program. `words` are those after the program's name: `run` and `run --workers N` read a
-/// recording from the source, run it and write its text to the sink, and `check` writes `ok` where it
-/// breaks no rule V1 to V32; `gen SIDE LAYERS RAYS` reads nothing and writes the recording of a
-/// made-up scene; all others are bad. Whatever ends the call before its text, one line says why. The whole text is made
-/// before the first write. After a read fault, or for want of memory, the source may have given a
-/// prefix of what it had left.
+/// recording from the source, run it and write its text to the sink, and `check` writes `ok` where
+/// it breaks no rule V1 to V32; `gen SIDE LAYERS RAYS` reads nothing and writes the recording of a
+/// made-up scene, and `selfrun SIDE LAYERS RAYS`, also with `--workers N`, runs that recording and
+/// writes the counts of what its rays commit; all others are bad. Whatever ends the call before its
+/// text, one line says why. The whole text is made before the first write. After a read fault, or
+/// for want of memory, the source may have given a prefix of what it had left.
 pub fn vkray<R: Threads + Sync, S: Source, K: Sink, G: Gate + Sync>(
     rt: &R,
     alloc: Global,
@@ -49,6 +53,11 @@ pub fn vkray<R: Threads + Sync, S: Source, K: Sink, G: Gate + Sync>(
         → result ≡ Status.Done → S.left source.old ≡ Some input
         → IsTextOfInput input (writing K.taken K.faults K.zero_writes sink.old sink.new) }
 
+    // So it is with the counts of a self run that ends well.
+    ensures self_headline { (asked : ASelfRun) → AsksSelfRun words.now asked
+        → result ≡ Status.Done
+        → AreCountsOfScene asked.scene (writing K.taken K.faults K.zero_writes sink.old sink.new) }
+
     // A good input is answered: the run's whole text is written, and `ok` by a check.
     ensures complete { (workers : ℕ) (input text : List ℕ) (commands : List Command)
         → IsGoodCall (Run workers) words.now
@@ -64,6 +73,13 @@ pub fn vkray<R: Threads + Sync, S: Source, K: Sink, G: Gate + Sync>(
     ensures generated { (scene : AScene) → AsksFor words.now scene
         → ¬ HasFailed (writing K.taken K.faults K.zero_writes sink.old sink.new)
         → IsCompleted (writing K.taken K.faults K.zero_writes sink.old sink.new) (text_of_scene scene) result }
+
+    ensures counted { (asked : ASelfRun) (commands : List Command) (text : List ℕ)
+        → AsksSelfRun words.now asked
+        → ¬ HasFailed (writing K.taken K.faults K.zero_writes sink.old sink.new)
+        → IsGoodScene asked.scene commands → Runs commands text
+        → IsCompleted (writing K.taken K.faults K.zero_writes sink.old sink.new)
+        (counts_line asked.scene.rays (last_shown commands)) result }
 
     // Words that ask no input read nothing, and for want of memory nothing is written.
     ensures unread { ¬ AskInput words.now → source.new ≡ source.old }
@@ -129,6 +145,7 @@ fn read_and_run<R: Threads + Sync, S: Source, G: Gate + Sync>(
             Err(fault) => Err(Stop::from(fault)),
         },
         Some(Request::Generate(scene)) => generate(alloc, scene),
+        Some(Request::RunSelf(asked)) => run_self(rt, alloc, asked, gate),
         None => Err(Stop::BadWords),
     }
 }
