@@ -2,13 +2,15 @@
 //! of times, by its words, so that it can be timed from outside. `ray_bench_builds bottom 10`
 //! builds ten times a bottom structure of 524,288 triangles with 32-bit indices, `ray_bench_builds
 //! tree 10` as often a tree over their cells' boxes, and `ray_bench_builds top 10` a top structure
-//! of 65,536 instances. Each prints how often it built, of how many, and how many of them are
-//! active, or how many leaves there are. `ray_bench_builds open 10` serializes a bottom structure
+//! of 65,536 instances; `fast` builds trees by keys over the same boxes, and `wide` makes a wide
+//! tree of one. Each prints how often it built, of how many, and how many of them are active, or
+//! how many leaves or nodes there are. `ray_bench_builds open 10` serializes a bottom structure
 //! of 1,048,576 triangles, opens the form ten times, and prints of how many bytes it is and how
 //! often it opened. Without words it does a little of each. Other words give the line `bad-words`
 //! and status 3.
 //!
-//! What is timed are the public calls of ray_bottom, ray_top, ray_tree and ray_serial; what these
+//! What is timed are the public calls of ray_bottom, ray_top, ray_tree, ray_morton, ray_wide and
+//! ray_serial; what these
 //! do is their contracts' to say. It stands on them and on nothing of the program.
 #![tactic(auto)]
 
@@ -20,7 +22,7 @@ mod structures;
 use crate::bench_error::BenchError;
 use crate::field::Field;
 use crate::size::Size;
-use crate::structures::{bottom, boxes, instances, opens, top, tree};
+use crate::structures::{bottom, boxes, fast_tree, instances, opens, top, tree, wide};
 use ray_serial::serialize;
 use std::env;
 use std::process::ExitCode;
@@ -46,6 +48,8 @@ fn run<R: Env + AllocGlobal + Print + Threads + Sync>(rt: &R) -> Result<(), Benc
             report_bottoms(rt, Size::Little, 1)?;
             report_tops(rt, Size::Little, 1)?;
             report_trees(rt, Size::Little, 1)?;
+            report_fast_trees(rt, Size::Little, 1)?;
+            report_wide_trees(rt, Size::Little, 1)?;
             report_opens(rt, Size::Little, 1)
         }
         [work, times] => {
@@ -56,6 +60,8 @@ fn run<R: Env + AllocGlobal + Print + Threads + Sync>(rt: &R) -> Result<(), Benc
                 "bottom" => report_bottoms(rt, Size::Large, times),
                 "top" => report_tops(rt, Size::Large, times),
                 "tree" => report_trees(rt, Size::Large, times),
+                "fast" => report_fast_trees(rt, Size::Large, times),
+                "wide" => report_wide_trees(rt, Size::Large, times),
                 "open" => report_opens(rt, Size::Greatest, times),
                 _ => Err(BenchError::BadWords),
             }
@@ -108,6 +114,37 @@ fn report_trees<R: AllocGlobal + Print>(rt: &R, size: Size, times: u32) -> Resul
         leaves = tree(rt.alloc(), items.as_slice())?.leaves();
     }
     println!(rt; "tree {times} items {} leaves {leaves}", items.len())?;
+    Ok(())
+}
+
+// Builds trees by keys, and prints the same of them.
+fn report_fast_trees<R: AllocGlobal + Print + Threads + Sync>(
+    rt: &R,
+    size: Size,
+    times: u32,
+) -> Result<(), BenchError> {
+    let items = boxes(rt.alloc(), size)?;
+    let mut leaves = 0;
+    for _ in 0..times {
+        leaves = fast_tree(rt, items.as_slice())?.leaves();
+    }
+    println!(rt; "fast {times} items {} leaves {leaves}", items.len())?;
+    Ok(())
+}
+
+// Makes wide trees of a tree, and prints of how many leaves it is, and how many nodes the last has.
+fn report_wide_trees<R: AllocGlobal + Print>(
+    rt: &R,
+    size: Size,
+    times: u32,
+) -> Result<(), BenchError> {
+    let items = boxes(rt.alloc(), size)?;
+    let binary = tree(rt.alloc(), items.as_slice())?;
+    let mut nodes = 0;
+    for _ in 0..times {
+        nodes = wide(rt.alloc(), &binary)?.nodes();
+    }
+    println!(rt; "wide {times} leaves {} nodes {nodes}", binary.leaves())?;
     Ok(())
 }
 

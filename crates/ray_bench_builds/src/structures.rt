@@ -6,10 +6,12 @@ use ray_bottom::{Bottom, Builder, TriangleInfo};
 use ray_bytes::{Format, IndexView, InstanceView, VertexView};
 use ray_flags::BuildFlags;
 use ray_geom::{Box3, Vec3};
+use ray_morton::build_fast;
 use ray_primitives::BuildFault;
 use ray_serial::SerialView;
 use ray_top::{Top, Used};
 use ray_tree::{Tree, build_median};
+use ray_wide::{Wide, collapse};
 use std::alloc::{AllocError, Global};
 use std::thread::Threads;
 
@@ -98,4 +100,19 @@ fn cell(i: u32, j: u32) -> Option<Box3> {
 #[inline(never)]
 pub(crate) fn tree(alloc: Global, items: &[Option<Box3>]) -> Result<Tree, AllocError> {
     build_median(alloc, &items[..items.len().min(MOST_ITEMS)])
+}
+
+/// The tree over the first boxes by keys, of at most 2^20.
+#[inline(never)]
+pub(crate) fn fast_tree<R: AllocGlobal + Threads + Sync>(
+    rt: &R,
+    items: &[Option<Box3>],
+) -> Result<Tree, AllocError> {
+    build_fast(rt, rt.alloc(), &items[..items.len().min(MOST_ITEMS)])
+}
+
+/// The wide tree of a tree.
+#[inline(never)]
+pub(crate) fn wide(alloc: Global, tree: &Tree) -> Result<Wide, AllocError> {
+    collapse(alloc, tree)
 }
