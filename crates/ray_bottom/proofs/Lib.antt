@@ -2,3 +2,4 @@ pub mod Counting
 pub mod Growing
 pub mod Held
 pub mod Restoring
+pub mod Places

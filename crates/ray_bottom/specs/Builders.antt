@@ -16,11 +16,12 @@ use Rattle.ray_bottom.specs.declared.geometry.Geometry.{Geometry}
 use Rattle.ray_bottom.specs.declared.shapes.Shapes.{Shapes}
 use Rattle.ray_bottom.specs.declared.shapes.Shapes.TheVariants as shapes
 use Rattle.ray_bottom.specs.Contents.{ContentsValue, with_geometry}
+use Rattle.ray_bottom.specs.Trees.{BottomWithTree}
 
--- a builder: the contents so far, and those of the structure that is updated, if one is
+-- a builder: the contents so far, and the structure that is updated, if one is
 pub record BuilderValue : Type 0 where
   pub contents : ContentsValue
-  pub replaced : Option ContentsValue
+  pub replaced : Option BottomWithTree
 
 -- ---- the old geometry
 

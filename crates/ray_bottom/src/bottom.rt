@@ -3,40 +3,57 @@ ghost use Rattle.ray_geom.specs.LeastBoxes.{HoldsBoxes, IsLeast};
 ghost use Rattle.ray_bytes.specs.StructureSizes.{compacted_size};
 ghost use Rattle.ray_bottom.specs.Contents.{bounds_of, total_of, active_of, active_boxes};
 ghost use Rattle.ray_bottom.specs.Contents.{kind_of, count_of, IsContents};
+ghost use Rattle.ray_bottom.specs.Trees.{without_tree, items_of, places_below};
+ghost use Rattle.ray_tree.specs.Trees.{TreeOver};
+ghost use Rattle.ray_wide.specs.Wides.{WideOver};
 
 use crate::contents::Contents;
 use crate::geometry::Geometry;
+use crate::prim_place::PrimPlace;
 use ray_bytes::compacted_of;
 use ray_flags::{BuildFlags, Kind};
 use ray_geom::Box3;
+use ray_hierarchy::Hierarchy;
+use ray_tree::{Node, Tree};
+use ray_wide::Wide;
 use std::alloc::{AllocError as NoMemory, Global};
 use std::marker::Model;
 
-/// A bottom structure that is built. Contracts see it as its contents. (VkAccelerationStructureKHR of
-/// the type VK_ACCELERATION_STRUCTURE_TYPE_BOTTOM_LEVEL_KHR)
+/// A bottom structure that is built. Contracts see it as its contents with its box tree.
+/// (VkAccelerationStructureKHR of the type VK_ACCELERATION_STRUCTURE_TYPE_BOTTOM_LEVEL_KHR)
 #[derive(Drop)]
 pub struct Bottom {
     pub(crate) contents: Contents,
+    pub(crate) hierarchy: Hierarchy,
+    pub(crate) places: Vec<PrimPlace>,
 }
 
 impl Model for Bottom {
-    ghost use Rattle.ray_bottom.specs.Contents.{ContentsValue};
+    ghost use Rattle.ray_bottom.specs.Trees.{BottomWithTree, IsIndexed, bottom_value};
 
-    ghost Value = { ContentsValue };
+    ghost Value = { BottomWithTree };
 
-    ghost view = { λ b. b.contents };
+    ghost view = { λ b. bottom_value b.contents b.hierarchy };
+
+    ghost invariant = { λ b. IsIndexed (bottom_value b.contents b.hierarchy) b.places.items };
 }
 
 impl Bottom {
-    /// A structure with the same contents. (VK_COPY_ACCELERATION_STRUCTURE_MODE_CLONE_KHR)
+    /// A structure with the same contents and the same tree. (VK_COPY_ACCELERATION_STRUCTURE_MODE_CLONE_KHR)
     pub fn copy(&self, alloc: Global) -> Result<Bottom, NoMemory>
         ensures { IfOk result (λ copy. copy ≡ self.now) }
     {
         let contents = self.contents.copy(alloc)?;
-        Ok(Bottom { contents })
+        let hierarchy = self.hierarchy.copy(alloc)?;
+        let places = self.places.clone()?;
+        Ok(Bottom {
+            contents,
+            hierarchy,
+            places,
+        })
     }
 
-    /// A structure with the same contents, inactive primitives among them.
+    /// A structure with the same contents, inactive primitives among them, and the same tree.
     /// (VK_COPY_ACCELERATION_STRUCTURE_MODE_COMPACT_KHR)
     pub fn compact(&self, alloc: Global) -> Result<Bottom, NoMemory>
         ensures { IfOk result (λ copy. copy ≡ self.now) }
@@ -53,6 +70,36 @@ impl Bottom {
         self.contents.bounds()
     }
 
+    /// The binary tree over the boxes of its primitives, which are numbered through all geometries
+    /// in order.
+    pub fn tree(&self) -> &Tree
+        ensures value { result.now ≡ self.now.tree }
+        ensures over { TreeOver self.now.tree (items_of self.now.geometries) }
+    {
+        self.hierarchy.tree()
+    }
+
+    /// The wide tree over its leaves, which names each by its node in the binary tree.
+    pub fn wide(&self) -> &Wide
+        ensures { WideOver result.now self.now.tree }
+    {
+        self.hierarchy.wide()
+    }
+
+    /// The places of the primitives of a leaf, by its node in the binary tree; none for another node.
+    pub fn items_of(&self, leaf: u32) -> &[PrimPlace]
+        requires { leaf < length self.now.tree.nodes }
+        ensures { result.now ≡ places_below self.now leaf }
+    {
+        match self.tree().node(leaf) {
+            Node::Leaf { first, count } => {
+                let first = first as usize;
+                &self.places[first..first + count as usize]
+            }
+            Node::Inner { .. } => &[],
+        }
+    }
+
     /// The flags of its build.
     pub fn flags(&self) -> BuildFlags
         ensures { result ≡ self.now.flags }
@@ -63,7 +110,7 @@ impl Bottom {
     /// How many geometries it has: at most 256.
     pub fn geometries(&self) -> u32
         ensures value { result ≡ length self.now.geometries }
-        ensures limits { IsContents self.now }
+        ensures limits { IsContents (without_tree self.now) }
     {
         self.contents.geometries()
     }
@@ -71,7 +118,7 @@ impl Bottom {
     /// How many primitives its geometries have together, inactive ones among them: at most 2^20.
     pub fn total(&self) -> u32
         ensures value { result ≡ total_of self.now.geometries }
-        ensures limits { IsContents self.now }
+        ensures limits { IsContents (without_tree self.now) }
     {
         let _geometries = self.contents.geometries();
         self.contents.total()

@@ -1,5 +1,5 @@
 ghost use Rattle.std.specs.Prelude.{◌≡◌, [], OnOk, OnErr, Some, None, true, option_copied};
-ghost use Rattle.ray_bottom.specs.Slots.{contents_at, has_room, Changes};
+ghost use Rattle.ray_bottom.specs.Slots.{structure_at, has_room, Changes};
 
 use crate::bottom::Bottom;
 use std::alloc::{AllocError as NoMemory, Global};
@@ -34,7 +34,7 @@ impl Bottoms {
 
     /// The structure of an id. None exactly where nothing stands under the id.
     pub fn get(&self, id: u32) -> Option<&Bottom>
-        ensures { option_copied result ≡ contents_at id self.now }
+        ensures { option_copied result ≡ structure_at id self.now }
     {
         self.slots.get(&id)?.as_ref()
     }
@@ -42,7 +42,7 @@ impl Bottoms {
     /// Makes room for an id, where there is none yet. What stands there stays. Without memory all is
     /// as before.
     pub fn make_room(&mut self, id: u32) -> Result<(), NoMemory>
-        ensures ok { OnOk result (Changes id (Some (contents_at id self.old)) self.old self.new) }
+        ensures ok { OnOk result (Changes id (Some (structure_at id self.old)) self.old self.new) }
         ensures err { OnErr result (self.new ≡ self.old) }
     {
         if !self.slots.contains_key(&id) {

@@ -4,14 +4,18 @@ ghost use Rattle.ray_bottom.specs.Contents.{has_both_fast, HasRoom, IsContents};
 ghost use Rattle.ray_bottom.specs.Builders.{with_triangles, with_boxes, IsAdded, size_of_indices};
 ghost use Rattle.ray_bottom.specs.Builders.{triangles_in, boxes_in, IsRestored};
 ghost use Rattle.ray_bottom.specs.Storing.{stored_shapes};
+ghost use Rattle.ray_bottom.specs.Trees.{items_of, without_tree};
+ghost use Rattle.ray_hierarchy.specs.Hierarchies.{IsBuilt};
 
 use crate::bottom::Bottom;
 use crate::contents::Contents;
 use crate::geometry::Geometry;
+use crate::items::{items_of, places_of};
 use crate::shapes::Shapes;
 use crate::stored::Stored;
 use ray_bytes::{BoxView, IndexView, TransformView, VertexView};
 use ray_flags::BuildFlags;
+use ray_hierarchy::Hierarchy;
 use ray_primitives::{
     BoxInfo, BuildFault, KeptBox, KeptTriangle, TriangleInfo, read_boxes, read_triangles,
 };
@@ -147,12 +151,23 @@ impl<'a> Builder<'a> {
         Ok(())
     }
 
-    /// The structure with the contents. The runtime is for trees, which aren't built yet.
-    pub fn finish<R: Threads + Sync>(self, _rt: &R) -> Result<Bottom, NoMemory>
-        ensures { IfOk result (λ bottom. bottom ≡ self.entry.contents) }
+    /// The structure with the contents. Its tree is that of its build (`IsBuilt`): by keys where the
+    /// flags prefer fast builds, else by halves. `rt` lends the threads for it.
+    pub fn finish<R: Threads + Sync>(self, rt: &R) -> Result<Bottom, NoMemory>
+        ensures contents { IfOk result (λ b. without_tree b ≡ self.entry.contents) }
+        ensures tree { let c = self.entry.contents in
+            IfOk result (λ b. IsBuilt c.flags (items_of c.geometries) b.tree) }
     {
+        let geometries = self.contents.as_slice();
+        let total = self.contents.total();
+        let _limits = self.contents.geometries();
+        let items = items_of(self.alloc, geometries, total)?;
+        let hierarchy = Hierarchy::build(rt, self.alloc, self.contents.flags(), &items)?;
+        let places = places_of(self.alloc, geometries, total, hierarchy.order())?;
         Ok(Bottom {
             contents: self.contents,
+            hierarchy,
+            places,
         })
     }
 }

@@ -4,11 +4,12 @@
 //! The layers above use these:
 //! - [`Builder`], whose calls say by `with_triangles` and `with_boxes` of `specs/Builders` which
 //!   contents it holds, or which data rule a geometry breaks first;
-//! - [`Bottom`], which contracts see as its contents by `specs/Contents`, with its accessors;
+//! - [`Bottom`], which contracts see by `specs/Trees` as its contents (`specs/Contents`) with its
+//!   box tree, with its accessors;
 //! - [`Bottoms`], the structures by their ids, with room that is made first.
 //!
 //! It stands on `ray_primitives` (how geometry is read and kept), `ray_contents`, `ray_geom`,
-//! `ray_prune` (spans), `ray_bytes` and `ray_flags`.
+//! `ray_prune` (spans), `ray_hierarchy` (box trees), `ray_bytes` and `ray_flags`.
 #![tactic(auto)]
 
 mod bottom;
@@ -16,6 +17,7 @@ mod bottoms;
 mod builder;
 mod contents;
 mod geometry;
+mod items;
 mod meet;
 mod payload;
 mod prim_place;

@@ -5,6 +5,7 @@ ghost use Rattle.ray_bottom.specs.Contents.{total_of, count_of, count_of_shapes}
 ghost use Rattle.ray_bottom.specs.Storing.{kind_number, opaque_number, format_number, index_number};
 ghost use Rattle.ray_bottom.specs.Storing.{format_of, index_size_of, element_bytes, bytes_of_words};
 ghost use Rattle.ray_bottom.specs.Storing.{geometry_words, geometry_bytes, payload_of, Appends};
+ghost use Rattle.ray_bottom.specs.Trees.{without_tree};
 
 use crate::bottom::Bottom;
 use crate::geometry::Geometry;
@@ -25,7 +26,7 @@ impl Bottom {
         alloc: Global,
         steps: &mut Steps<L>,
     ) -> Result<Vec<u8>, NoMemory>
-        ensures value { IfOk result (λ bytes. bytes.items ≡ payload_of self.now) }
+        ensures value { IfOk result (λ bytes. bytes.items ≡ payload_of (without_tree self.now)) }
         ensures cost { OnOk result (steps.new ≡ steps.old + total_of self.now.geometries) }
         ensures rising { steps.old ≤ steps.new }
     {

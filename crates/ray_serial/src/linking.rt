@@ -1,5 +1,5 @@
 ghost use Rattle.std.specs.Prelude.{◌≡◌, ◌++◌, true, OnOk, IfOk, IfErr, length};
-ghost use Rattle.ray_primitives.specs.Outcomes.{Gives};
+ghost use Rattle.ray_top.specs.Trees.{GivesTop};
 ghost use Rattle.ray_serial.specs.Form.{payload_in, instances_of_payload};
 ghost use Rattle.ray_serial.specs.InstanceBytes.{instance_parts};
 ghost use Rattle.ray_serial.specs.Meaning.{IsForm, is_top_form, HasRoom};
@@ -25,7 +25,7 @@ pub(crate) fn top_of<R: Threads + Sync>(
     requires form { IsForm bytes.now }
     requires top { is_top_form bytes.now ≡ true }
     requires limits { HasRoom bytes.now }
-    ensures value { Gives (top_in used.now bytes.now) result }
+    ensures value { GivesTop (top_in used.now bytes.now) result }
     ensures rules { IfErr (top_in used.now bytes.now) (λ fault. IsLinkRule fault.rule) }
 {
     let payload = payload_in(bytes);

@@ -2,6 +2,7 @@ ghost use Rattle.std.specs.Prelude.{◌≡◌, Some, None, [], IfOk, OnOk, IsSom
 ghost use Rattle.ray_bytes.specs.Fields.{word_at};
 ghost use Rattle.ray_bottom.specs.Builders.{builder_with};
 ghost use Rattle.ray_bottom.specs.Contents.{has_both_fast, HasRoom};
+ghost use Rattle.ray_bottom.specs.Trees.{without_tree};
 ghost use Rattle.ray_serial.specs.Heads.{kind_named, count_in, geometry_in};
 ghost use Rattle.ray_serial.specs.Rows.{geometries_in};
 ghost use Rattle.ray_serial.specs.Meaning.{with_flags, CanRestore};
@@ -23,7 +24,8 @@ pub(crate) fn restored<R: Threads + Sync>(
     requires speed { has_both_fast flags ≡ false }
     requires limits { CanRestore n row.now }
     ensures { IfOk result (λ bottom.
-        option_map (with_flags flags) (geometries_in n row.now) ≡ Some bottom) }
+        option_map (with_flags flags) (geometries_in n row.now)
+            ≡ Some (without_tree bottom)) }
 {
     let mut builder = Builder::new(alloc, flags);
     append_all(&mut builder, n, row)?;

@@ -1,5 +1,6 @@
 ghost use Rattle.std.specs.Prelude.{◌≡◌, ◌≤◌, Some, IfOk, IfErr, false, true, length};
-ghost use Rattle.ray_primitives.specs.Outcomes.{Gives};
+ghost use Rattle.ray_bottom.specs.Trees.{without_tree};
+ghost use Rattle.ray_top.specs.Trees.{GivesTop};
 ghost use Rattle.ray_serial.specs.Form.{payload_in};
 ghost use Rattle.ray_serial.specs.TopMeaning.{top_in, IsLinkRule};
 ghost use Rattle.ray_serial.specs.Meaning.{IsForm, opened, is_top_form, deserialized_in};
@@ -77,8 +78,8 @@ impl<'a> SerialView<'a> {
     /// structure is written as again is this form.
     pub fn to_bottom<R: Threads + Sync>(&self, rt: &R, alloc: Global) -> Result<Bottom, NoMemory>
         requires { is_top_form self.now ≡ false }
-        ensures value { IfOk result (λ bottom. bottom_in self.now ≡ Some bottom) }
-        ensures again { IfOk result (λ bottom. bottom_form bottom ≡ self.now) }
+        ensures value { IfOk result (λ bottom. bottom_in self.now ≡ Some (without_tree bottom)) }
+        ensures again { IfOk result (λ bottom. bottom_form (without_tree bottom) ≡ self.now) }
     {
         bottom_of(rt, alloc, self.whole())
     }
@@ -93,7 +94,7 @@ impl<'a> SerialView<'a> {
         used: &[Used],
     ) -> Result<Top, BuildFault>
         requires { is_top_form self.now ≡ true }
-        ensures value { Gives (top_in used.now self.now) result }
+        ensures value { GivesTop (top_in used.now self.now) result }
         ensures rules { IfErr (top_in used.now self.now) (λ fault. IsLinkRule fault.rule) }
     {
         top_of(rt, alloc, self.whole(), used)
@@ -114,8 +115,8 @@ fn bottom_of<R: Threads + Sync>(rt: &R, alloc: Global, bytes: &[u8]) -> Result<B
     requires form { IsForm bytes.now }
     requires bottom { is_top_form bytes.now ≡ false }
     requires limits { HasRoom bytes.now }
-    ensures value { IfOk result (λ bottom. bottom_in bytes.now ≡ Some bottom) }
-    ensures again { IfOk result (λ bottom. bottom_form bottom ≡ bytes.now) }
+    ensures value { IfOk result (λ bottom. bottom_in bytes.now ≡ Some (without_tree bottom)) }
+    ensures again { IfOk result (λ bottom. bottom_form (without_tree bottom) ≡ bytes.now) }
 {
     let payload = payload_in(bytes);
     restored(

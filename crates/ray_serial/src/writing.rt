@@ -1,5 +1,6 @@
 ghost use Rattle.std.specs.Prelude.{◌≡◌, ◌<◌, ◌≤◌, ◌^◌, ◌++◌, Some, [], IfOk, OnOk, length};
 ghost use Rattle.ray_bottom.specs.Storing.{kind_number};
+ghost use Rattle.ray_bottom.specs.Trees.{without_tree};
 ghost use Rattle.ray_serial.specs.Heads.{element_size};
 ghost use Rattle.ray_serial.specs.Meaning.{IsForm, bottom_in};
 ghost use Rattle.ray_serial.specs.Written.{long_bytes, form_size, form_bytes, bottom_form, AreOf};
@@ -16,10 +17,11 @@ use std::marker::Brand;
 /// flags of its build are flags that there are, which are below 32. (Own: the form;
 /// vkCmdCopyAccelerationStructureToMemoryKHR.)
 pub fn serialize(alloc: Global, bottom: &Bottom) -> Result<Vec<u8>, NoMemory>
-    ensures value { IfOk result (λ bytes. bytes.items ≡ bottom_form bottom.now) }
+    ensures value { IfOk result (λ bytes. bytes.items ≡ bottom_form (without_tree bottom.now)) }
     ensures form { bottom.now.flags.0 < 32 → IfOk result (λ bytes. IsForm bytes.items) }
     ensures stands { bottom.now.flags.0 < 32
-        → IfOk result (λ bytes. bottom_in bytes.items ≡ Some bottom.now) }
+        → IfOk result (λ bytes. bottom_in bytes.items
+            ≡ Some (without_tree bottom.now)) }
 {
     // The contents are within the limits.
     let _geometries = bottom.geometries();
@@ -29,7 +31,7 @@ pub fn serialize(alloc: Global, bottom: &Bottom) -> Result<Vec<u8>, NoMemory>
 // The same.
 #[tactic(auto, unfolding(crate::specs::Written::bottom_form))]
 fn bottom_form(alloc: Global, bottom: &Bottom) -> Result<Vec<u8>, NoMemory>
-    ensures { IfOk result (λ bytes. bytes.items ≡ bottom_form bottom.now) }
+    ensures { IfOk result (λ bytes. bytes.items ≡ bottom_form (without_tree bottom.now)) }
 {
     let mut steps: Steps<Brand> = Steps::zero();
     let payload = bottom.payload(alloc, &mut steps)?;
@@ -40,7 +42,7 @@ fn bottom_form(alloc: Global, bottom: &Bottom) -> Result<Vec<u8>, NoMemory>
 /// How many bytes `serialize` gives of a bottom structure.
 /// (VK_QUERY_TYPE_ACCELERATION_STRUCTURE_SERIALIZATION_SIZE_KHR; the number is our own.)
 pub fn serialized_size(bottom: &Bottom) -> u64
-    ensures { result ≡ length (bottom_form bottom.now) }
+    ensures { result ≡ length (bottom_form (without_tree bottom.now)) }
 {
     let (geometries, total) = (bottom.geometries(), bottom.total());
     let size = element_size(kind_of_all(bottom));

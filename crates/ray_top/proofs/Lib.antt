@@ -3,3 +3,4 @@ pub mod Corners
 pub mod Limits
 pub mod Counting
 pub mod Causes
+pub mod Images

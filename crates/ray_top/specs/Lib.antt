@@ -3,3 +3,4 @@ pub mod InstanceReading
 pub mod Contents
 pub mod Keeping
 pub mod Laws
+pub mod Trees

@@ -77,9 +77,16 @@ impl Placed {
         }
     }
 
+    // The id of its structure.
+    pub(crate) fn id(&self) -> u32
+        ensures { result ≡ self.now.id }
+    {
+        self.id
+    }
+
     // Its transform.
     #[tactic(auto, unfolding(crate::specs::Instances::matrix_from))]
-    fn matrix(&self) -> Matrix
+    pub(crate) fn matrix(&self) -> Matrix
         ensures { result ≡ self.now.matrix }
     {
         Matrix::from_words(self.rows).unwrap()

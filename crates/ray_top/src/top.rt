@@ -1,11 +1,15 @@
-ghost use Rattle.std.specs.Prelude.{◌≡◌, ◌≤◌, ◌^◌, IfOk, false, Some, None, length, option_map, option_copied, slice_get};
-ghost use Rattle.ray_primitives.specs.Outcomes.{Gives};
+ghost use Rattle.std.specs.Prelude.{◌≡◌, ◌≤◌, ◌<◌, ◌^◌, IfOk, false, Some, None, length, option_map, option_copied, slice_get};
 ghost use Rattle.ray_top.specs.Instances.{told_instance};
 ghost use Rattle.ray_top.specs.InstanceReading.{instances_read};
 ghost use Rattle.ray_top.specs.Contents.{top_value, top_with, top_built, top_updated};
 ghost use Rattle.ray_top.specs.Contents.{active_of, has_both_fast, IsTop};
+ghost use Rattle.ray_top.specs.Trees.{GivesTop, IsTreeBuilt, instances_below, items_of};
+ghost use Rattle.ray_top.specs.Trees.{with_tree, without_tree};
+ghost use Rattle.ray_tree.specs.Trees.{TreeOver};
+ghost use Rattle.ray_wide.specs.Wides.{WideOver};
 
 use crate::instance::Instance;
+use crate::items::items_of;
 use crate::lists::{active, copy_instances, copy_used};
 use crate::placed::{Placed, told};
 use crate::reading::read_instances;
@@ -14,13 +18,17 @@ use crate::used_index::UsedIndex;
 use ray_bytes::InstanceView;
 use ray_contents::Elements;
 use ray_flags::BuildFlags;
+use ray_hierarchy::Hierarchy;
 use ray_primitives::BuildFault;
+use ray_tree::{Node, Tree};
+use ray_wide::Wide;
 use std::alloc::{AllocError as NoMemory, Global};
 use std::marker::Model;
 use std::thread::Threads;
 
-/// A top structure that is built. Contracts see it as its contents, and beside them the structures
-/// that were in use when it was built or last updated, each with the bounds that it had then.
+/// A top structure that is built. Contracts see it as its contents, beside them the structures that
+/// were in use when it was built or last updated, each with the bounds that it had then, and its
+/// box tree.
 /// (VkAccelerationStructureKHR of the type VK_ACCELERATION_STRUCTURE_TYPE_TOP_LEVEL_KHR)
 #[derive(Drop)]
 pub struct Top {
@@ -28,26 +36,30 @@ pub struct Top {
     used: Elements<Used>,
     instances: Elements<Option<Placed>>,
     active: u32,
+    hierarchy: Hierarchy,
 }
 
 impl Model for Top {
-    ghost use Rattle.ray_top.specs.Contents.{TopValue, top_value};
-    ghost use Rattle.ray_top.specs.Keeping.{IsCounted};
+    ghost use Rattle.ray_top.specs.Contents.{top_value};
+    ghost use Rattle.ray_top.specs.Trees.{IsCountedOver, TopWithTree, with_tree};
 
-    ghost Value = { TopValue };
+    ghost Value = { TopWithTree };
 
-    ghost view = { λ t. top_value t.flags t.used t.instances };
+    ghost view = { λ t. with_tree (top_value t.flags t.used t.instances) t.hierarchy };
 
-    ghost invariant = { λ t. IsCounted (top_value t.flags t.used t.instances) t.active };
+    ghost invariant = { λ t. IsCountedOver
+        (with_tree (top_value t.flags t.used t.instances) t.hierarchy) t.active };
 }
 
 impl Top {
     /// The structure of the first `count` instances of the view, at most 2^16. `flags` doesn't ask
     /// both for fast traces and for fast builds. Data comes exactly where one of X5 to X8 is
-    /// broken, and is the first: by instance, and for one instance the least. The runtime is for
-    /// trees, which aren't built yet. (VK_BUILD_ACCELERATION_STRUCTURE_MODE_BUILD_KHR)
+    /// broken, and is the first: by instance, and for one instance the least. Its tree is over the
+    /// least world boxes of the images of the corners of their structures' bounds, by keys where the
+    /// flags prefer fast builds, else by halves (`IsBuilt`); `rt` lends the threads for it.
+    /// (VK_BUILD_ACCELERATION_STRUCTURE_MODE_BUILD_KHR)
     pub fn build<R: Threads + Sync>(
-        _rt: &R,
+        rt: &R,
         alloc: Global,
         flags: BuildFlags,
         view: InstanceView<'_>,
@@ -56,50 +68,56 @@ impl Top {
     ) -> Result<Top, BuildFault>
         requires speed { has_both_fast flags ≡ false }
         requires count { count ≤ 2 ^ 16 }
-        ensures value { Gives (top_built flags used.now view.entry count) result }
+        ensures value { GivesTop (top_built flags used.now view.entry count) result }
         ensures count { IfOk result (λ t. length t.contents.instances ≡ count) }
+        ensures tree { IfOk result IsTreeBuilt }
     {
-        read_top(alloc, flags, &view, count, used, None)
+        read_top(rt, alloc, flags, &view, count, used, None)
     }
 
     /// An update of this structure: one of its flags, with the instances that the view holds, which
     /// are as many, and are compared with the old ones by X9. Data comes exactly where one of X5 to
-    /// X9 is broken, and is the first. (VK_BUILD_ACCELERATION_STRUCTURE_MODE_UPDATE_KHR)
+    /// X9 is broken, and is the first. Its tree is built anew. (VK_BUILD_ACCELERATION_STRUCTURE_MODE_UPDATE_KHR)
     pub fn update<R: Threads + Sync>(
         &self,
-        _rt: &R,
+        rt: &R,
         alloc: Global,
         view: InstanceView<'_>,
         count: u32,
         used: &[Used],
     ) -> Result<Top, BuildFault>
         requires { count ≡ length self.now.contents.instances }
-        ensures value { Gives (top_updated self.now used.now view.entry count) result }
+        ensures value { GivesTop (top_updated (without_tree self.now) used.now view.entry count)
+            result }
         ensures count { IfOk result (λ t. length t.contents.instances ≡ count) }
+        ensures tree { IfOk result IsTreeBuilt }
     {
         let olds = self.instances.as_slice();
-        read_top(alloc, self.flags, &view, count, used, Some(olds))
+        read_top(rt, alloc, self.flags, &view, count, used, Some(olds))
     }
 
-    /// A structure with the same contents, and with the same structures in use beside them.
+    /// A structure with the same contents, the same structures in use beside them, and the same
+    /// tree.
     /// (VK_COPY_ACCELERATION_STRUCTURE_MODE_CLONE_KHR)
     pub fn copy(&self, alloc: Global) -> Result<Top, NoMemory>
         ensures { IfOk result (λ copy. copy ≡ self.now) }
     {
         let used = copy_used(alloc, self.used.as_slice())?;
         let instances = copy_instances(alloc, self.instances.as_slice())?;
+        let hierarchy = self.hierarchy.copy(alloc)?;
         Ok(Top {
             flags: self.flags,
             used,
             instances,
             active: self.active,
+            hierarchy,
         })
     }
 
     /// How many instances it has, inactive ones among them: at most 2^16.
     pub fn len(&self) -> u32
         ensures value { result ≡ length self.now.contents.instances }
-        ensures limits { IsTop self.now }
+        ensures limits { IsTop (without_tree self.now) }
     {
         self.instances.as_slice().len() as u32
     }
@@ -111,6 +129,36 @@ impl Top {
         match self.instances.as_slice().get(i as usize) {
             Some(instance) => Some(told(instance)),
             None => None,
+        }
+    }
+
+    /// The binary tree over the boxes of its instances in the world, by their numbers. An instance
+    /// that is inactive, or whose structure has no bounds, has none.
+    pub fn tree(&self) -> &Tree
+        ensures value { result.now ≡ self.now.tree }
+        ensures over { TreeOver self.now.tree (items_of (without_tree self.now)) }
+    {
+        self.hierarchy.tree()
+    }
+
+    /// The wide tree over its leaves, which names each by its node in the binary tree.
+    pub fn wide(&self) -> &Wide
+        ensures { WideOver result.now self.now.tree }
+    {
+        self.hierarchy.wide()
+    }
+
+    /// The numbers of the instances of a leaf, by its node in the binary tree; none for another node.
+    pub fn items_of(&self, leaf: u32) -> &[u32]
+        requires { leaf < length self.now.tree.nodes }
+        ensures { result.now ≡ instances_below self.now leaf }
+    {
+        match self.tree().node(leaf) {
+            Node::Leaf { first, count } => {
+                let first = first as usize;
+                &self.hierarchy.order()[first..first + count as usize]
+            }
+            Node::Inner { .. } => &[],
         }
     }
 
@@ -130,7 +178,8 @@ impl Top {
 }
 
 // The structure of the first instances of a view, as an update of old ones where there are some.
-fn read_top(
+fn read_top<R: Threads + Sync>(
+    rt: &R,
     alloc: Global,
     flags: BuildFlags,
     view: &InstanceView<'_>,
@@ -140,20 +189,29 @@ fn read_top(
 ) -> Result<Top, BuildFault>
     requires speed { has_both_fast flags ≡ false }
     requires count { count ≤ 2 ^ 16 }
-    ensures value { Gives (top_with flags used.now (instances_read used.now view.now
+    ensures value { GivesTop (top_with flags used.now (instances_read used.now view.now
         (option_copied olds.entry) count)) result }
     ensures count { IfOk result (λ t. length t.contents.instances ≡ count) }
+    ensures tree { IfOk result IsTreeBuilt }
 {
     let index = UsedIndex::new(alloc, used)?;
     let instances = read_instances(alloc, &index, view, olds, count)?;
+    let items = items_of(alloc, &index, instances.as_slice())?;
     let used = copy_used(alloc, used)?;
-    Ok(counted(flags, used, instances))
+    let hierarchy = Hierarchy::build(rt, alloc, flags, &items)?;
+    Ok(counted(flags, used, instances, hierarchy))
 }
 
 // The structure of these parts.
-fn counted(flags: BuildFlags, used: Elements<Used>, instances: Elements<Option<Placed>>) -> Top
-    requires { IsTop (top_value flags used instances) }
-    ensures { result ≡ top_value flags used instances }
+fn counted(
+    flags: BuildFlags,
+    used: Elements<Used>,
+    instances: Elements<Option<Placed>>,
+    hierarchy: Hierarchy,
+) -> Top
+    requires limits { IsTop (top_value flags used instances) }
+    requires over { TreeOver hierarchy (items_of (top_value flags used instances)) }
+    ensures { result ≡ with_tree (top_value flags used instances) hierarchy }
 {
     let active = active(instances.as_slice());
     Top {
@@ -161,5 +219,6 @@ fn counted(flags: BuildFlags, used: Elements<Used>, instances: Elements<Option<P
         used,
         instances,
         active,
+        hierarchy,
     }
 }

@@ -4,6 +4,8 @@ ghost use Rattle.std.specs.Option.{option_to_list};
 ghost use Rattle.ray_contents.specs.Bounds.{KeepsBounds};
 ghost use Rattle.ray_flags.specs.Admission.{AsksBoth, ForcesBoth};
 ghost use Rattle.ray_bottom.specs.Contents.{bounds_of};
+ghost use Rattle.ray_bottom.specs.Trees as bottom_trees;
+ghost use Rattle.ray_top.specs.Trees.{without_tree};
 ghost use Rattle.ray_walk.specs.Candidates.{active_instance, found_at, found_in, found_in_geometry};
 ghost use Rattle.ray_walk.specs.Candidates.{found_in_instance, found_in_structure, joined};
 ghost use Rattle.ray_walk.specs.Standing.{AreStanding, structures_in};
@@ -29,7 +31,7 @@ pub(crate) fn gather<L: Ledger>(
     mask: u8,
     steps: &mut Steps<L>,
 ) -> Result<Vec<Found>, NoMemory>
-    requires standing { AreStanding top.now (structures_in bottoms.now) }
+    requires standing { AreStanding (without_tree top.now) (structures_in bottoms.now) }
     requires flags_agree { ¬ AsksBoth flags }
     ensures value { IfOk result (λ found. found.items
         ≡ found_in top.now.contents (structures_in bottoms.now) ray.now flags mask) }
@@ -102,7 +104,7 @@ fn add_structure<L: Ledger>(
     requires instance_agrees { ¬ ForcesBoth instance.now.flags }
     requires flags_agree { ¬ AsksBoth flags }
     ensures value { OnOk result (found.new.items ≡ found.old.items
-        ++ found_in_structure ray.now flags number (instance_of instance.now) (Some bottom.now)) }
+        ++ found_in_structure ray.now flags number (instance_of instance.now) (Some (bottom_trees.without_tree bottom.now))) }
     ensures rising { steps.old ≤ steps.new }
 {
     for geometry in 0..bottom.geometries() {

@@ -2,6 +2,7 @@ ghost use Rattle.std.specs.Prelude.{◌≡◌, ◌+◌, IfSome, All};
 ghost use Rattle.ray_contents.specs.Bounds.{KeepsBounds};
 ghost use Rattle.ray_bottom.specs.Contents.{bounds_of};
 ghost use Rattle.ray_bottom.specs.Meeting.{meet_of};
+ghost use Rattle.ray_top.specs.Trees.{without_tree};
 ghost use Rattle.ray_walk.specs.Laws.{CandidatesAreOne, CandidatesAreSo, FacesAreSo};
 ghost use Rattle.ray_walk.specs.Laws.{CandidatesAgree, KeepsAllNumbers};
 ghost use Rattle.ray_walk.specs.Standing.{AreStanding, IsHere, structures_in};
@@ -47,7 +48,7 @@ pub fn numbers_law<L: Ledger>(
 /// that were given, the structure of each active instance does. (Own.)
 pub fn standing_law(top: &Top, _bottoms: &Bottoms)
     requires { All (IsHere (structures_in _bottoms.now)) top.now.used }
-    ensures { AreStanding top.now (structures_in _bottoms.now) }
+    ensures { AreStanding (without_tree top.now) (structures_in _bottoms.now) }
 {
     let _limits = top.len();
 }

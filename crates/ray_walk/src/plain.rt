@@ -1,5 +1,6 @@
 ghost use Rattle.std.specs.Prelude.{◌≡◌, ◌≤◌, IfOk};
 ghost use Rattle.ray_flags.specs.Admission.{AsksBoth};
+ghost use Rattle.ray_top.specs.Trees.{without_tree};
 ghost use Rattle.ray_walk.specs.Candidates.{in_key_order, trace_answer};
 ghost use Rattle.ray_walk.specs.Standing.{AreStanding, structures_in};
 ghost use Rattle.ray_walk.specs.Telling.{AreApart};
@@ -31,7 +32,7 @@ pub fn trace_plain<C: Client, L: Ledger>(
     client: &C,
     steps: &mut Steps<L>,
 ) -> Result<Option<Commit>, NoMemory>
-    requires standing { AreStanding top.now (structures_in bottoms.now) }
+    requires standing { AreStanding (without_tree top.now) (structures_in bottoms.now) }
     requires flags_agree { ¬ AsksBoth flags }
     ensures answer { IfOk result (λ answer. answer ≡ trace_answer (C.meaning client.now)
         top.now.contents (structures_in bottoms.now) ray.now number flags mask) }

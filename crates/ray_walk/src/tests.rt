@@ -1,5 +1,7 @@
 ghost use Rattle.std.specs.Prelude.{◌≡◌, ◌==◌, if◌then◌else◌, IfOk, Some};
 ghost use Rattle.ray_bottom.specs.Slots.{contents_at};
+ghost use Rattle.ray_bottom.specs.Trees as bottom_trees;
+ghost use Rattle.ray_top.specs.Trees.{without_tree};
 ghost use Rattle.ray_query.specs.declared.decision.Decision.TheVariants.{Confirm, Ignore};
 ghost use Rattle.ray_walk.specs.Standing.{AreStanding, structures_in};
 
@@ -85,7 +87,8 @@ fn one_box<R: AllocGlobal + Threads + Sync>(rt: &R, words: &[i32]) -> Result<Bot
 
 // This structure alone, under the id 3.
 fn alone(alloc: Global, bottom: Bottom) -> Result<Bottoms, AllocError>
-    ensures { IfOk result (λ bottoms. contents_at 3 bottoms ≡ Some bottom) }
+    ensures { IfOk result (λ bottoms. contents_at 3 bottoms
+        ≡ Some (bottom_trees.without_tree bottom)) }
 {
     let mut bottoms = Bottoms::new(alloc);
     bottoms.make_room(3)?;
@@ -114,7 +117,7 @@ fn scene<R: AllocGlobal + Threads + Sync>(
     words: &[i32],
     count: u8,
 ) -> Result<(Top, Bottoms), BuildFault>
-    ensures { IfOk result (λ scene. AreStanding scene.0 (structures_in scene.1)) }
+    ensures { IfOk result (λ scene. AreStanding (without_tree scene.0) (structures_in scene.1)) }
 {
     let used = [Used {
         id: 3,
@@ -139,7 +142,7 @@ fn traced<R: AllocGlobal, C: Client>(
     mask: u8,
     client: &C,
 ) -> Result<Told, NoMemory>
-    requires { AreStanding scene.now.0 (structures_in scene.now.1) }
+    requires { AreStanding (without_tree scene.now.0) (structures_in scene.now.1) }
 {
     let mut steps: Steps<Brand> = Steps::zero();
     let down = Vec3 { x: 0, y: 0, z: -1 };
@@ -272,7 +275,7 @@ fn generates_a_box(rt: HostRuntime) -> Result<(), Fail> {
 
 // What a function commits that confirms the offer of number 1 alone.
 fn traced_by_second<R: AllocGlobal>(rt: &R, placed: &(Top, Bottoms)) -> Result<Told, AllocError>
-    requires { AreStanding placed.now.0 (structures_in placed.now.1) }
+    requires { AreStanding (without_tree placed.now.0) (structures_in placed.now.1) }
 {
     let function: Function = Box::new(
         rt.alloc(),

@@ -2,7 +2,7 @@ use Rattle.std.proofs.Common.{ℕ, List, Result, ◌≡◌, false, length, ap, s
 use Rattle.ray_bytes.specs.Views.{Row}
 use Rattle.ray_bytes.specs.declared.data_fault.DataFault.{DataFault}
 use Rattle.ray_flags.specs.declared.build_flags.BuildFlags.{BuildFlags}
-use Rattle.ray_primitives.specs.Outcomes.{Gives}
+use Rattle.ray_top.specs.Trees.{GivesTop}
 use Rattle.ray_top.specs.Contents.{TopValue, has_both_fast, top_built}
 use Rattle.ray_serial.specs.InstanceBytes.{instance_parts}
 use Rattle.ray_serial.specs.Form.{instances_of_payload, flags_of_payload}
@@ -41,7 +41,7 @@ returns-clause-value g c =
     let buffer = c.as_slice.ensures.value ∙ (c.in_ok-buffer.ensures ∙ ap (put_parts c.args.bytes.now) parts) in
     let row : List ℕ → Row = λ bytes. record { bytes = bytes; start = 0 } in
     let view = c.new-view.ensures ∙ ap row buffer in
-    let P : Result TopValue DataFault → Type 0 = λ built. Gives built c.build.result in
+    let P : Result TopValue DataFault → Type 0 = λ built. GivesTop built c.build.result in
     subst P
     ((λ i. top_built (flags i) c.args.used.now (view i) (length (parts i)))
     ∙ top_same c.args.used.now c.args.bytes.now (record { each = λ i. let f = c.type_inv.bytes i in omega arith }) c.requires.form c.requires.top)

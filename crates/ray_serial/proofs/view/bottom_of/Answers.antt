@@ -2,6 +2,7 @@ use Rattle.std.proofs.Common.{◌≡◌, ◌<◌, ℕ, List, Some, false, option
 use Rattle.std.specs.Prelude.{slice_index}
 use Rattle.ray_flags.specs.declared.build_flags.BuildFlags.{BuildFlags}
 use Rattle.ray_bottom.specs.Contents.{has_both_fast}
+use Rattle.ray_bottom.specs.Trees.{without_tree}
 use Rattle.ray_serial.specs.Rows.{geometries_in}
 use Rattle.ray_serial.specs.Form.{payload_in, flags_of_payload, geometry_count, row_of}
 use Rattle.ray_serial.specs.Meaning.{with_flags, CanRestore, bottom_in}
@@ -34,16 +35,16 @@ returns-clause-value g c =
     let flags = sym (c.flags_of_payload.ensures ∙ ap flags_of_payload c.payload_in-payload.ensures.value) in
     let count = sym (c.geometry_count.ensures ∙ ap geometry_count c.payload_in-payload.ensures.value) in
     let row = sym (c.row_of.ensures ∙ ap row_of c.payload_in-payload.ensures.value) in
-    IfOk-then (λ b. option_map (with_flags c.flags_of_payload.result) (geometries_in c.geometry_count.result c.row_of.result.now) ≡ Some b)
-    (λ b. bottom_in c.args.bytes.now ≡ Some b) c.restored.result
-    (λ b e. restored_in c.args.bytes.now b ((λ i. option_map (with_flags (flags i)) (geometries_in (count i) (row i))) ∙ e)) c.restored.ensures
+    IfOk-then (λ b. option_map (with_flags c.flags_of_payload.result) (geometries_in c.geometry_count.result c.row_of.result.now) ≡ Some (without_tree b))
+    (λ b. bottom_in c.args.bytes.now ≡ Some (without_tree b)) c.restored.result
+    (λ b e. restored_in c.args.bytes.now (without_tree b) ((λ i. option_map (with_flags (flags i)) (geometries_in (count i) (row i))) ∙ e)) c.restored.ensures
 
 pub returns-clause-again : goal.returns-clause-again
 returns-clause-again g c =
     let flags = sym (c.flags_of_payload.ensures ∙ ap flags_of_payload c.payload_in-payload.ensures.value) in
     let count = sym (c.geometry_count.ensures ∙ ap geometry_count c.payload_in-payload.ensures.value) in
     let row = sym (c.row_of.ensures ∙ ap row_of c.payload_in-payload.ensures.value) in
-    IfOk-then (λ b. option_map (with_flags c.flags_of_payload.result) (geometries_in c.geometry_count.result c.row_of.result.now) ≡ Some b)
-    (λ b. bottom_form b ≡ c.args.bytes.now) c.restored.result
-    (λ b e. restored_again c.args.bytes.now b (fits c.args.bytes.now (λ i. let f = c.type_inv.bytes i in omega arith)) c.requires.form c.requires.bottom
+    IfOk-then (λ b. option_map (with_flags c.flags_of_payload.result) (geometries_in c.geometry_count.result c.row_of.result.now) ≡ Some (without_tree b))
+    (λ b. bottom_form (without_tree b) ≡ c.args.bytes.now) c.restored.result
+    (λ b e. restored_again c.args.bytes.now (without_tree b) (fits c.args.bytes.now (λ i. let f = c.type_inv.bytes i in omega arith)) c.requires.form c.requires.bottom
     ((λ i. option_map (with_flags (flags i)) (geometries_in (count i) (row i))) ∙ e)) c.restored.ensures

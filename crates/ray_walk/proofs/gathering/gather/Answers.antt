@@ -1,4 +1,5 @@
 use Rattle.std.proofs.Common.{◌∙◌, sym, ap, arith}
+use Rattle.ray_top.specs.Trees.{without_tree}
 use Rattle.ray_walk.specs.Candidates.{found_in_instance}
 use Rattle.ray_walk.specs.Standing.{structures_in}
 use Rattle.ray_walk.proofs.Joined.{joined-zero, joined_first}
@@ -10,7 +11,7 @@ loop-number-init g c = record { value = c.new-found.ensures.items ∙ sym (joine
 
 pub add_instance-requires-clause-placeable : goal.add_instance-requires-clause-placeable
 add_instance-requires-clause-placeable g c =
-    placeable c.args.top.now (structures_in c.args.bottoms.now) c.loop-number.number c.active-instance.result
+    placeable (without_tree c.args.top.now) (structures_in c.args.bottoms.now) c.loop-number.number c.active-instance.result
     c.len-number-end.ensures.limits c.requires.standing c.active-instance.ensures
 
 pub loop-number-preserved : goal.loop-number-preserved

@@ -1,0 +1,48 @@
+-- The places of primitives, geometry by geometry.
+use Rattle.std.proofs.Common.{ℕ, ◌≡◌, ◌+◌, ◌++◌, ◌<◌, ◌≤◌, List, [], ◌∷◌, length, take, map, get_or, refl, sym, ap, ◌∙◌, arith, append_assoc}
+use Rattle.std.specs.List.{range_with_len}
+use Rattle.std.proofs.lemmas.List.Concat.{length-flat_map}
+use Rattle.std.proofs.lemmas.Grind.{common_steps}
+use Rattle.std.proofs.lemmas.List.Sums.{sum_by-le-sum_by}
+use Rattle.std.proofs.lemmas.List.{take_more, append-nil, length-map, length-take}
+use Rattle.ray_bottom.specs.declared.geometry.Geometry.{Geometry}
+use Rattle.ray_bottom.specs.declared.prim_place.PrimPlace.{PrimPlace}
+use Rattle.ray_primitives.specs.Primitives.{box_of_triangle}
+use Rattle.ray_bottom.specs.declared.shapes.Shapes.{Shapes}
+use Rattle.ray_bottom.specs.declared.shapes.Shapes.TheVariants.{Triangles, Boxes}
+use Rattle.ray_bottom.specs.Contents.{count_of, count_of_shapes, total_of}
+use Rattle.ray_bottom.specs.Trees.{place_of, places_from, items_of, items_of_shapes}
+
+-- the places of one geometry
+abbrev own : ℕ → Geometry → List PrimPlace
+own k g = map (place_of k) (range_with_len 0 (count_of g))
+
+-- those of one geometry more stand behind the others
+pub places-last : (from : ℕ) (gs : List Geometry) (g : Geometry) → places_from from (gs ++ g ∷ []) ≡ places_from from gs ++ own (from + length gs) g
+places-last from [] g = append-nil (own from g) ∙ ap (λ k. own k g) (omega arith)
+places-last from (f ∷ gs) g =
+    ap (λ ps. own from f ++ ps) (places-last (from + 1) gs g)
+    ∙ (sym (append_assoc (own from f) (places_from (from + 1) gs) (own ((from + 1) + length gs) g))
+    ∙ ap (λ k. places_from from (f ∷ gs) ++ own k g) (omega arith))
+
+count_taken : (gs : List Geometry) (k : ℕ) → k < length gs → 0 + length (take k gs) ≡ k
+count_taken gs k below = let many = length-take k gs in grind (arith, common_steps)
+
+pub places_more : (gs : List Geometry) (k : ℕ) (d : Geometry) (ps qs : List PrimPlace) → k < length gs → ps ≡ places_from 0 (take k gs)
+    → qs ≡ ps ++ own k (get_or gs k d) → qs ≡ places_from 0 (take (k + 1) gs)
+places_more gs k d ps qs below so_far more =
+    more
+    ∙ (ap (λ xs. xs ++ own k (get_or gs k d)) so_far
+    ∙ (ap (λ n. places_from 0 (take k gs) ++ own n (get_or gs k d)) (sym (count_taken gs k below))
+    ∙ (sym (places-last 0 (take k gs) (get_or gs k d)) ∙ ap (λ xs. places_from 0 xs) (sym (take_more gs k d below)))))
+
+-- there are as many items as primitives
+items_le : (s : Shapes) → length (items_of_shapes s) ≤ count_of_shapes s
+items_le (Triangles format size ts) = let many = length-map ts box_of_triangle in omega arith
+items_le (Boxes bs) = omega arith
+
+pub items-few : (gs : List Geometry) → length (items_of gs) ≤ total_of gs
+items-few gs =
+    let many = length-flat_map (λ (g : Geometry). items_of_shapes g.shapes) gs in
+    let le = sum_by-le-sum_by (λ (g : Geometry). length (items_of_shapes g.shapes)) count_of gs (λ g. items_le g.shapes) in
+    omega arith

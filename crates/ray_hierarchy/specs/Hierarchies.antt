@@ -1,0 +1,31 @@
+-- How the box tree of a structure is built. (Own; which builder is taken says
+-- VK_BUILD_ACCELERATION_STRUCTURE_PREFER_FAST_BUILD_BIT_KHR.)
+use Rattle.std.specs.Prelude.{◌≡◌, ◌≤◌, ◌^◌, ℕ, true, false, Option, List, length}
+use Rattle.ray_geom.specs.Boxes.{BoxValue}
+use Rattle.ray_flags.specs.declared.build_flags.BuildFlags.{BuildFlags}
+use Rattle.ray_flags.specs.Flags.{build_has, PreferFastBuild}
+use Rattle.ray_tree.specs.Shapes.{levels, AreHalves}
+use Rattle.ray_tree.specs.Trees.{TreeValue, TreeOver, shape_at}
+use Rattle.ray_morton.specs.KeyOrder.{IsInKeyOrder, items_below}
+use Rattle.ray_morton.specs.Cuts.{AreCut}
+use Rattle.ray_wide.specs.Wides.{WideValue, WideOver}
+
+-- a tree by keys: its items, from the leftmost leaf on, are in rising order of their keys, and are cut by them
+pub record IsByKeys (items : List (Option BoxValue)) (tree : TreeValue) : Type 0 where
+  pub rising : IsInKeyOrder items (items_below tree.order (shape_at tree 0))
+  pub cut : AreCut items tree.order (shape_at tree 0)
+
+-- the tree of a build with these flags: one over the items, by keys where the flags prefer fast builds and else by halves
+pub record IsBuilt (flags : BuildFlags) (items : List (Option BoxValue)) (tree : TreeValue) : Type 0 where
+  pub over : TreeOver tree items
+  pub low : levels (shape_at tree 0) ≤ 96
+  pub fast : build_has flags PreferFastBuild ≡ true → IsByKeys items tree
+  pub slow : build_has flags PreferFastBuild ≡ false → AreHalves (shape_at tree 0)
+
+-- ---- words of private types alone
+
+-- what stands beside a binary tree: a wide tree over its leaves, and the items' numbers by their places
+pub record IsKept (tree : TreeValue) (wide : WideValue) (order : List ℕ) : Type 0 where
+  pub wide_is : WideOver wide tree
+  pub order_is : order ≡ tree.order
+  pub few : length order ≤ 2 ^ 20

@@ -1,0 +1,138 @@
+ghost use Rattle.std.specs.Prelude.{◌≡◌, ◌≤◌, ◌^◌, IfOk, length};
+ghost use Rattle.ray_tree.specs.Trees.{active_of};
+ghost use Rattle.ray_wide.specs.Wides.{WideOver};
+ghost use Rattle.ray_hierarchy.specs.Hierarchies.{IsBuilt};
+
+use bitflags::Flags;
+use ray_flags::BuildFlags;
+use ray_geom::Box3;
+use ray_morton::build_fast;
+use ray_tree::{Tree, build_median};
+use ray_wide::{Wide, collapse};
+use std::alloc::{AllocError as NoMemory, Global};
+use std::marker::Model;
+use std::thread::Threads;
+
+/// A binary tree over the boxes of items, with the wide tree over its leaves. Contracts see it as the
+/// binary tree. (Own.)
+#[derive(Drop)]
+pub struct Hierarchy {
+    tree: Tree,
+    wide: Wide,
+    order: Vec<u32>,
+}
+
+impl Model for Hierarchy {
+    ghost use Rattle.ray_tree.specs.Trees.{TreeValue};
+    ghost use Rattle.ray_hierarchy.specs.Hierarchies.{IsKept};
+
+    ghost Value = { TreeValue };
+
+    ghost view = { λ h. h.tree };
+
+    ghost invariant = { λ h. IsKept h.tree h.wide h.order.items };
+}
+
+impl Hierarchy {
+    /// The trees over items, which are at most 2^20: by keys where the flags prefer fast builds, and
+    /// else by halves. `rt` lends the threads to sort keys. (Own; the flag is
+    /// VK_BUILD_ACCELERATION_STRUCTURE_PREFER_FAST_BUILD_BIT_KHR.)
+    ///
+    /// # Errors
+    ///
+    /// For want of memory alone.
+    pub fn build<R: Threads + Sync>(
+        rt: &R,
+        alloc: Global,
+        flags: BuildFlags,
+        items: &[Option<Box3>],
+    ) -> Result<Hierarchy, NoMemory>
+        requires { length items.now ≤ 2 ^ 20 }
+        ensures { IfOk result (IsBuilt flags items.now) }
+    {
+        let tree = built(rt, alloc, flags, items)?;
+        let places = count_active(items);
+        Hierarchy::of(alloc, tree, places)
+    }
+
+    // The trees of a binary tree with so many places.
+    fn of(alloc: Global, tree: Tree, places: usize) -> Result<Hierarchy, NoMemory>
+        requires all { places ≡ length tree.order }
+        requires few { places ≤ 2 ^ 20 }
+        ensures { IfOk result (λ h. h ≡ tree) }
+    {
+        let wide = collapse(alloc, &tree)?;
+        let order = order_of(alloc, &tree, places)?;
+        Ok(Hierarchy { tree, wide, order })
+    }
+
+    /// The same trees once more; which nodes the wide tree has is free.
+    ///
+    /// # Errors
+    ///
+    /// For want of memory alone.
+    pub fn copy(&self, alloc: Global) -> Result<Hierarchy, NoMemory>
+        ensures { IfOk result (λ h. h ≡ self.now) }
+    {
+        let tree = self.tree.copy()?;
+        Hierarchy::of(alloc, tree, self.order.len())
+    }
+
+    /// The binary tree.
+    pub fn tree(&self) -> &Tree
+        ensures { result.now ≡ self.now }
+    {
+        &self.tree
+    }
+
+    /// The wide tree over its leaves.
+    pub fn wide(&self) -> &Wide
+        ensures { WideOver result.now self.now }
+    {
+        &self.wide
+    }
+
+    /// The numbers of the items in the order of their places, which the leaves name.
+    pub fn order(&self) -> &[u32]
+        ensures { result.now ≡ self.now.order }
+    {
+        &self.order
+    }
+}
+
+// The binary tree of the builder that the flags name.
+fn built<R: Threads + Sync>(
+    rt: &R,
+    alloc: Global,
+    flags: BuildFlags,
+    items: &[Option<Box3>],
+) -> Result<Tree, NoMemory>
+    requires { length items.now ≤ 2 ^ 20 }
+    ensures { IfOk result (IsBuilt flags items.now) }
+{
+    if flags.contains(BuildFlags::PREFER_FAST_BUILD) {
+        build_fast(rt, alloc, items)
+    } else {
+        build_median(alloc, items)
+    }
+}
+
+// How many items are active.
+fn count_active(items: &[Option<Box3>]) -> usize
+    ensures { result ≡ active_of items.now }
+{
+    items.iter().filter(|item| item.is_some()).count()
+}
+
+// The items' numbers by their places, of which there are so many.
+fn order_of(alloc: Global, tree: &Tree, places: usize) -> Result<Vec<u32>, NoMemory>
+    requires all { places ≡ length tree.now.order }
+    requires few { places ≤ 2 ^ 20 }
+    ensures { IfOk result (λ v. v.items ≡ tree.now.order) }
+{
+    let mut order = Vec::with_capacity(alloc, places)?;
+    for at in 0..places as u32 {
+        order.push(tree.item(at))?;
+    }
+    Ok(order)
+}
