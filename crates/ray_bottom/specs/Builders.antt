@@ -16,12 +16,24 @@ use Rattle.ray_bottom.specs.declared.geometry.Geometry.{Geometry}
 use Rattle.ray_bottom.specs.declared.shapes.Shapes.{Shapes}
 use Rattle.ray_bottom.specs.declared.shapes.Shapes.TheVariants as shapes
 use Rattle.ray_bottom.specs.Contents.{ContentsValue, with_geometry}
-use Rattle.ray_bottom.specs.Trees.{BottomWithTree}
+use Rattle.ray_bottom.specs.Trees.{BottomWithTree, without_tree}
 
--- a builder: the contents so far, and the structure that is updated, if one is
+-- a builder: the contents so far, and those of the structure that is updated, if one is
 pub record BuilderValue : Type 0 where
   pub contents : ContentsValue
+  pub replaced : Option ContentsValue
+
+-- the same with the box tree of the structure that is updated
+pub record BuilderWithTree : Type 0 where
+  pub contents : ContentsValue
   pub replaced : Option BottomWithTree
+
+abbrev pub bare : BuilderWithTree → BuilderValue
+bare b = record { contents = b.contents; replaced = option_map without_tree b.replaced }
+
+-- a builder of a new structure
+abbrev pub IsNew : BuilderWithTree → Type 0
+IsNew b = (bare b).replaced ≡ None
 
 -- ---- the old geometry
 

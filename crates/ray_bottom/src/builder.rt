@@ -1,7 +1,8 @@
 ghost use Rattle.std.specs.Prelude.{◌≡◌, None, Some, [], IfOk, IsSome, option_copied, option_and_then, length, slice_get, false};
 ghost use Rattle.ray_flags.specs.declared.kind.Kind.TheVariants.{Triangle, Aabb};
 ghost use Rattle.ray_bottom.specs.Contents.{has_both_fast, HasRoom, IsContents};
-ghost use Rattle.ray_bottom.specs.Builders.{with_triangles, with_boxes, IsAdded, size_of_indices};
+ghost use Rattle.ray_bottom.specs.Builders.{bare, with_triangles, with_boxes, IsAdded};
+ghost use Rattle.ray_bottom.specs.Builders.{IsNew, size_of_indices};
 ghost use Rattle.ray_bottom.specs.Builders.{triangles_in, boxes_in, IsRestored};
 ghost use Rattle.ray_bottom.specs.Storing.{stored_shapes};
 ghost use Rattle.ray_bottom.specs.Trees.{items_of, without_tree};
@@ -34,9 +35,9 @@ pub struct Builder<'a> {
 
 impl<'a> Model for Builder<'a> {
     ghost use Rattle.std.specs.Prelude.{option_copied};
-    ghost use Rattle.ray_bottom.specs.Builders.{BuilderValue};
+    ghost use Rattle.ray_bottom.specs.Builders.{BuilderWithTree};
 
-    ghost Value = { BuilderValue };
+    ghost Value = { BuilderWithTree };
 
     ghost view = { λ b. record {
       contents = b.contents;
@@ -93,8 +94,9 @@ impl<'a> Builder<'a> {
     ) -> Result<(), BuildFault>
         requires room { HasRoom Triangle info.now.count self.old.contents.geometries }
         requires size { info.now.index_size ≡ size_of_indices indices }
-        ensures { IsAdded self.old (with_triangles self.old info.now vertices.entry indices.entry
-            transform.entry) self.new result }
+        ensures added { IsAdded (bare self.old) (with_triangles (bare self.old) info.now
+            vertices.entry indices.entry transform.entry) (bare self.new) result }
+        ensures kept { self.new.replaced ≡ self.old.replaced }
     {
         let geometry = self.contents.geometries();
         let olds = old_triangles(self.replaced, geometry);
@@ -119,7 +121,9 @@ impl<'a> Builder<'a> {
     #[tactic(auto, unfolding(crate::specs::Builders::with_boxes))]
     pub fn boxes(&mut self, info: &BoxInfo, boxes: BoxView<'_>) -> Result<(), BuildFault>
         requires { HasRoom Aabb info.now.count self.old.contents.geometries }
-        ensures { IsAdded self.old (with_boxes self.old info.now boxes.entry) self.new result }
+        ensures added { IsAdded (bare self.old) (with_boxes (bare self.old) info.now boxes.entry)
+            (bare self.new) result }
+        ensures kept { self.new.replaced ≡ self.old.replaced }
     {
         let geometry = self.contents.geometries();
         let olds = old_boxes(self.replaced, geometry);
@@ -135,13 +139,14 @@ impl<'a> Builder<'a> {
     /// are at most 256, all of one kind, with at most 2^20 primitives together; and it stands for a
     /// geometry, as [`Stored::is_sound`] says. Without memory the builder is as before.
     pub fn stored(&mut self, from: Stored<'_>) -> Result<(), NoMemory>
-        requires anew { self.old.replaced ≡ None }
+        requires anew { IsNew self.old }
         requires room { HasRoom from.kind from.count self.old.contents.geometries }
         requires sound { IsSome (stored_shapes from.kind from.format from.index_size from.count
             from.elements.now) }
-        ensures { IsRestored self.old from.entry.opaque (stored_shapes from.entry.kind
+        ensures kept { self.new.replaced ≡ self.old.replaced }
+        ensures added { IsRestored (bare self.old) from.entry.opaque (stored_shapes from.entry.kind
             from.entry.format from.entry.index_size from.entry.count from.entry.elements.now)
-            self.new result }
+            (bare self.new) result }
     {
         let shapes = from.shapes(self.alloc)?;
         self.contents.push(Geometry {

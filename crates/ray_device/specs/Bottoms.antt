@@ -6,7 +6,7 @@ use Rattle.ray_flags.specs.declared.kind.Kind.TheVariants.{Triangle, Aabb}
 use Rattle.ray_primitives.specs.declared.build_fault.BuildFault.{BuildFault}
 use Rattle.ray_primitives.specs.declared.build_fault.BuildFault.TheVariants.{Data, NoMemory}
 use Rattle.ray_bottom.specs.declared.geometry.Geometry as bottoms
-use Rattle.ray_bottom.specs.Builders.{BuilderValue}
+use Rattle.ray_bottom.specs.Builders.{BuilderValue, BuilderWithTree, bare}
 use Rattle.ray_bottom.specs.Contents.{HasRoom, kind_of, total_of}
 use Rattle.ray_cmd.specs.declared.geometry.Geometry.{Geometry}
 use Rattle.ray_cmd.specs.declared.geometry.Geometry.TheVariants as geometries
@@ -75,7 +75,7 @@ pub record CanAdd (memory : Memory) (left : List Geometry) (added : List bottoms
 -- ---- what comes of it
 
 -- a builder with geometries, or the first rule that is broken; want of memory is free
-abbrev pub IsBuilder : Result BuilderValue DataFault → Result BuilderValue BuildFault → Type 0
-IsBuilder added (Ok builder) = added ≡ Ok builder
+abbrev pub IsBuilder : Result BuilderValue DataFault → Result BuilderWithTree BuildFault → Type 0
+IsBuilder added (Ok builder) = added ≡ Ok (bare builder)
 IsBuilder added (Err (Data fault)) = added ≡ Err fault
 IsBuilder added (Err NoMemory) = Unit {0}

@@ -5,7 +5,8 @@ ghost use Rattle.ray_action.specs.Action.{content_buffer};
 ghost use Rattle.ray_action.specs.Building.{indices_in, transform_in, triangle_info, vertices_in, new_builder, update_builder};
 ghost use Rattle.ray_action.specs.Outcomes.{bottom_outcome};
 ghost use Rattle.ray_action.specs.Seeing.{see_range};
-ghost use Rattle.ray_bottom.specs.Builders.{BuilderValue, IsAdded, size_of_indices, with_triangles};
+ghost use Rattle.ray_bottom.specs.Trees.{without_tree};
+ghost use Rattle.ray_bottom.specs.Builders.{BuilderValue, bare, IsAdded, size_of_indices, with_triangles};
 ghost use Rattle.ray_bottom.specs.Contents.{HasRoom, has_both_fast};
 ghost use Rattle.ray_memory.specs.State.{memory_of};
 ghost use Rattle.ray_device.specs.Bottoms.{add_now, add_all_now, CanAdd, HasRoomFor, IsBuilder, IsThereNow, IsTransformThere, size_now};
@@ -59,7 +60,7 @@ pub fn updated_bottom<R: Threads + Sync>(
 ) -> Result<Output, FetchFault>
     requires can { CanAdd (memory_of state.now) geometries.now [] }
     ensures { IsFetched (bottom_outcome info (add_all_now (memory_of state.now) geometries.now
-        (update_builder old.now))) result }
+        (update_builder (without_tree old.now)))) result }
 {
     let added = with_geometries(state, Builder::for_update(alloc, old), geometries);
     finished(rt, info, added)
@@ -88,7 +89,8 @@ fn with_geometries<'a>(
     geometries: &[Geometry],
 ) -> Result<Builder<'a>, BuildFault>
     requires can { CanAdd (memory_of state.now) geometries.now builder.contents.geometries }
-    ensures { IsBuilder (add_all_now (memory_of state.now) geometries.now builder.entry) result }
+    ensures { IsBuilder (add_all_now (memory_of state.now) geometries.now (bare builder.entry))
+        result }
 {
     let mut builder = builder;
     for geometry in geometries {
@@ -101,8 +103,8 @@ fn with_geometries<'a>(
 fn add(builder: &mut Builder<'_>, state: &State, geometry: &Geometry) -> Result<(), BuildFault>
     requires there { IsThereNow (memory_of state.now) geometry.now }
     requires room { HasRoomFor geometry.now builder.old.contents.geometries }
-    ensures { IsAdded builder.old (add_now (memory_of state.now) builder.old geometry.now) builder.new
-        result }
+    ensures { IsAdded (bare builder.old) (add_now (memory_of state.now) (bare builder.old)
+        geometry.now) (bare builder.new) result }
 {
     let [content, indices, transform] = ranges_read(size_of_content(state, geometry), geometry);
     match *geometry {
@@ -149,9 +151,10 @@ fn add_triangles(
     requires there { IfSome transform (IsTransformThere (memory_of state.now)) }
     ensures { let m = memory_of state.now in
         let read = option_map (indices_in (see_range m indices)) index in
-        IsAdded builder.old (with_triangles builder.old (triangle_info opaque format max_vertex read count)
+        IsAdded (bare builder.old) (with_triangles (bare builder.old)
+        (triangle_info opaque format max_vertex read count)
         (vertices_in format stride (see_range m content)) read (transform_in (see_range m transform)))
-        builder.new result }
+        (bare builder.new) result }
 {
     let info = TriangleInfo {
         opaque,

@@ -1,6 +1,7 @@
 ghost use Rattle.std.specs.Prelude.{◌≡◌, ◌++◌, map, option_and_then, take, IfOk, IsSome};
 ghost use Rattle.std.specs.List.{flat_map};
 ghost use Rattle.byteorder.specs.Endian.{little_bytes};
+ghost use Rattle.ray_bottom.specs.Trees.{without_tree};
 ghost use Rattle.ray_cmd.specs.declared.copy_mode.CopyMode.TheVariants as copies;
 ghost use Rattle.ray_action.specs.Memory.{StructureAt, ContentsAt, as_bottom, bytes_at};
 ghost use Rattle.ray_action.specs.Outcomes.{bytes_outcome, copy_outcome, compact_copy, number_of, numbers_of, property_outcome};
@@ -83,7 +84,7 @@ fn compact(alloc: Global, state: &State, src: u32, dst: u32) -> Result<Output, F
 
 // The same of a structure, into one of a size.
 fn compacted(alloc: Global, bottom: &Bottom, size: u64) -> Result<Output, FetchFault>
-    ensures { IsFetched (compact_copy size bottom.now) result }
+    ensures { IsFetched (compact_copy size (without_tree bottom.now)) result }
 {
     if size < bottom.compacted_size() {
         Err(FetchFault::Data(DataRule::X13, Place::Whole))

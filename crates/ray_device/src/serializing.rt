@@ -4,7 +4,9 @@ ghost use Rattle.ray_action.specs.Memory.{Bottom as HoldsBottom, Top as HoldsTop
 ghost use Rattle.ray_action.specs.Outcomes.{serialize_outcome, deserialize_outcome};
 ghost use Rattle.ray_action.specs.Outcomes.{serialized_into, size_of_serialized, handle_count_of};
 ghost use Rattle.ray_action.specs.Outcomes.{opened_outcome, kept_outcome, fitting_in, linked_outcome};
+ghost use Rattle.ray_bottom.specs.Trees as bottom_trees;
 ghost use Rattle.ray_memory.specs.State.{memory_of};
+ghost use Rattle.ray_top.specs.Trees as top_trees;
 ghost use Rattle.ray_serial.specs.Form.{broken_line};
 ghost use Rattle.ray_serial.specs.Meaning.{is_top_form};
 ghost use Rattle.ray_serial.specs.TopMeaning.{top_in};
@@ -61,7 +63,7 @@ pub fn serialized(
 
 // A bottom structure, into so many bytes.
 fn serialized_bottom(alloc: Global, bottom: &Bottom, size: u128) -> Result<Output, FetchFault>
-    ensures { IsFetched (serialized_into size (HoldsBottom bottom.now)) result }
+    ensures { IsFetched (serialized_into size (HoldsBottom (bottom_trees.without_tree bottom.now))) result }
 {
     if size < u128::from(serialized_size(bottom)) {
         Err(FetchFault::Data(DataRule::X13, Place::Whole))
@@ -72,7 +74,7 @@ fn serialized_bottom(alloc: Global, bottom: &Bottom, size: u128) -> Result<Outpu
 
 // A top structure, into so many bytes.
 fn serialized_top(alloc: Global, top: &Top, size: u128) -> Result<Output, FetchFault>
-    ensures { IsFetched (serialized_into size (HoldsTop top.now)) result }
+    ensures { IsFetched (serialized_into size (HoldsTop (top_trees.without_tree top.now))) result }
 {
     if size < u128::from(serialized_size_top(top)) {
         Err(FetchFault::Data(DataRule::X13, Place::Whole))

@@ -4,6 +4,7 @@ ghost use Rattle.ray_device.specs.Tops.{read_bytes};
 ghost use Rattle.ray_action.specs.Outcomes.{place_in, top_outcome};
 ghost use Rattle.ray_memory.specs.State.{memory_of};
 ghost use Rattle.ray_top.specs.Contents.{has_both_fast, top_built, top_updated};
+ghost use Rattle.ray_top.specs.Trees.{without_tree};
 ghost use Rattle.ray_device.specs.Fetching.{IsFetched};
 ghost use Rattle.ray_device.specs.Tops.{used_now, bytes_now};
 
@@ -102,7 +103,7 @@ pub fn updated_top<R: Threads + Sync>(
     used: &[Used],
 ) -> Result<Output, FetchFault>
     requires { count ≡ length old.now.contents.instances }
-    ensures { IsFetched (top_outcome info (top_updated old.now used.now
+    ensures { IsFetched (top_outcome info (top_updated (without_tree old.now) used.now
         (record { bytes = instances.now; start = 0 }) count)) result }
 {
     let view = InstanceView::new(instances, 0);

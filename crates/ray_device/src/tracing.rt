@@ -2,6 +2,7 @@ ghost use Rattle.std.specs.Prelude.{◌≡◌, ◌++◌, ◌+◌, ◌<◌, ◌�
 ghost use Rattle.ray_bytes.specs.Hits.{hit_bytes};
 ghost use Rattle.ray_bytes.specs.Records.{ray_of};
 ghost use Rattle.ray_flags.specs.Admission.{AsksBoth};
+ghost use Rattle.ray_top.specs.Trees.{without_tree};
 ghost use Rattle.ray_walk.specs.Standing.{AreStanding, structures_in};
 ghost use Rattle.ray_action.specs.Outcomes.{ray_within};
 ghost use Rattle.ray_device.specs.Fetching.{IsFetched};
@@ -38,10 +39,10 @@ fn hits<L: Ledger>(
     count: u32,
     steps: &mut Steps<L>,
 ) -> Result<Output, FetchFault>
-    requires standing { AreStanding top.now (structures_in bottoms.now) }
+    requires standing { AreStanding (without_tree top.now) (structures_in bottoms.now) }
     requires flags_agree { ¬ AsksBoth flags }
     requires numbers { first + count < 2 ^ 32 }
-    ensures value { IsFetched (rays_outcome top.now (structures_in bottoms.now) script.now flags mask
+    ensures value { IsFetched (rays_outcome (without_tree top.now) (structures_in bottoms.now) script.now flags mask
         rays.now first count) result }
     ensures rising { steps.old ≤ steps.new }
 {
@@ -141,9 +142,9 @@ fn hit<L: Ledger>(
     ray: Option<Ray>,
     steps: &mut Steps<L>,
 ) -> Result<HitRecord, FetchFault>
-    requires standing { AreStanding top.now (structures_in bottoms.now) }
+    requires standing { AreStanding (without_tree top.now) (structures_in bottoms.now) }
     requires flags_agree { ¬ AsksBoth flags }
-    ensures value { IsHit (hit_by top.now (structures_in bottoms.now) script.now flags mask number
+    ensures value { IsHit (hit_by (without_tree top.now) (structures_in bottoms.now) script.now flags mask number
         ray) result }
     ensures rising { steps.old ≤ steps.new }
 {

@@ -8,7 +8,8 @@ use Rattle.ray_cmd.specs.declared.command.Command.{Command}
 use Rattle.ray_cmd.specs.declared.command.Command.TheVariants as commands
 use Rattle.ray_bottom.specs.Contents as bottoms
 use Rattle.ray_bottom.specs.Slots.{Slots, slot_at, contents_at, has_room, Changes}
-use Rattle.ray_top.specs.Contents.{TopValue}
+use Rattle.ray_bottom.specs.Trees as bottom_trees
+use Rattle.ray_top.specs.Trees as top_trees
 use Rattle.ray_cmd.specs.declared.structure_kind.StructureKind.{StructureKind}
 use Rattle.ray_cmd.specs.declared.structure_kind.StructureKind.TheVariants as kinds
 use Rattle.ray_rules.specs.declared.byte_range.ByteRange.{ByteRange}
@@ -97,11 +98,15 @@ if-false-and false b x y e = refl
 
 -- ---- structures
 
-contents-both : (b : Bool) (x y : Option (Option bottoms.ContentsValue)) (t u : Option Structure)
+-- the contents that stand in a slot
+abbrev stands : Option (Option bottom_trees.BottomWithTree) → Option bottoms.ContentsValue
+stands x = option_map bottom_trees.without_tree (option_and_then (λ slot. slot) x)
+
+contents-both : (b : Bool) (x y : Option (Option bottom_trees.BottomWithTree)) (t u : Option Structure)
     → x ≡ (if b then None else y) → t ≡ (if b then None else u)
-    → contents_in (option_and_then (λ slot. slot) x) t ≡ (if b then None else contents_in (option_and_then (λ slot. slot) y) u)
-contents-both true x y t u e f = λ i. contents_in (option_and_then (λ slot. slot) (e i)) (f i)
-contents-both false x y t u e f = λ i. contents_in (option_and_then (λ slot. slot) (e i)) (f i)
+    → contents_in (stands x) t ≡ (if b then None else contents_in (stands y) u)
+contents-both true x y t u e f = λ i. contents_in (stands (e i)) (f i)
+contents-both false x y t u e f = λ i. contents_in (stands (e i)) (f i)
 
 pub memory-dropped_structure : (s n : StateValue) (id : ℕ) → Becomes id None s.structures n.structures → Changes id None s.bottoms n.bottoms
     → n.buffers ≡ s.buffers → (l : Location) → memory_of n l ≡ put (DestroyStructure id) (Gives Nothing) (memory_of s) l
@@ -173,13 +178,14 @@ roomy-same structures slots more id kind roomy room = record {
 
 -- ---- lending
 
-by_kind : (bottom : Option bottoms.ContentsValue) (kind : StructureKind) (top : Option TopValue) → option_and_then as_top (held_by kind bottom top) ≡ top_by kind top
+by_kind : (bottom : Option bottoms.ContentsValue) (kind : StructureKind) (top : Option top_trees.TopWithTree)
+    → option_and_then as_top (held_by kind bottom top) ≡ option_map top_trees.without_tree (top_by kind top)
 by_kind None kinds.Bottom top = refl
 by_kind (Some b) kinds.Bottom top = refl
 by_kind bottom kinds.Top None = refl
 by_kind bottom kinds.Top (Some t) = refl
 
-pub top-in : (bottom : Option bottoms.ContentsValue) (s : Structure) → option_and_then as_top (contents_in bottom (Some s)) ≡ top_in s
+pub top-in : (bottom : Option bottoms.ContentsValue) (s : Structure) → option_and_then as_top (contents_in bottom (Some s)) ≡ option_map top_trees.without_tree (top_in s)
 top-in bottom s = by_kind bottom s.form.kind s.top
 
 -- ---- storing
@@ -244,21 +250,22 @@ memory-refilled s n to value w same rest (StructureAt q) = ap (λ x. form_in (lo
 memory-refilled s n to value w same rest (ContentsAt q) = λ i. contents_in (contents_at q (rest i)) (look (same i) q)
 
 -- a structure that holds a top structure is what it was
-form-with_top : (b : Bool) (top : TopValue) (found : Option Structure) → form_in (if b then option_map (with_top top) found else found) ≡ form_in found
+form-with_top : (b : Bool) (top : top_trees.TopWithTree) (found : Option Structure) → form_in (if b then option_map (with_top top) found else found) ≡ form_in found
 form-with_top true top None = refl
 form-with_top true top (Some s) = refl
 form-with_top false top found = refl
 
-held-top : (kind : StructureKind) (bottom : Option bottoms.ContentsValue) (top : TopValue) → kind ≡ kinds.Top → held_by kind bottom (Some top) ≡ Some (Top top)
+held-top : (kind : StructureKind) (bottom : Option bottoms.ContentsValue) (top : top_trees.TopWithTree) → kind ≡ kinds.Top
+    → held_by kind bottom (Some top) ≡ Some (Top (top_trees.without_tree top))
 held-top kinds.Bottom bottom top e = absurd cc
 held-top kinds.Top bottom top e = refl
 
-held-bottom : (kind : StructureKind) (bottom : bottoms.ContentsValue) (top : Option TopValue) → kind ≡ kinds.Bottom → held_by kind (Some bottom) top ≡ Some (Bottom bottom)
+held-bottom : (kind : StructureKind) (bottom : bottoms.ContentsValue) (top : Option top_trees.TopWithTree) → kind ≡ kinds.Bottom → held_by kind (Some bottom) top ≡ Some (Bottom bottom)
 held-bottom kinds.Bottom bottom top e = refl
 held-bottom kinds.Top bottom top e = absurd cc
 
-holds-top : (bottom : Option bottoms.ContentsValue) (top : TopValue) (found : Option Structure) → IsMade kinds.Top (form_in found)
-    → contents_in bottom (option_map (with_top top) found) ≡ Some (Top top)
+holds-top : (bottom : Option bottoms.ContentsValue) (top : top_trees.TopWithTree) (found : Option Structure) → IsMade kinds.Top (form_in found)
+    → contents_in bottom (option_map (with_top top) found) ≡ Some (Top (top_trees.without_tree top))
 holds-top bottom top None made = let is = made.is_it in absurd cc
 holds-top bottom top (Some s) made =
     held-top s.form.kind bottom top (ap (λ (f : Form). f.kind) (some-id s.form made.form made.is_it) ∙ made.same_kind)
@@ -269,9 +276,9 @@ holds-bottom bottom None made = let is = made.is_it in absurd cc
 holds-bottom bottom (Some s) made =
     held-bottom s.form.kind bottom s.top (ap (λ (f : Form). f.kind) (some-id s.form made.form made.is_it) ∙ made.same_kind)
 
-pub memory-holds_top : (s n : StateValue) (id : ℕ) (top : TopValue) → IsMade kinds.Top (memory_of s (StructureAt id)) → HoldsIn id top s.structures n.structures
+pub memory-holds_top : (s n : StateValue) (id : ℕ) (top : top_trees.TopWithTree) → IsMade kinds.Top (memory_of s (StructureAt id)) → HoldsIn id top s.structures n.structures
     → n.buffers ≡ s.buffers → n.bottoms ≡ s.bottoms → (l : Location)
-    → memory_of n l ≡ (if is_contents_of id l then holding (Top top) l (memory_of s l) else memory_of s l)
+    → memory_of n l ≡ (if is_contents_of id l then holding (Top (top_trees.without_tree top)) l (memory_of s l) else memory_of s l)
 memory-holds_top s n id top made h same rest (ByteAt buffer at) = ap (λ x. byte_in at (look x buffer)) same
 memory-holds_top s n id top made h same rest (BufferAt q) = ap (λ x. size_in (look x q)) same
 memory-holds_top s n id top made h same rest (StructureAt q) = ap form_in (h.each q) ∙ form-with_top (q == id) top (look s.structures q)
@@ -279,21 +286,21 @@ memory-holds_top s n id top made h same rest (ContentsAt q) =
     let bottom = contents_at q s.bottoms in
     (λ i. contents_in (contents_at q (rest i)) (h.each q i))
     ∙ (read-if (contents_in bottom) (q == id) (option_map (with_top top) (look s.structures q)) (look s.structures q)
-    ∙ if-at q id (contents_in bottom (option_map (with_top top) (look s.structures q))) (contents_in bottom (look s.structures q)) (Some (Top top))
+    ∙ if-at q id (contents_in bottom (option_map (with_top top) (look s.structures q))) (contents_in bottom (look s.structures q)) (Some (Top (top_trees.without_tree top)))
     (λ e. holds-top bottom top (look s.structures q) (subst (λ j. IsMade kinds.Top (form_in (look s.structures j))) (sym e) made)))
 
-pub memory-holds_bottom : (s n : StateValue) (id : ℕ) (bottom : bottoms.ContentsValue) → IsMade kinds.Bottom (memory_of s (StructureAt id))
+pub memory-holds_bottom : (s n : StateValue) (id : ℕ) (bottom : bottom_trees.BottomWithTree) → IsMade kinds.Bottom (memory_of s (StructureAt id))
     → Changes id (Some (Some bottom)) s.bottoms n.bottoms → n.buffers ≡ s.buffers → n.structures ≡ s.structures → (l : Location)
-    → memory_of n l ≡ (if is_contents_of id l then holding (Bottom bottom) l (memory_of s l) else memory_of s l)
+    → memory_of n l ≡ (if is_contents_of id l then holding (Bottom (bottom_trees.without_tree bottom)) l (memory_of s l) else memory_of s l)
 memory-holds_bottom s n id bottom made h same rest (ByteAt buffer at) = ap (λ x. byte_in at (look x buffer)) same
 memory-holds_bottom s n id bottom made h same rest (BufferAt q) = ap (λ x. size_in (look x q)) same
 memory-holds_bottom s n id bottom made h same rest (StructureAt q) = ap (λ x. form_in (look x q)) rest
 memory-holds_bottom s n id bottom made h same rest (ContentsAt q) =
-    let slot = λ (x : Option (Option bottoms.ContentsValue)). option_and_then (λ c. c) x in
-    (λ i. contents_in (slot (h.each q i)) (look (rest i) q))
-    ∙ (read-if (λ (x : Option (Option bottoms.ContentsValue)). contents_in (slot x) (look s.structures q)) (q == id) (Some (Some bottom)) (slot_at q s.bottoms)
-    ∙ if-at q id (contents_in (Some bottom) (look s.structures q)) (contents_in (contents_at q s.bottoms) (look s.structures q)) (Some (Bottom bottom))
-    (λ e. holds-bottom bottom (look s.structures q) (subst (λ j. IsMade kinds.Bottom (form_in (look s.structures j))) (sym e) made)))
+    let contents = bottom_trees.without_tree bottom in
+    (λ i. contents_in (stands (h.each q i)) (look (rest i) q))
+    ∙ (read-if (λ (x : Option (Option bottom_trees.BottomWithTree)). contents_in (stands x) (look s.structures q)) (q == id) (Some (Some bottom)) (slot_at q s.bottoms)
+    ∙ if-at q id (contents_in (Some contents) (look s.structures q)) (contents_in (contents_at q s.bottoms) (look s.structures q)) (Some (Bottom contents))
+    (λ e. holds-bottom contents (look s.structures q) (subst (λ j. IsMade kinds.Bottom (form_in (look s.structures j))) (sym e) made)))
 
 -- the command of a number that is there
 pub command_is : (rec : List Command) (i : ℕ) (c : Command) → slice_get rec i ≡ Some c → command_at rec i ≡ c

@@ -2,7 +2,7 @@
 use Rattle.std.specs.Prelude.{ℕ, ◌≡◌, List, length, slice_get, Option, Some, None, true, option_map, option_and_then, ◌==◌, if◌then◌else◌}
 use Rattle.ray_bottom.specs.Contents as bottoms
 use Rattle.ray_bottom.specs.Slots.{Slots, contents_at, has_room}
-use Rattle.ray_top.specs.Contents.{TopValue}
+use Rattle.ray_top.specs.Trees.{TopWithTree, without_tree}
 use Rattle.ray_cmd.specs.declared.structure_kind.StructureKind.{StructureKind}
 use Rattle.ray_cmd.specs.declared.structure_kind.StructureKind.TheVariants as kinds
 use Rattle.ray_rules.specs.declared.byte_range.ByteRange.{ByteRange}
@@ -31,21 +31,25 @@ abbrev pub form_in : Option Structure → Option Form
 form_in structure = option_map (λ (s : Structure). s.form) structure
 
 -- what a structure of a kind holds, of the bottom and the top structure that stand for it
-abbrev pub held_by : StructureKind → Option bottoms.ContentsValue → Option TopValue → Option Contents
+abbrev pub held_by : StructureKind → Option bottoms.ContentsValue → Option TopWithTree → Option Contents
 held_by kinds.Bottom bottom top = option_map Bottom bottom
-held_by kinds.Top bottom top = option_map Top top
+held_by kinds.Top bottom top = option_map (λ t. Top (without_tree t)) top
 
 abbrev pub contents_in : Option bottoms.ContentsValue → Option Structure → Option Contents
 contents_in bottom None = None
 contents_in bottom (Some s) = held_by s.form.kind bottom s.top
 
 -- the top structure that a structure holds
-abbrev pub top_by : StructureKind → Option TopValue → Option TopValue
+abbrev pub top_by : StructureKind → Option TopWithTree → Option TopWithTree
 top_by kinds.Bottom top = None
 top_by kinds.Top top = top
 
-abbrev pub top_in : Structure → Option TopValue
+abbrev pub top_in : Structure → Option TopWithTree
 top_in s = top_by s.form.kind s.top
+
+-- the top structure that a state has under an id, if it has one there
+abbrev pub top_at : ℕ → StateValue → Option TopWithTree
+top_at id s = option_and_then top_in (look s.structures id)
 
 -- the memory that a state holds
 abbrev pub memory_of : StateValue → Memory
@@ -67,11 +71,11 @@ pub record HasRoomFor (id : ℕ) (kind : StructureKind) (before after : Slots) :
   pub room : kind ≡ kinds.Bottom → has_room id after ≡ true
 
 -- a structure with a top structure that it holds
-abbrev pub with_top : TopValue → Structure → Structure
+abbrev pub with_top : TopWithTree → Structure → Structure
 with_top top s = record s { top = Some top }
 
 -- a structure comes to hold a top structure, where it is live
-pub record HoldsIn (id : ℕ) (top : TopValue) (before after : Ids Structure) : Type 0 where
+pub record HoldsIn (id : ℕ) (top : TopWithTree) (before after : Ids Structure) : Type 0 where
   pub each : (q : ℕ) → look after q ≡ (if q == id then option_map (with_top top) (look before q) else look before q)
 
 -- the bytes of a range are written in its buffer, where that is live

@@ -1,8 +1,10 @@
-ghost use Rattle.std.specs.Prelude.{◌≡◌, Option, option_copied, option_and_then};
-ghost use Rattle.ray_bottom.specs.Slots.{contents_at};
+ghost use Rattle.std.specs.Prelude.{◌≡◌, Option, option_copied, option_map, option_and_then};
+ghost use Rattle.ray_bottom.specs.Slots.{contents_at, structure_at};
+ghost use Rattle.ray_bottom.specs.Trees as bottom_trees;
+ghost use Rattle.ray_top.specs.Trees as top_trees;
 ghost use Rattle.ray_action.specs.Memory.{BufferAt, StructureAt, ContentsAt, as_bottom, as_top, bytes_at};
 ghost use Rattle.ray_memory.specs.Bytes.{part_in};
-ghost use Rattle.ray_memory.specs.State.{memory_of, top_in};
+ghost use Rattle.ray_memory.specs.State.{memory_of, top_at, top_in};
 
 use crate::buffer::Buffer;
 use crate::state::State;
@@ -43,24 +45,27 @@ impl State {
 
     /// The bottom structure of an id. None exactly where the id holds none.
     pub fn bottom(&self, structure: u32) -> Option<&Bottom>
-        ensures { option_copied result
+        ensures value { option_map bottom_trees.without_tree (option_copied result)
             ≡ option_and_then as_bottom (memory_of self.now (ContentsAt structure)) }
+        ensures own { option_copied result ≡ structure_at structure self.now.bottoms }
     {
         self.bottoms.get(structure)
     }
 
     /// The bottom structures of all ids, as a trace looks them up.
     pub fn bottoms(&self) -> &Bottoms
-        ensures { (id : ℕ) → contents_at id result.now
+        ensures value { (id : ℕ) → contents_at id result.now
             ≡ option_and_then as_bottom (memory_of self.now (ContentsAt id)) }
+        ensures own { result.now ≡ self.now.bottoms }
     {
         &self.bottoms
     }
 
     /// The top structure of an id. None exactly where the id holds none.
     pub fn top(&self, structure: u32) -> Option<&Top>
-        ensures { option_copied result
+        ensures value { option_map top_trees.without_tree (option_copied result)
             ≡ option_and_then as_top (memory_of self.now (ContentsAt structure)) }
+        ensures own { option_copied result ≡ top_at structure self.now }
     {
         top_of(self.structures.get(&structure)?)
     }

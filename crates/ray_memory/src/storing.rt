@@ -1,5 +1,7 @@
 ghost use Rattle.std.specs.Prelude.{◌≡◌, if◌then◌else◌, slice_get};
+ghost use Rattle.ray_bottom.specs.Trees as bottom_trees;
 ghost use Rattle.ray_cmd.specs.declared.structure_kind.StructureKind.TheVariants as kinds;
+ghost use Rattle.ray_top.specs.Trees as top_trees;
 ghost use Rattle.ray_action.specs.Areas.{is_in_range, is_contents_of};
 ghost use Rattle.ray_action.specs.Memory.{Location, StructureAt, Bottom as HoldsBottom, Top as HoldsTop};
 ghost use Rattle.ray_action.specs.Readiness.{IsMade};
@@ -39,7 +41,8 @@ impl State {
     pub fn hold_bottom(&mut self, structure: u32, bottom: Bottom)
         requires { IsMade kinds.Bottom (memory_of self.old (StructureAt structure)) }
         ensures { (l : Location) → memory_of self.new l
-            ≡ (if is_contents_of structure l then holding (HoldsBottom bottom) l (memory_of self.old l)
+            ≡ (if is_contents_of structure l then holding (HoldsBottom (bottom_trees.without_tree bottom)) l
+            (memory_of self.old l)
             else memory_of self.old l) }
     {
         self.bottoms.put(structure, bottom);
@@ -49,7 +52,8 @@ impl State {
     pub fn hold_top(&mut self, structure: u32, top: Top)
         requires { IsMade kinds.Top (memory_of self.old (StructureAt structure)) }
         ensures { (l : Location) → memory_of self.new l
-            ≡ (if is_contents_of structure l then holding (HoldsTop top) l (memory_of self.old l)
+            ≡ (if is_contents_of structure l then holding (HoldsTop (top_trees.without_tree top)) l
+            (memory_of self.old l)
             else memory_of self.old l) }
     {
         hold_in(&mut self.structures, structure, top);

@@ -1,6 +1,6 @@
 ghost use Rattle.std.specs.Prelude.{◌≡◌, Some, None, [], IfOk, OnOk, IsSome, false, option_map};
 ghost use Rattle.ray_bytes.specs.Fields.{word_at};
-ghost use Rattle.ray_bottom.specs.Builders.{builder_with};
+ghost use Rattle.ray_bottom.specs.Builders.{bare, builder_with, IsNew};
 ghost use Rattle.ray_bottom.specs.Contents.{has_both_fast, HasRoom};
 ghost use Rattle.ray_bottom.specs.Trees.{without_tree};
 ghost use Rattle.ray_serial.specs.Heads.{kind_named, count_in, geometry_in};
@@ -34,7 +34,7 @@ pub(crate) fn restored<R: Threads + Sync>(
 
 // Adds the geometries that stand in a row to a new builder.
 fn append_all(builder: &mut Builder<'_>, n: u32, row: &[u8]) -> Result<(), NoMemory>
-    requires anew { builder.old.replaced ≡ None }
+    requires anew { IsNew builder.old }
     requires none { builder.old.contents.geometries ≡ [] }
     requires limits { CanRestore n row.now }
     ensures { OnOk result (option_map (with_flags builder.old.contents.flags)
@@ -51,12 +51,12 @@ fn append_all(builder: &mut Builder<'_>, n: u32, row: &[u8]) -> Result<(), NoMem
 // Adds the geometry that begins here.
 #[tactic(auto, unfolding(crate::specs::Heads::geometry_in, crate::specs::Heads::shapes_in))]
 fn append(builder: &mut Builder<'_>, rest: &[u8]) -> Result<(), NoMemory>
-    requires anew { builder.old.replaced ≡ None }
+    requires anew { IsNew builder.old }
     requires room { HasRoom (kind_named (word_at rest.now 0)) (count_in rest.now)
         builder.old.contents.geometries }
     requires sound { IsSome (geometry_in rest.now) }
-    ensures { OnOk result (option_map (builder_with builder.old) (geometry_in rest.now)
-        ≡ Some builder.new) }
+    ensures { OnOk result (option_map (builder_with (bare builder.old)) (geometry_in rest.now)
+        ≡ Some (bare builder.new)) }
 {
     builder.stored(stored(rest))
 }

@@ -1,5 +1,6 @@
 use Rattle.std.proofs.Common.{subst, ◌∙◌}
 use Rattle.ray_action.specs.Outcomes.{Outcome}
+use Rattle.ray_top.specs.Trees.{without_tree}
 use Rattle.ray_memory.specs.State.{memory_of}
 use Rattle.ray_device.specs.Fetching.{IsFetched}
 use Rattle.ray_device.specs.Tracing.{bottoms_of, rays_outcome, traced_through}
@@ -9,8 +10,8 @@ pub returns-clause-value : goal.returns-clause-value
 returns-clause-value g c =
     let a = c.args in
     let rays = c.in-Some-Some.rays.now in
-    let top = c.in-Some-Some.top.now in
+    let top = without_tree c.in-Some-Some.top.now in
     subst (λ (o : Outcome). IsFetched o c.hits.result)
-    ((λ i. rays_outcome top (λ id. c.bottoms-bottoms.ensures id i) a.script.now a.flags a.mask rays a.first a.count)
+    ((λ i. rays_outcome top (λ id. c.bottoms-bottoms.ensures.value id i) a.script.now a.flags a.mask rays a.first a.count)
     ∙ (λ i. traced_through (bottoms_of (memory_of a.state.now)) (c.in-Some-Some.ensures i) (c.in-Some-Some.ensures' i) a.first a.count a.flags a.mask a.script.now))
     c.hits.ensures.value

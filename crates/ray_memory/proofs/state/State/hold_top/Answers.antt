@@ -3,6 +3,7 @@ use Rattle.std.specs.Prelude.{if◌then◌else◌}
 use Rattle.ray_action.specs.Memory.{Location, StructureAt}
 use Rattle.ray_memory.specs.State.{StateValue, memory_of}
 use Rattle.ray_memory.specs.contracts.state.State.{the_view}
+use Rattle.ray_top.specs.Trees.{without_tree}
 use Rattle.ray_action.specs.Areas.{is_contents_of}
 use Rattle.ray_action.specs.Storing.{holding}
 use Rattle.ray_cmd.specs.declared.structure_kind.StructureKind.TheVariants as kinds
@@ -16,5 +17,5 @@ returns c =
     let new : StateValue = record { buffers = c.self.inside.buffers.entries; structures = c.hold_in.new.structures.entries; bottoms = c.self.inside.bottoms } in
     let made : IsMade kinds.Top (memory_of (the_view c.self.inside) (StructureAt c.args.structure)) =
     subst (λ (s : StateValue). IsMade kinds.Top (memory_of s (StructureAt c.args.structure))) (sym c.self.view_is) c.requires in
-    subst (λ (s : StateValue). (l : Location) → memory_of new l ≡ (if is_contents_of c.args.structure l then holding (Top c.args.top) l (memory_of s l) else memory_of s l)) c.self.view_is
+    subst (λ (s : StateValue). (l : Location) → memory_of new l ≡ (if is_contents_of c.args.structure l then holding (Top (without_tree c.args.top)) l (memory_of s l) else memory_of s l)) c.self.view_is
     (memory-holds_top (the_view c.self.inside) new c.args.structure c.args.top made c.hold_in.ensures refl refl)
