@@ -1,1 +1,9 @@
-
+pub mod Orders
+pub mod Members
+pub mod Rising
+mod Popping
+mod Plays
+mod Pending
+mod Moving
+mod Underway
+pub mod Added

@@ -2,7 +2,7 @@ ghost use Rattle.std.specs.Prelude.{◌≡◌, ◌++◌, [], OnOk};
 ghost use Rattle.std.specs.List.Sorted.{IsPermutation};
 ghost use Rattle.ray_nearest.specs.declared.turn.Turn.TheVariants.{Node, Candidate};
 ghost use Rattle.std.specs.BinaryHeap.{IsHeap, heap_items};
-ghost use Rattle.ray_nearest.specs.Heaps.{IsNodeFirst, turns_of};
+ghost use Rattle.ray_nearest.specs.Heaps.{IsNodeFirst, found_turn, node_turn, turns_of};
 ghost use Rattle.ray_nearest.specs.Scene.{is_within};
 ghost use Rattle.ray_nearest.specs.TurnLaws.{found_cmp, node_cmp};
 ghost use Rattle.ray_nearest.specs.Turns.{IsTaken, turn_within};
@@ -107,11 +107,25 @@ fn pop_first(
 {
     if takes_node(nodes, found) {
         let first = nodes.pop()?;
-        Some(Turn::Node(first.entry, first.node))
+        Some(node_turn(first))
     } else {
         let first = found.pop()?;
-        Some(Turn::Candidate(first.found))
+        Some(found_turn(first))
     }
+}
+
+// The turn of a node that waited.
+fn node_turn(first: WaitingNode) -> Turn
+    ensures { result ≡ node_turn first }
+{
+    Turn::Node(first.entry, first.node)
+}
+
+// The turn of a candidate that waited.
+fn found_turn(first: WaitingFound) -> Turn
+    ensures { result ≡ found_turn first }
+{
+    Turn::Candidate(first.found)
 }
 
 // Whether a node is to be taken, and not a candidate: it is where it is no farther.
