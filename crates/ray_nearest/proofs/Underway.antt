@@ -26,7 +26,7 @@ use Rattle.ray_nearest.specs.Adding.{AddsNodes, HasValue, IsOpened}
 use Rattle.ray_nearest.specs.Answer.{answer_in, played_in}
 use Rattle.ray_nearest.specs.KeyOrder.{AreApart, has_key, in_key_order}
 use Rattle.ray_nearest.specs.Scene.{IsInOrder, IsScene, SceneValue, distance_of, found_in, is_open, is_within, opened_in}
-use Rattle.ray_nearest.specs.Taking.{Takes}
+use Rattle.ray_nearest.specs.Taking.{IsKnown, Takes}
 use Rattle.ray_nearest.specs.Turns.{IsNext, is_before, turn_at}
 use Rattle.ray_nearest.proofs.Members.{Each-member, Member, Member-append, Member-append_left, Member-append_right}
 use Rattle.ray_nearest.proofs.Orders.{Each, Each-from_All, beyond-farther, beyond-passed, key-nearer, key_lt-not_both, lt-chain, lt-from_not_le, never, ratio_le-chain, turn-farther, within-value}
@@ -327,7 +327,17 @@ module _ (IsNode : WalkNode → Type 0) (s : SceneValue) where
           omega (arith, light, same, sum)
 
       -- the node of a turn is known
-      -- it ends
+      fits_known : (x : Turn) → Fits IsNode s x → IsKnown IsNode x
+      fits_known (Node e n) fits = fits.0
+      fits_known (Candidate f) fits = tt
+
+      pub known : (x : Turn) (items rest : List Turn) (q : QueryValue) (now : ℕ)
+          → IsUnderway IsNode s meaning ray flags begun items q now → IsNext q.state items (Some x) rest → IsKnown IsNode x
+      known x items rest q now u (in_, moved, first) =
+          fits_known x (All-head (Fits IsNode s) x rest (All-permutation (Fits IsNode s) items (x ∷ rest) moved u.fit))
+
+      -- ---- it ends
+
       all_passed : (items : List Turn) (q : QueryValue) (now : ℕ) → IsUnderway IsNode s meaning ray flags begun items q now
           → All (λ y. is_within (distance_of q.state.committed) (turn_at y) ≡ false) items
           → (f : Found) → Member f (pending s items) → plays_in q.state f ≡ false
