@@ -1,21 +1,20 @@
 -- What opening a node does to all that waits: what is found below comes in the place of the node.
-use Rattle.std.proofs.Common.{◌≡◌, ◌∙◌, ◌++◌, ◌+◌, ◌≤◌, ◌⊎◌, refl, sym, ap, subst, ℕ, Option, Some, None, Bool, true, false, List, [], ◌∷◌, length, All, inl, inr, sum_by, arith}
+use Rattle.std.proofs.Common.{◌≡◌, ◌++◌, ◌+◌, ◌≤◌, ◌⊎◌, sym, subst, ℕ, Option, true, false, List, [], ◌∷◌, length, All, inl, inr, sum_by, arith}
 use Rattle.std.specs.List.{flat_map}
 use Rattle.std.specs.List.Sorted.{IsPermutation}
 use Rattle.std.proofs.lemmas.List.Elements.{All-cons, All-head, All-tail}
 use Rattle.std.proofs.lemmas.List.Sorted.{All-permutation, IsPermutation-sym, sum_by-IsPermutation}
 use Rattle.std.proofs.lemmas.List.Sums.{sum_by-append, sum_by-cons}
 use Rattle.ray_geom.specs.declared.ratio.Ratio.{Ratio}
-use Rattle.ray_geom.specs.Ratio.{ratio_of}
 use Rattle.ray_query.specs.declared.found.Found.{Found}
 use Rattle.ray_query.specs.declared.key.Key.{Key}
 use Rattle.ray_query.specs.Play.{QueryState}
 use Rattle.ray_nearest.specs.declared.node.WalkNode.{WalkNode}
 use Rattle.ray_nearest.specs.declared.turn.Turn.{Turn}
 use Rattle.ray_nearest.specs.declared.turn.Turn.TheVariants.{Node, Candidate}
-use Rattle.ray_nearest.specs.Adding.{Adds, AddsFound, AddsNode, AddsNodes, AddsOne, HasValue, IsOpened}
+use Rattle.ray_nearest.specs.Adding.{Adds, AddsFound, AddsNode, AddsNodes, AddsOne, IsOpened}
 use Rattle.ray_nearest.specs.KeyOrder.{has_key}
-use Rattle.ray_nearest.specs.Scene.{Holds, IsScene, SceneValue, distance_of, is_open, is_within}
+use Rattle.ray_nearest.specs.Scene.{Holds, IsScene, SceneValue, distance_of}
 use Rattle.ray_nearest.proofs.Members.{Each-member, Member, Member-append, Member-append_left, Member-append_right}
 use Rattle.ray_nearest.proofs.Orders.{Each-from_All, beyond-passed, never, shut-beyond}
 use Rattle.ray_nearest.proofs.Pending.{Fits, keys, pending, pending-permuted, stands, unopened, weight}

@@ -1,10 +1,10 @@
 -- What the turns of a walk still stand for.
-use Rattle.std.proofs.Common.{◌≡◌, ◌∙◌, ◌++◌, ◌+◌, ◌⊎◌, refl, sym, ap, subst, ℕ, Option, Some, None, true, List, [], ◌∷◌, All, inl, inr, sum_by, arith}
+use Rattle.std.proofs.Common.{◌≡◌, ◌∙◌, ◌++◌, ◌+◌, ◌⊎◌, refl, sym, ap, subst, ℕ, Option, Some, None, true, List, [], ◌∷◌, inl, inr, sum_by, arith}
 use Rattle.std.specs.List.{flat_map}
 use Rattle.std.specs.List.Sorted.{IsPermutation}
 use Rattle.std.specs.Ordering.{is_le}
 use Rattle.std.proofs.lemmas.Cmp.{tied_itself}
-use Rattle.std.proofs.lemmas.List.Sorted.{Contains-permutation, sum_by-IsPermutation}
+use Rattle.std.proofs.lemmas.List.Sorted.{Contains-permutation}
 use Rattle.std.proofs.lemmas.List.Sums.{sum_by-append, sum_by-cons}
 use Rattle.ray_geom.specs.declared.ratio.Ratio.{Ratio}
 use Rattle.ray_geom.specs.Ratio.{ratio_cmp, ratio_of}
@@ -15,7 +15,7 @@ use Rattle.ray_nearest.specs.declared.node.WalkNode.{WalkNode}
 use Rattle.ray_nearest.specs.declared.turn.Turn.{Turn}
 use Rattle.ray_nearest.specs.declared.turn.Turn.TheVariants.{Node, Candidate}
 use Rattle.ray_nearest.specs.Adding.{HasValue}
-use Rattle.ray_nearest.specs.KeyOrder.{AreApart, has_key}
+use Rattle.ray_nearest.specs.KeyOrder.{has_key}
 use Rattle.ray_nearest.specs.Scene.{Holds, IsScene, SceneValue}
 use Rattle.ray_nearest.specs.Turns.{turn_at}
 use Rattle.ray_nearest.proofs.Members.{Contains-from_Member, Each-member, Member, Member-append, Member-append_left, Member-append_right, Member-from_Contains}

@@ -1,5 +1,5 @@
 -- What a play does with what is passed over, and where it commits.
-use Rattle.std.proofs.Common.{◌≡◌, ◌∙◌, refl, sym, ap, ℕ, Bool, true, false, ◌&&◌, if◌then◌else◌, List, [], ◌∷◌, filter}
+use Rattle.std.proofs.Common.{◌≡◌, ◌∙◌, refl, sym, ap, ℕ, Bool, true, false, ◌&&◌, if◌then◌else◌, List, filter}
 use Rattle.std.specs.Ordering.{is_le}
 use Rattle.ray_geom.specs.declared.frac.Frac.{Frac}
 use Rattle.ray_geom.specs.declared.ratio.Ratio.{Ratio}
@@ -15,7 +15,7 @@ use Rattle.ray_query.specs.Play.{QueryState, candidate_of, committed_at, commits
 use Rattle.ray_nearest.specs.KeyOrder.{AreApart, in_key_order}
 use Rattle.ray_nearest.specs.Scene.{IsInOrder, distance_of, is_within}
 use Rattle.ray_nearest.proofs.Members.{Member}
-use Rattle.ray_nearest.proofs.Orders.{never, ratio_le-chain}
+use Rattle.ray_nearest.proofs.Orders.{ratio_le-chain}
 use Rattle.ray_nearest.proofs.Rising.{in_key_order-kept}
 
 -- what would be played in a state

@@ -1,5 +1,5 @@
 -- The two heaps of turns: which is taken from, and that what is taken is a first turn.
-use Rattle.std.proofs.Common.{◌≡◌, ◌∙◌, ◌++◌, ◌<◌, refl, sym, ap, subst, Bool, true, false, if◌then◌else◌, List, [], ◌∷◌, length, map, All, slice_index_or, arith, Option, Some, None}
+use Rattle.std.proofs.Common.{◌≡◌, ◌++◌, ◌<◌, sym, subst, Bool, true, false, if◌then◌else◌, List, [], ◌∷◌, length, map, All, slice_index_or, arith, Option, Some}
 use Rattle.std.specs.BinaryHeap.{IsUpperBound}
 use Rattle.std.specs.List.Sorted.{IsPermutation}
 use Rattle.std.specs.Ordering.{is_le, is_lt}
@@ -8,15 +8,14 @@ use Rattle.std.proofs.lemmas.List.Sorted.{All-permutation, IsPermutation-append_
 use Rattle.ray_geom.specs.declared.ratio.Ratio.{Ratio}
 use Rattle.ray_geom.specs.Ratio.{ratio_cmp, ratio_of}
 use Rattle.ray_geom.specs.RatioLaws.{ratio_cmp-total}
-use Rattle.ray_query.specs.Play.{QueryState}
 use Rattle.ray_nearest.specs.declared.turn.Turn.{Turn}
 use Rattle.ray_nearest.specs.declared.waiting.WaitingFound.{WaitingFound}
 use Rattle.ray_nearest.specs.declared.waiting.WaitingNode.{WaitingNode}
 use Rattle.ray_nearest.specs.Heaps.{IsNodeFirst, found_turn, node_turn, turns_of}
-use Rattle.ray_nearest.specs.Scene.{distance_of, is_within}
+use Rattle.ray_nearest.specs.Scene.{is_within}
 use Rattle.ray_nearest.specs.TurnLaws.{found_cmp, node_cmp}
-use Rattle.ray_nearest.specs.Turns.{IsNext, IsTaken, is_before, turn_at, turn_within}
-use Rattle.ray_nearest.proofs.Orders.{beyond-farther, false-else, key-farther, le-chain, le-from_not_lt, never, not_lt-from_le, ratio_le-chain, turn-farther}
+use Rattle.ray_nearest.specs.Turns.{IsTaken, is_before, turn_at, turn_within}
+use Rattle.ray_nearest.proofs.Orders.{beyond-farther, false-else, key-farther, le-from_not_lt, never, not_lt-from_le, ratio_le-chain, turn-farther}
 
 abbrev NotBefore : Turn → Turn → Type 0
 NotBefore x y = is_before y x ≡ false

@@ -1,11 +1,11 @@
 -- A walk that is underway: how its query, the turns that wait and its steps stand to all that is found in the scene.
-use Rattle.std.proofs.Common.{◌≡◌, ◌∙◌, ◌++◌, ◌+◌, ◌≤◌, ◌<◌, ◌⊎◌, refl, sym, ap, subst, ℕ, Option, Some, None, Bool, true, false, List, [], ◌∷◌, length, All, inl, inr, sum_by, arith}
+use Rattle.std.proofs.Common.{◌≡◌, ◌∙◌, ◌+◌, ◌≤◌, ◌<◌, ◌⊎◌, refl, sym, ap, subst, ℕ, Option, Some, None, true, false, List, [], ◌∷◌, length, All, inl, inr, sum_by, arith}
 use Rattle.std.specs.List.{flat_map}
 use Rattle.std.specs.List.Sorted.{IsPermutation}
-use Rattle.std.specs.Ordering.{is_le, is_lt}
+use Rattle.std.specs.Ordering.{is_le}
 use Rattle.std.proofs.lemmas.List.Elements.{All-head, All-tail}
 use Rattle.std.proofs.lemmas.List.Sorted.{All-permutation, IsPermutation-sym, sum_by-IsPermutation}
-use Rattle.std.proofs.lemmas.List.Sums.{sum_by-append, sum_by-cons}
+use Rattle.std.proofs.lemmas.List.Sums.{sum_by-cons}
 use Rattle.ray_geom.specs.declared.ratio.Ratio.{Ratio}
 use Rattle.ray_geom.specs.Ratio.{ratio_cmp, ratio_of}
 use Rattle.ray_geom.specs.RatioLaws.{ratio_cmp-total}
@@ -171,9 +171,9 @@ module _ (IsNode : WalkNode → Type 0) (s : SceneValue) where
       either_none f more (inl m) = m
       either_none f more (inr m) = absurd m
 
-      pub begins : (items : List Turn) → AddsNodes None s s.roots [] items
+      begins_empty : (items : List Turn) → AddsNodes None s s.roots [] items
           → IsUnderway IsNode s meaning ray flags begun items (query_of ray flags) begun
-      begins items added =
+      begins_empty items added =
           let moves : Moves IsNode s start (found_in s) (λ c. opened_in s c) (sum_by s.size s.roots) [] items =
           moves_nodes IsNode s start scene s.roots [] items scene.roots added in
           let once : (k : Key) → sum_by (keys s k) items ≤ 1 = λ k.
@@ -200,6 +200,12 @@ module _ (IsNode : WalkNode → Type 0) (s : SceneValue) where
                 omega (arith, most, none);
             rising = omega arith;
           }
+
+      pub begins : (old items : List Turn) (q : QueryValue) → old ≡ [] → q ≡ query_of ray flags → AddsNodes None s s.roots old items
+          → IsUnderway IsNode s meaning ray flags begun items q begun
+      begins old items q empty new added =
+          subst (λ v. IsUnderway IsNode s meaning ray flags begun items v begun) (sym new)
+          (begins_empty items (subst (λ ts. AddsNodes None s s.roots ts items) empty added))
 
       -- a node was opened
       node_open : (limit entry : Option Ratio) (e : Ratio) → HasValue entry e → is_within limit e ≡ true → is_open limit entry ≡ true
@@ -371,9 +377,9 @@ module _ (IsNode : WalkNode → Type 0) (s : SceneValue) where
           → IsNext q.state items None new → q.state.committed ≡ answer_in meaning ray flags s
       answers over items new q now u next = ap (λ (st : QueryState). st.committed) (ended over items new q now u next)
 
-      pub bounds : (items : List Turn) (q : QueryValue) (now : ℕ) → IsUnderway IsNode s meaning ray flags begun items q now
-          → now ≤ begun + opened_in s (distance_of q.state.committed)
-      bounds items q now u =
+      pub bounds : (items : List Turn) (q : QueryValue) (now : ℕ) (answer : Option Commit) → answer ≡ q.state.committed
+          → IsUnderway IsNode s meaning ray flags begun items q now → now ≤ begun + opened_in s (distance_of answer)
+      bounds items q now answer is u =
           let most : now + sum_by (unopened s (distance_of q.state.committed)) items ≤ begun + opened_in s (distance_of q.state.committed) =
           u.bound (distance_of q.state.committed) u.reached in
-          omega (arith, most)
+          subst (λ a. now ≤ begun + opened_in s (distance_of a)) (sym is) (omega (arith, most))

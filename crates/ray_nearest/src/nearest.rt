@@ -20,19 +20,20 @@ use std::sync::ledger::Ledger;
 /// `turns` are dropped; memory is taken for turns alone. `ray` is the ray's number in its trace.
 /// (Vulkan, "Ray Traversal"; own: the order, and the bound.)
 pub fn walk<S: Scene, C: Client, L: Ledger>(
-    scene: &S,
+    scene: &mut S,
     ray: u32,
     flags: RayFlags,
     client: &C,
     turns: &mut Turns,
     steps: &mut Steps<L>,
 ) -> Result<Option<Commit>, NoMemory>
-    requires scene { IsScene (S.IsNode scene.now) (S.scene scene.now) }
+    requires scene { IsScene (S.IsNode scene.old) (S.scene scene.old) }
     ensures answer { IfOk result (λ answer. answer
-        ≡ answer_in (C.meaning client.now) ray flags (S.scene scene.now)) }
+        ≡ answer_in (C.meaning client.now) ray flags (S.scene scene.old)) }
     ensures bound { IfOk result (λ answer. steps.new
-        ≤ steps.old + opened_in (S.scene scene.now) (distance_of answer)) }
+        ≤ steps.old + opened_in (S.scene scene.old) (distance_of answer)) }
     ensures rising { steps.old ≤ steps.new }
+    ensures kept { scene.new ≡ scene.old }
 {
     passing_law();
     parts_law();
@@ -62,18 +63,19 @@ fn next_turn(query: &Query, turns: &mut Turns) -> Option<Turn>
 
 // Takes a turn: opens a node, plays a candidate.
 fn take<S: Scene, C: Client, L: Ledger>(
-    scene: &S,
+    scene: &mut S,
     client: &C,
     query: &mut Query,
     turn: Turn,
     turns: &mut Turns,
     steps: &mut Steps<L>,
 ) -> Result<(), NoMemory>
-    requires known { IsKnown (S.IsNode scene.now) turn }
+    requires known { IsKnown (S.IsNode scene.old) turn }
     requires answered { query.old.asked ≡ None }
-    ensures taken { OnOk result (Takes (C.meaning client.now) (S.scene scene.now) turn
+    ensures taken { OnOk result (Takes (C.meaning client.now) (S.scene scene.old) turn
         query.old turns.old steps.old query.new turns.new steps.new) }
     ensures rising { steps.old ≤ steps.new }
+    ensures kept { scene.new ≡ scene.old }
 {
     match turn {
         Turn::Node(_, node) => scene.open(node, distance_of(query), turns, steps),

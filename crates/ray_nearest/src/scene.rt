@@ -4,7 +4,9 @@ use ray_geom::{Ratio, Steps};
 use std::alloc::AllocError as NoMemory;
 use std::sync::ledger::Ledger;
 
-/// What a walk looks at, for one ray. (Own.)
+/// What a walk looks at, for one ray. A call may change what the scene keeps for speed alone, as the
+/// ray in the space of the instance that was looked at last: hide that by an `impl Model`, since
+/// what contracts see of the scene stays. (Own.)
 pub trait Scene {
     ghost use Rattle.std.specs.Prelude.{◌≡◌, ◌+◌, ◌≤◌, OnOk};
     ghost use Rattle.ray_nearest.specs.declared.node.WalkNode.{WalkNode};
@@ -18,22 +20,23 @@ pub trait Scene {
     ghost scene: { Self → SceneValue };
 
     /// Adds the turns of the nodes at which a walk begins, except of such as aren't met.
-    fn begin(&self, turns: &mut Turns) -> Result<(), NoMemory>
-        ensures { OnOk result
-            (AddsNodes None (scene self.now) (scene self.now).roots turns.old turns.new) };
+    fn begin(&mut self, turns: &mut Turns) -> Result<(), NoMemory>
+        ensures kept { self.new ≡ self.old }
+        ensures begun { OnOk result
+            (AddsNodes None (scene self.old) (scene self.old).roots turns.old turns.new) };
 
     /// Opens a node: adds the turns of the nodes right below it and of what is found there, except
     /// of such as aren't met up to the limit. Each primitive that is tested there is a step.
     fn open<L: Ledger>(
-        &self,
+        &mut self,
         node: WalkNode,
         limit: Option<Ratio>,
         turns: &mut Turns,
         steps: &mut Steps<L>,
     ) -> Result<(), NoMemory>
-        requires known { IsNode self.now node }
-        ensures opened { OnOk result
-            (IsOpened limit (scene self.now) node turns.old turns.new) }
-        ensures steps { OnOk result (steps.new ≡ steps.old + (scene self.now).tests node) }
+        requires known { IsNode self.old node }
+        ensures kept { self.new ≡ self.old }
+        ensures opened { OnOk result (IsOpened limit (scene self.old) node turns.old turns.new) }
+        ensures steps { OnOk result (steps.new ≡ steps.old + (scene self.old).tests node) }
         ensures rising { steps.old ≤ steps.new };
 }
