@@ -6,4 +6,5 @@ mod Plays
 mod Pending
 mod Moving
 mod Underway
+pub mod Growing
 pub mod Added

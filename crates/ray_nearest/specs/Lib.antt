@@ -1,5 +1,6 @@
 pub mod KeyOrder
 pub mod Scene
+pub mod Parts
 pub mod Adding
 pub mod Turns
 pub mod Heaps
