@@ -1,0 +1,72 @@
+-- For who writes a scene: from the calls that add turns to `IsOpened`.
+use Rattle.std.proofs.Common.{◌≡◌, ◌∙◌, ◌++◌, refl, sym, subst, Option, Some, None, Bool, true, false, if◌then◌else◌, List, [], ◌∷◌, inl, inr}
+use Rattle.std.specs.List.Sorted.{IsPermutation}
+use Rattle.std.proofs.lemmas.List.Sorted.{IsPermutation-append_right, IsPermutation-refl, IsPermutation-trans}
+use Rattle.ray_geom.specs.declared.ratio.Ratio.{Ratio}
+use Rattle.ray_geom.specs.Ratio.{ratio_of}
+use Rattle.ray_query.specs.declared.found.Found.{Found}
+use Rattle.ray_nearest.specs.declared.node.WalkNode.{WalkNode}
+use Rattle.ray_nearest.specs.declared.turn.Turn.{Turn}
+use Rattle.ray_nearest.specs.declared.turn.Turn.TheVariants.{Node, Candidate}
+use Rattle.ray_nearest.specs.Adding.{Adds, AddsFound, AddsNode, AddsNodes, AddsOne, HasValue, IsOpened}
+use Rattle.ray_nearest.specs.Scene.{SceneValue, is_open, is_within}
+use Rattle.ray_nearest.specs.Turns.{turn_within}
+use Rattle.ray_nearest.proofs.Orders.{within-value}
+
+-- ---- one
+
+shut : (limit entry : Option Ratio) (e : Ratio) → HasValue entry e → is_within limit e ≡ false → is_open limit entry ≡ false
+shut limit None e value far = absurd value
+shut limit (Some a) e value far = sym (within-value limit e a value) ∙ far
+
+module _ (limit : Option Ratio) (old new : List Turn) where
+  -- the turn of a node was pushed, at a ratio of its entry's value
+  pub pushed_node : (entry : WalkNode → Option Ratio) (n : WalkNode) (e : Ratio) → HasValue (entry n) e
+      → IsPermutation (turn_within limit (Node e n) ++ old) new → AddsOne (AddsNode limit entry n) old new
+  pushed_node entry n e value moved = by (is_within limit e) refl moved
+    where
+      by : (b : Bool) → is_within limit e ≡ b → IsPermutation ((if b then Node e n ∷ [] else []) ++ old) new → AddsOne (AddsNode limit entry n) old new
+      by true in_ p = (Node e n ∷ [], inr (e, value, refl), p)
+      by false far p = ([], inl (refl, shut limit (entry n) e value far), p)
+
+  -- what was found was pushed
+  pub pushed_found : (f : Found) → IsPermutation (turn_within limit (Candidate f) ++ old) new → AddsOne (AddsFound limit f) old new
+  pushed_found f moved = by (is_within limit (ratio_of f.t)) refl moved
+    where
+      by : (b : Bool) → is_within limit (ratio_of f.t) ≡ b → IsPermutation ((if b then Candidate f ∷ [] else []) ++ old) new → AddsOne (AddsFound limit f) old new
+      by true in_ p = (Candidate f ∷ [], inr refl, p)
+      by false far p = ([], inl (refl, far), p)
+
+-- a node was left out, since it isn't met within the limit
+pub left_node : (limit : Option Ratio) (entry : WalkNode → Option Ratio) (n : WalkNode) (turns : List Turn) → is_open limit (entry n) ≡ false
+    → AddsOne (AddsNode limit entry n) turns turns
+left_node limit entry n turns far = ([], inl (refl, far), IsPermutation-refl turns)
+
+-- ---- one after the other
+
+module _ {X : Type 0} (P : X → List Turn → Type 0) where
+  pub Adds-none : (turns : List Turn) → Adds P [] turns turns
+  Adds-none turns = IsPermutation-refl turns
+
+  Adds-before : (xs : List X) (old mid new : List Turn) → IsPermutation old mid → Adds P xs mid new → Adds P xs old new
+  Adds-before [] old mid new moved p = IsPermutation-trans old mid new moved p
+  Adds-before (x ∷ xs) old mid new moved (first, (ts, q, p), rest) =
+      (first, (ts, q, IsPermutation-trans (ts ++ old) (ts ++ mid) first (IsPermutation-append_right ts old mid moved) p), rest)
+
+  pub Adds-append : (xs ys : List X) (old mid new : List Turn) → Adds P xs old mid → Adds P ys mid new → Adds P (xs ++ ys) old new
+  Adds-append [] ys old mid new moved rest = Adds-before ys old mid new moved rest
+  Adds-append (x ∷ xs) ys old mid new (first, one, more) rest = (first, one, Adds-append xs ys first mid new more rest)
+
+  pub Adds-more : (xs : List X) (x : X) (old mid new : List Turn) → Adds P xs old mid → AddsOne (P x) mid new → Adds P (xs ++ x ∷ []) old new
+  Adds-more xs x old mid new before one = Adds-append xs (x ∷ []) old mid new before (new, one, IsPermutation-refl new)
+
+-- ---- a node
+
+module _ (limit : Option Ratio) (s : SceneValue) (n : WalkNode) (old new : List Turn) where
+  -- at which nothing is found
+  pub IsOpened-inner : s.finds n ≡ [] → AddsNodes limit s (s.below n) old new → IsOpened limit s n old new
+  IsOpened-inner none added = (new, added, subst (λ fs. Adds (AddsFound limit) fs new new) (sym none) (IsPermutation-refl new))
+
+  -- below which there is none
+  pub IsOpened-leaf : s.below n ≡ [] → Adds (AddsFound limit) (s.finds n) old new → IsOpened limit s n old new
+  IsOpened-leaf none added = (old, subst (λ ns. AddsNodes limit s ns old old) (sym none) (IsPermutation-refl old), added)

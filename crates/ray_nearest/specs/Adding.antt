@@ -1,0 +1,43 @@
+-- What opening a node adds to the turns that wait.
+use Rattle.std.specs.Prelude.{◌≡◌, ◌++◌, ◌⊎◌, false, Option, Some, None, List, [], ◌∷◌}
+use Rattle.std.specs.List.Sorted.{IsPermutation}
+use Rattle.std.specs.declared.cmp.Ordering.TheVariants.{Equal}
+use Rattle.ray_geom.specs.declared.ratio.Ratio.{Ratio}
+use Rattle.ray_geom.specs.Ratio.{ratio_cmp, ratio_of}
+use Rattle.ray_query.specs.declared.found.Found.{Found}
+use Rattle.ray_nearest.specs.declared.node.WalkNode.{WalkNode}
+use Rattle.ray_nearest.specs.declared.turn.Turn.{Turn}
+use Rattle.ray_nearest.specs.declared.turn.Turn.TheVariants.{Node, Candidate}
+use Rattle.ray_nearest.specs.Scene.{SceneValue, is_open, is_within}
+
+-- a ratio has the value of an entry; which of the ratios of that value it is, is free
+abbrev pub HasValue : Option Ratio → Ratio → Type 0
+HasValue None e = ⊥
+HasValue (Some a) e = ratio_cmp e a ≡ Equal
+
+-- what a node adds: its turn, at its entry; or none, where the ray doesn't meet its box within the limit
+abbrev pub AddsNode : Option Ratio → (WalkNode → Option Ratio) → WalkNode → List Turn → Type 0
+AddsNode limit entry n ts =
+    ((ts ≡ []) × (is_open limit (entry n) ≡ false)) ⊎ ((e : Ratio) × HasValue (entry n) e × (ts ≡ Node e n ∷ []))
+
+-- what a thing that is found adds: its turn; or none, where it is beyond the limit
+abbrev pub AddsFound : Option Ratio → Found → List Turn → Type 0
+AddsFound limit f ts = ((ts ≡ []) × (is_within limit (ratio_of f.t) ≡ false)) ⊎ (ts ≡ Candidate f ∷ [])
+
+-- turns were added, such as Q allows, and the others stayed, in whatever order
+abbrev pub AddsOne : (List Turn → Type 0) → List Turn → List Turn → Type 0
+AddsOne Q old new = (ts : List Turn) × Q ts × IsPermutation (ts ++ old) new
+
+-- for each of a list, one after the other, turns were added such as P allows for it
+abbrev pub Adds : {X : Type 0} → (X → List Turn → Type 0) → List X → List Turn → List Turn → Type 0
+Adds P [] old new = IsPermutation old new
+Adds P (x ∷ xs) old new = (mid : List Turn) × AddsOne (P x) old mid × Adds P xs mid new
+
+-- the turns of nodes were added
+abbrev pub AddsNodes : Option Ratio → SceneValue → List WalkNode → List Turn → List Turn → Type 0
+AddsNodes limit s = Adds (AddsNode limit s.entry)
+
+-- a node was opened: the turns of the nodes below it were added, and those of what is found there
+abbrev pub IsOpened : Option Ratio → SceneValue → WalkNode → List Turn → List Turn → Type 0
+IsOpened limit s n old new =
+    (mid : List Turn) × AddsNodes limit s (s.below n) old mid × Adds (AddsFound limit) (s.finds n) mid new

@@ -1,0 +1,105 @@
+ghost use Rattle.std.specs.Prelude.{◌≡◌, ◌+◌, ◌≤◌, IfOk, OnOk, None};
+ghost use Rattle.ray_nearest.specs.Answer.{answer_in};
+ghost use Rattle.ray_nearest.specs.Scene.{IsScene, distance_of, opened_in};
+ghost use Rattle.ray_nearest.specs.Taking.{IsKnown, Takes};
+ghost use Rattle.ray_nearest.specs.Turns.{IsNext, turn_at};
+
+use crate::scene::Scene;
+use crate::turn::Turn;
+use crate::turns::{Turns, is_within};
+use ray_flags::RayFlags;
+use ray_geom::{Ratio, Steps};
+use ray_query::{Client, Commit, Query, parts_law, passing_law};
+use std::alloc::AllocError as NoMemory;
+use std::sync::ledger::Ledger;
+
+/// What the trace of a ray commits in a scene, nearest first: it opens nodes and plays what is found
+/// in rising order of distance, and ends where all that waits is beyond the committed hit. None
+/// exactly where the play of all that is found commits nothing. A step is taken for each primitive
+/// that is tested, and these are no more than the primitives of opened leaves. Turns that wait in
+/// `turns` are dropped; memory is taken for turns alone. `ray` is the ray's number in its trace.
+/// (Vulkan, "Ray Traversal"; own: the order, and the bound.)
+pub fn walk<S: Scene, C: Client, L: Ledger>(
+    scene: &mut S,
+    ray: u32,
+    flags: RayFlags,
+    client: &C,
+    turns: &mut Turns,
+    steps: &mut Steps<L>,
+) -> Result<Option<Commit>, NoMemory>
+    requires scene { IsScene (S.IsNode scene.old) (S.scene scene.old) }
+    ensures answer { IfOk result (λ answer. answer
+        ≡ answer_in (C.meaning client.now) ray flags (S.scene scene.old)) }
+    ensures bound { IfOk result (λ answer. steps.new
+        ≤ steps.old + opened_in (S.scene scene.old) (distance_of answer)) }
+    ensures rising { steps.old ≤ steps.new }
+    ensures kept { scene.new ≡ scene.old }
+{
+    passing_law();
+    parts_law();
+    turns.clear();
+    scene.begin(turns)?;
+    let mut query = Query::initialize(ray, flags);
+    while let Some(turn) = next_turn(&query, turns) {
+        take(scene, client, &mut query, turn, turns, steps)?;
+    }
+    Ok(query.committed())
+}
+
+// The next turn, if one is to be taken.
+fn next_turn(query: &Query, turns: &mut Turns) -> Option<Turn>
+    ensures { IsNext query.now.state turns.old result turns.new }
+{
+    if query.over() {
+        return None;
+    }
+    let turn = turns.pop()?;
+    if is_within(distance_of(query), turn_at(&turn)) {
+        Some(turn)
+    } else {
+        None
+    }
+}
+
+// Takes a turn: opens a node, plays a candidate.
+fn take<S: Scene, C: Client, L: Ledger>(
+    scene: &mut S,
+    client: &C,
+    query: &mut Query,
+    turn: Turn,
+    turns: &mut Turns,
+    steps: &mut Steps<L>,
+) -> Result<(), NoMemory>
+    requires known { IsKnown (S.IsNode scene.old) turn }
+    requires answered { query.old.asked ≡ None }
+    ensures taken { OnOk result (Takes (C.meaning client.now) (S.scene scene.old) turn
+        query.old turns.old steps.old query.new turns.new steps.new) }
+    ensures rising { steps.old ≤ steps.new }
+    ensures kept { scene.new ≡ scene.old }
+{
+    match turn {
+        Turn::Node(_, node) => scene.open(node, distance_of(query), turns, steps),
+        Turn::Candidate(found) => {
+            query.play_one(client, found);
+            Ok(())
+        }
+    }
+}
+
+// Up to where the walk looks.
+fn distance_of(query: &Query) -> Option<Ratio>
+    ensures { result ≡ distance_of query.now.state.committed }
+{
+    let commit = query.committed()?;
+    Some(Ratio::of(commit.t))
+}
+
+// At which distance a turn comes.
+fn turn_at(turn: &Turn) -> Ratio
+    ensures { result ≡ turn_at turn.now }
+{
+    match turn {
+        Turn::Node(entry, _) => *entry,
+        Turn::Candidate(found) => Ratio::of(found.t),
+    }
+}
