@@ -3,3 +3,4 @@ pub mod Candidates
 pub mod Laws
 pub mod Standing
 pub mod Telling
+pub mod Traced
