@@ -5,6 +5,7 @@ use Rattle.std.specs.Ordering.{is_eq, is_le, ordering_then}
 use Rattle.std.specs.declared.cmp.Ordering.{Ordering}
 use Rattle.std.specs.declared.cmp.Ordering.TheVariants.{Less, Equal, Greater}
 use Rattle.std.proofs.lemmas.Bool.Decides.{nat_tests}
+use Rattle.std.proofs.Math.Nat.{mul-le-mul_right}
 use Rattle.std.proofs.lemmas.Cmp.{ranked, tied_itself}
 use Rattle.std.proofs.lemmas.List.Elements.{All-cons, All-nil}
 use Rattle.std.proofs.lemmas.List.Sums.{sum_by-cons}
@@ -43,6 +44,11 @@ same_primitive k l p =
     ranked k.primitive l.primitive Equal
     (sym (then_second (nat_cmp k.geometry l.geometry) (nat_cmp k.primitive l.primitive)
     (then_second (nat_cmp k.instance l.instance) _ (then_second (frac_cmp k.t l.t) _ p))))
+
+pub at_least : (n t num den : ℕ) → n ≤ t → num ≡ t * den → n * den ≤ num
+at_least n t num den least at =
+    let more : n * den ≤ t * den = mul-le-mul_right den least in
+    omega (arith, more, at)
 
 pub seven : (m n : ℕ) → m ≡ 7 → n ≡ 3 → m ≡ n → ⊥
 seven m n is_m is_n same = absurd (omega (arith, is_m, is_n, same))

@@ -1,5 +1,5 @@
 -- For tests alone: a scene of a node over two leaves, in each of which one thing is found. The laws of scenes hold of it.
-use Rattle.std.specs.Prelude.{ℕ, zero, suc, ◌≡◌, ◌*◌, Option, Some, None, List, [], ◌∷◌}
+use Rattle.std.specs.Prelude.{ℕ, zero, suc, ◌≡◌, ◌*◌, ◌≤◌, Option, Some, None, List, [], ◌∷◌}
 use Rattle.ray_geom.specs.declared.ratio.Ratio.{Ratio}
 use Rattle.ray_geom.specs.Frac.{numerator, denominator}
 use Rattle.ray_geom.specs.Ratio.{over_suc}
@@ -57,10 +57,10 @@ small_parts near far = record {
   rank = small_rank;
 }
 
--- one is found at 2 and one at 4, and they are two primitives
+-- one is found at 1 or beyond, one at 3 or beyond, and they are two primitives
 pub record AreSmall (near far : Found) : Type 0 where
-  pub near_at : numerator near.t ≡ 2 * denominator near.t
-  pub far_at : numerator far.t ≡ 4 * denominator far.t
+  pub near_at : 1 * denominator near.t ≤ numerator near.t
+  pub far_at : 3 * denominator far.t ≤ numerator far.t
   pub near_exit : near.exit ≡ near.t
   pub far_exit : far.exit ≡ far.t
   pub apart : near.primitive ≡ far.primitive → ⊥

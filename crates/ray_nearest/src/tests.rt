@@ -1,4 +1,4 @@
-ghost use Rattle.std.specs.Prelude.{◌≡◌, ◌*◌, ◌<◌};
+ghost use Rattle.std.specs.Prelude.{◌≡◌, ◌*◌, ◌<◌, ◌≤◌};
 ghost use Rattle.ray_geom.specs.Frac.{denominator, numerator};
 
 use crate::{NoMemory, Scene, Turns, WalkNode, walk};
@@ -22,8 +22,7 @@ impl Client for Always {
     }
 }
 
-// A node over two leaves, which are entered at 1 and at 3. What is found in the first is at 2, in
-// the second at 4.
+// A node over two leaves, which are entered at 1 and at 3, with one triangle each.
 #[derive(Drop)]
 struct Small {
     near: Found,
@@ -121,15 +120,21 @@ fn triangle(t: u32, primitive: u32) -> Found
     }
 }
 
-// Which primitive is committed where all is decided so.
+// Which primitive is committed where the triangle of the first leaf, the primitive 7, is at one
+// distance, that of the second, the primitive 3, at another, and all is decided so.
 fn committed<L: Ledger>(
     turns: &mut Turns,
+    near: u32,
+    far: u32,
     decision: Decision,
     steps: &mut Steps<L>,
-) -> Result<Option<u32>, NoMemory> {
+) -> Result<Option<u32>, NoMemory>
+    requires near { 1 ≤ near }
+    requires far { 3 ≤ far }
+{
     let mut small = Small {
-        near: triangle(2, 7),
-        far: triangle(4, 3),
+        near: triangle(near, 7),
+        far: triangle(far, 3),
     };
     let client = Always { decision };
     match walk(&mut small, 9, RayFlags(0), &client, turns, steps)? {
@@ -140,17 +145,19 @@ fn committed<L: Ledger>(
 
 #[test]
 fn nearest(rt: HostRuntime) -> Result<(), NoMemory> {
-    // The decision on each candidate, and the primitive that is committed.
-    let cases: [(&str, Decision, Option<u32>); 4] = [
-        ("confirmed", Decision::Confirm, Some(7)),
-        ("confirmed and ended", Decision::ConfirmTerminate, Some(7)),
-        ("ignored", Decision::Ignore, None),
-        ("ended", Decision::Terminate, None),
+    // The distances, the decision on each candidate, and the primitive that is committed.
+    let cases: [(&str, u32, u32, Decision, Option<u32>); 6] = [
+        ("the first", 2, 4, Decision::Confirm, Some(7)),
+        ("the second", 4, 3, Decision::Confirm, Some(3)),
+        ("at one distance", 3, 3, Decision::Confirm, Some(3)),
+        ("and ended", 2, 4, Decision::ConfirmTerminate, Some(7)),
+        ("ignored", 2, 4, Decision::Ignore, None),
+        ("ended", 2, 4, Decision::Terminate, None),
     ];
     let mut turns = Turns::new(rt.alloc());
     let mut steps: Steps<Brand> = Steps::zero();
-    for (name, decision, want) in cases {
-        let got = committed(&mut turns, decision, &mut steps)?;
+    for (name, near, far, decision, want) in cases {
+        let got = committed(&mut turns, near.max(1), far.max(3), decision, &mut steps)?;
         assert!(rt; got == want, "{}", name);
     }
     Ok(())
