@@ -1,7 +1,6 @@
 -- A scene from its parts keeps the laws of scenes.
-use Rattle.std.proofs.Common.{◌≡◌, ◌∙◌, ◌++◌, ◌+◌, ◌≤◌, ◌<◌, ◌⊎◌, refl, sym, ap, subst, ℕ, zero, suc, Option, Some, None, Bool, true, false, if◌then◌else◌, List, [], ◌∷◌, length, map, All, inl, inr, sum_by, arith}
+use Rattle.std.proofs.Common.{◌≡◌, ◌∙◌, ◌++◌, ◌+◌, ◌≤◌, ◌<◌, ◌⊎◌, refl, ap, subst, ℕ, zero, suc, Option, Bool, true, false, if◌then◌else◌, List, [], ◌∷◌, length, map, All, inl, inr, sum_by, arith}
 use Rattle.std.specs.List.{flat_map, sum}
-use Rattle.std.proofs.lemmas.List.Concat.{flat_map-append}
 use Rattle.std.proofs.lemmas.List.Folds.{flat_map-map}
 use Rattle.std.proofs.lemmas.List.Sums.{sum-map}
 use Rattle.ray_geom.specs.declared.ratio.Ratio.{Ratio}
@@ -9,7 +8,7 @@ use Rattle.ray_geom.specs.Ratio.{ratio_of}
 use Rattle.ray_query.specs.declared.found.Found.{Found}
 use Rattle.ray_nearest.specs.declared.node.WalkNode.{WalkNode}
 use Rattle.ray_nearest.specs.Parts.{AreParts, IsBelow, SceneParts, every_with, grown, opened_with, scene_of, size_with}
-use Rattle.ray_nearest.specs.Scene.{Holds, IsInOrder, IsScene, SceneValue, is_open}
+use Rattle.ray_nearest.specs.Scene.{Holds, IsInOrder, IsScene, is_open}
 use Rattle.ray_nearest.proofs.Members.{All-from_Each, Each-from_members, Each-member, Member, Member-append}
 use Rattle.ray_nearest.proofs.Orders.{Each-from_All}
 use Rattle.ray_nearest.proofs.Pending.{Member-flat_map}

@@ -8,3 +8,4 @@ mod Moving
 mod Underway
 pub mod Growing
 pub mod Added
+pub mod SmallScene

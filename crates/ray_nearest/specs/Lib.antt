@@ -7,3 +7,4 @@ pub mod Heaps
 pub mod TurnLaws
 pub mod Answer
 pub mod Taking
+pub mod Small

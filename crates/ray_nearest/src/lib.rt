@@ -16,6 +16,8 @@
 mod nearest;
 mod node;
 mod scene;
+#[cfg(test)]
+mod tests;
 mod turn;
 mod turns;
 mod waiting;
