@@ -8,7 +8,8 @@ use Rattle.ray_geom.specs.Ratio.{ratio_of}
 use Rattle.ray_query.specs.declared.found.Found.{Found}
 use Rattle.ray_nearest.specs.declared.node.WalkNode.{WalkNode}
 use Rattle.ray_nearest.specs.Parts.{AreParts, IsBelow, SceneParts, every_with, grown, opened_with, scene_of, size_with}
-use Rattle.ray_nearest.specs.Scene.{Holds, IsInOrder, IsScene, is_open}
+use Rattle.ray_nearest.specs.KeyOrder.{AreApart}
+use Rattle.ray_nearest.specs.Scene.{Holds, IsInOrder, IsScene, found_in, is_open}
 use Rattle.ray_nearest.proofs.Members.{All-from_Each, Each-from_members, Each-member, Member, Member-append}
 use Rattle.ray_nearest.proofs.Orders.{Each-from_All}
 use Rattle.ray_nearest.proofs.Pending.{Member-flat_map}
@@ -53,7 +54,7 @@ module _ (IsNode : WalkNode → Type 0) (p : SceneParts) (parts : AreParts IsNod
             let b : IsBelow IsNode p n c = child n known c m in
             stable (p.rank n) (suc (p.rank c)) c b.known b.lower (omega arith)))
 
-  every : (n : WalkNode) → IsNode n → (scene_of p).every n ≡ flat_map (scene_of p).every (p.below n) ++ p.finds n
+  pub every : (n : WalkNode) → IsNode n → (scene_of p).every n ≡ flat_map (scene_of p).every (p.below n) ++ p.finds n
   every n known =
       unfolds (every_with p) [] n known ∙
       ap (λ fs. fs ++ p.finds n) (flat_map-map (λ fs. fs) (scene_of p).every (p.below n))
@@ -96,13 +97,13 @@ module _ (IsNode : WalkNode → Type 0) (p : SceneParts) (parts : AreParts IsNod
         by (inl m) rest = below (Member-flat_map (scene_of p).every (p.below n) f m) rest
         by (inr m) rest = here n known f m
 
-  pub IsScene-scene_of : IsScene IsNode (scene_of p)
-  IsScene-scene_of = record {
+  pub IsScene-scene_of : AreApart (found_in (scene_of p)) → IsScene IsNode (scene_of p)
+  IsScene-scene_of apart = record {
     roots = parts.roots;
     below = λ n known. all_members IsNode (p.below n) (λ c m. (child n known c m).known);
     every = every;
     size = size;
-    apart = parts.apart;
+    apart = apart;
     holds = λ n known. all_members (Holds (p.entry n)) ((scene_of p).every n)
         (throughout (λ n f. Holds (p.entry n) f) (λ n known. each_member (Holds (p.entry n)) (p.finds n) (parts.holds n known))
         (λ n c f b h. b.nests (ratio_of f.t) h) (suc (p.rank n)) n known (omega arith));

@@ -5,8 +5,7 @@ use Rattle.std.specs.List.{sum, flat_map}
 use Rattle.ray_geom.specs.declared.ratio.Ratio.{Ratio}
 use Rattle.ray_query.specs.declared.found.Found.{Found}
 use Rattle.ray_nearest.specs.declared.node.WalkNode.{WalkNode}
-use Rattle.ray_nearest.specs.KeyOrder.{AreApart}
-use Rattle.ray_nearest.specs.Scene.{Holds, IsInOrder, SceneValue, found_in, is_open}
+use Rattle.ray_nearest.specs.Scene.{Holds, IsInOrder, SceneValue, is_open}
 
 -- what is right at each node: as in `SceneValue`, with a rank that falls from a node to those below
 pub record SceneParts : Type 0 where
@@ -63,4 +62,3 @@ pub record AreParts (IsNode : WalkNode → Type 0) (p : SceneParts) : Type 0 whe
   pub below : (n : WalkNode) → IsNode n → All (IsBelow IsNode p n) (p.below n)
   pub holds : (n : WalkNode) → IsNode n → All (Holds (p.entry n)) (p.finds n)
   pub in_order : (n : WalkNode) → IsNode n → All IsInOrder (p.finds n)
-  pub apart : AreApart (found_in (scene_of p))

@@ -3,6 +3,8 @@ pub mod Fractions
 pub mod Members
 pub mod Order
 pub mod Joined
+pub mod Spread
+pub mod Leaves
 pub mod Apart
 pub mod Findings
 pub mod Placing

@@ -13,5 +13,5 @@ returns-clause-value g c =
     let top = without_tree c.in-Some-Some.top.now in
     subst (λ (o : Outcome). IsFetched o c.hits.result)
     ((λ i. rays_outcome top (λ id. c.bottoms-bottoms.ensures.value id i) a.script.now a.flags a.mask rays a.first a.count)
-    ∙ (λ i. traced_through (bottoms_of (memory_of a.state.now)) (c.in-Some-Some.ensures i) (c.in-Some-Some.ensures' i) a.first a.count a.flags a.mask a.script.now))
+    ∙ (λ i. traced_through (bottoms_of (memory_of a.state.now)) (c.in-Some-Some.ensures i) (c.in-Some-Some.ensures'.value i) a.first a.count a.flags a.mask a.script.now))
     c.hits.ensures.value

@@ -1,3 +1,4 @@
+use Rattle.ray_top.specs.Trees.{without_tree}
 use Rattle.ray_walk.specs.Standing.{structures_in}
 use Rattle.ray_device.specs.Tracing.{AreSoFar, rays_outcome}
 use Rattle.ray_device.proofs.tracing.hits.Given as goal
@@ -5,5 +6,5 @@ use Rattle.ray_device.proofs.tracing.hits.Given as goal
 -- the hits of the rays so far
 abbrev pub invariant-loop-k : goal.invariant-loop-k
 invariant-loop-k g l =
-    AreSoFar (rays_outcome l.fn.top (structures_in l.fn.bottoms) l.fn.script l.fn.flags l.fn.mask l.fn.rays l.fn.first l.k)
+    AreSoFar (rays_outcome (without_tree l.fn.top) (structures_in l.fn.bottoms) l.fn.script l.fn.flags l.fn.mask l.fn.rays l.fn.first l.k)
     l.out.items l.initial.steps l.steps
