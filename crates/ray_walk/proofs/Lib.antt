@@ -5,6 +5,11 @@ pub mod Order
 pub mod Joined
 pub mod Spread
 pub mod Leaves
+pub mod Aligned
+pub mod Placements
+pub mod Every
+pub mod Missing
+pub mod Everywhere
 pub mod Apart
 pub mod Findings
 pub mod Placing
