@@ -10,3 +10,5 @@ pub mod Exactly
 pub mod Playing
 pub mod Facing
 pub mod Agreeing
+pub mod Opened
+pub mod Reduced
