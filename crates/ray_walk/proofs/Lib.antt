@@ -12,3 +12,5 @@ pub mod Facing
 pub mod Agreeing
 pub mod Opened
 pub mod Reduced
+pub mod HitInside
+pub mod SpanInside
