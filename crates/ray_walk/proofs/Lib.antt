@@ -14,3 +14,5 @@ pub mod Opened
 pub mod Reduced
 pub mod HitInside
 pub mod SpanInside
+pub mod Bounded
+pub mod FoundInside

@@ -4,3 +4,4 @@ pub mod Laws
 pub mod Standing
 pub mod Telling
 pub mod Traced
+pub mod Sound

@@ -1,0 +1,42 @@
+-- What a walk knows of the structures that it looks at: each bottom structure is within the limits, with a tree over its primitives. (Own.)
+use Rattle.std.specs.Prelude.{ℕ, ◌≡◌, Option, Some, option_and_then, List, slice_get}
+use Rattle.ray_geom.specs.Boxes.{BoxValue}
+use Rattle.ray_geom.specs.Transform.{IsMatrix}
+use Rattle.ray_contents.specs.Bounds.{KeepsBounds}
+use Rattle.ray_primitives.specs.Primitives.{box_of_triangle}
+use Rattle.ray_tree.specs.Trees.{TreeOver, item_box}
+use Rattle.ray_bottom.specs.declared.geometry.Geometry.{Geometry}
+use Rattle.ray_bottom.specs.declared.shapes.Shapes.{Shapes}
+use Rattle.ray_bottom.specs.declared.shapes.Shapes.TheVariants.{Triangles, Boxes}
+use Rattle.ray_bottom.specs.declared.prim_place.PrimPlace.{PrimPlace}
+use Rattle.ray_bottom.specs.Contents.{IsContents, bounds_of}
+use Rattle.ray_bottom.specs.Slots.{Slots, structure_at}
+use Rattle.ray_bottom.specs.Trees.{BottomWithTree, without_tree, items_of, place_at}
+use Rattle.ray_walk.specs.Traced.{Placement}
+
+-- a bottom structure within the limits, with a tree over its primitives
+pub record IsSound (b : BottomWithTree) : Type 0 where
+  pub limits : IsContents (without_tree b)
+  pub over : TreeOver b.tree (items_of b.geometries)
+
+-- each of them is so
+pub record AreSound (bottoms : Slots) : Type 0 where
+  pub each : (id : ℕ) (b : BottomWithTree) → structure_at id bottoms ≡ Some b → IsSound b
+
+-- the box of the primitive of a number, and of that at a place; none where none stands there, and where it is inactive
+abbrev pub shape_box : ℕ → Shapes → Option BoxValue
+shape_box i (Triangles format index_size triangles) = option_and_then box_of_triangle (slice_get triangles i)
+shape_box i (Boxes boxes) = option_and_then (λ box. box) (slice_get boxes i)
+
+abbrev pub prim_box : List Geometry → PrimPlace → Option BoxValue
+prim_box geometries place = option_and_then (λ (g : Geometry). shape_box place.primitive g.shapes) (slice_get geometries place.geometry)
+
+-- the box of an active item is that of the primitive at its place
+pub record AreAligned (geometries : List Geometry) : Type 0 where
+  pub each : (item : ℕ) (box : BoxValue) → item_box (items_of geometries) item ≡ Some box → prim_box geometries (place_at geometries item) ≡ Some box
+
+-- an instance with its structure: its transform is within the limits, and keeps the bounds of the structure
+pub record IsWellPlaced (p : Placement) : Type 0 where
+  pub matrix : IsMatrix p.instance.matrix
+  pub kept : KeepsBounds p.instance.matrix (bounds_of p.bottom.geometries)
+  pub sound : IsSound p.bottom
