@@ -16,3 +16,6 @@ pub mod HitInside
 pub mod SpanInside
 pub mod Bounded
 pub mod FoundInside
+pub mod WellPlaced
+pub mod LeafItems
+pub mod LeafHolds
