@@ -19,3 +19,6 @@ pub mod FoundInside
 pub mod WellPlaced
 pub mod LeafItems
 pub mod LeafHolds
+pub mod InBounds
+pub mod Seam
+pub mod InnerNests
