@@ -22,3 +22,5 @@ pub mod LeafHolds
 pub mod InBounds
 pub mod Seam
 pub mod InnerNests
+pub mod Aligned
+pub mod NodesHold
