@@ -5,7 +5,8 @@ use Rattle.ray_flags.specs.declared.ray_flags.RayFlags.{RayFlags}
 use Rattle.ray_bottom.specs.Contents.{ContentsValue as BottomContents}
 use Rattle.ray_top.specs.Instances.{InstanceValue}
 use Rattle.ray_top.specs.Contents.{ContentsValue as TopContents}
-use Rattle.ray_walk.specs.Candidates.{Structures, active_instance, candidates, found_in, found_in_instance, found_in_structure, in_key_order, is_seen, joined}
+use Rattle.ray_walk.specs.Candidates.{Structures, active_instance, candidates, found_in, found_in_instance, found_in_structure, is_seen, joined}
+use Rattle.ray_nearest.specs.KeyOrder.{in_key_order}
 use Rattle.ray_walk.specs.Laws.{AgreeFor, CandidatesAgree}
 use Rattle.ray_walk.proofs.Placing.{All-at}
 

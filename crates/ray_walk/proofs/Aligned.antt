@@ -17,7 +17,7 @@ use Rattle.ray_bottom.specs.declared.prim_place.PrimPlace.{PrimPlace}
 use Rattle.ray_bottom.specs.Contents.{count_of, count_of_shapes}
 use Rattle.ray_bottom.specs.Trees.{items_of, items_of_shapes, place_of, places_from, place_at}
 use Rattle.ray_walk.specs.Candidates.{joined}
-use Rattle.ray_walk.specs.Sound.{shape_box, prim_box}
+use Rattle.ray_walk.specs.Sound.{shape_box, prim_box, AreAligned}
 use Rattle.ray_walk.proofs.Joined.{joined-zero, joined-suc}
 
 -- ---- lists by the numbers of their members
@@ -94,6 +94,12 @@ aligned before (g ∷ gs) =
 pub places-many : (gs : List Geometry) → length (places_from 0 gs) ≡ length (items_of gs)
 places-many gs = sym (ap length (aligned [] gs) ∙ length-map (places_from 0 gs) (prim_box gs))
 
+-- what stands in a list stands below its end
+some-below : {X : Type 0} (xs : List (Option X)) (k : ℕ) (x : X) → get_or xs k None ≡ Some x → k < length xs
+some-below [] k x e = absurd cc
+some-below (y ∷ xs) zero x e = omega arith
+some-below (y ∷ xs) (suc k) x e = let below = some-below xs k x e in omega (arith, below)
+
 -- the box of an item is that of the primitive at its place
 pub item-aligned : (gs : List Geometry) (p : ℕ) → p < length (items_of gs) → item_box (items_of gs) p ≡ prim_box gs (place_at gs p)
 item-aligned gs p below =
@@ -149,3 +155,11 @@ module _ {X : Type 0} (H : PrimPlace → List X) (K : ℕ → Option Geometry �
       ∙ (sym (flat_map-map H (place_at whole) (range_with_len 0 (length places)))
       ∙ (ap (flat_map H) (numbered [] places (place_of 0 0))
       ∙ (given [] whole refl ∙ sym (joined-range (λ k. K k (slice_get whole k)) (length whole))))))
+
+-- the box of an active item is that of the primitive at its place
+pub are_aligned : (gs : List Geometry) → AreAligned gs
+are_aligned gs = record {
+  each = λ item box is.
+      let below : item < length (items_of gs) = some-below (items_of gs) item box is in
+      sym (item-aligned gs item below) ∙ is;
+}

@@ -32,7 +32,7 @@ use Rattle.ray_nearest.specs.Parts.{AreParts, scene_of}
 use Rattle.ray_nearest.specs.Scene.{found_in as found_in_scene}
 use Rattle.ray_walk.specs.Candidates.{active_instance, found_in, found_in_geometry, found_in_instance, found_in_structure, is_seen, joined, placed}
 use Rattle.ray_walk.specs.Standing.{IsStanding, structures_in}
-use Rattle.ray_walk.specs.Sound.{IsWellTraced, prim_box}
+use Rattle.ray_walk.specs.Sound.{IsWalkable, prim_box}
 use Rattle.ray_walk.specs.Traced.{Traced, Placement, IsNode, found_at_place, found_in_placed, found_of_item, parts_of, placement_at, placement_of, ref, root_in, root_of_placement, roots_by, roots_of, top_ref}
 use Rattle.ray_walk.proofs.Placing.{All-at}
 use Rattle.ray_walk.proofs.Placements.{IsPlacement, placement-is, some_same}
@@ -70,7 +70,7 @@ module _ {X : Type 0} (F : ℕ → List X) (tree : TreeValue) (items : List (Opt
   }
 
 -- below the root of a tree, if it has one, is what its items give
-root-gives : {X Y : Type 0} (G : X → List Y) (F : ℕ → List Y) (tree : TreeValue) (root : X)
+pub root-gives : {X Y : Type 0} (G : X → List Y) (F : ℕ → List Y) (tree : TreeValue) (root : X)
     → (0 < length tree.nodes → G root ≡ flat_map F (items_below tree.order (shape_at tree 0)))
     → flat_map G (root_in tree.nodes root) ≡ flat_map F (items_below tree.order (shape_at tree 0))
 root-gives G F tree root gives = by tree.nodes refl
@@ -110,7 +110,7 @@ world-some m box e =
     let never : IsSome {T = BoxValue} None = subst IsSome e is.some in
     cc
 
-no_bounds : (m : MatrixValue) (o : Option BoxValue) → option_and_then (tops.world_box m) o ≡ None → o ≡ None
+pub no_bounds : (m : MatrixValue) (o : Option BoxValue) → option_and_then (tops.world_box m) o ≡ None → o ≡ None
 no_bounds m None e = refl
 no_bounds m (Some box) e = absurd (world-some m box e)
 
@@ -121,7 +121,7 @@ is-active items q is = by (item_box items q) refl
     by None e = let none = active-some items q None e in absurd (omega (arith, none, is))
     by (Some box) e = (box, e)
 
-no-root : (tree : TreeValue) (gs : List Geometry) → TreeOver tree (bottoms.items_of gs) → bounds_of gs ≡ None → 0 < length tree.nodes → ⊥
+pub no-root : (tree : TreeValue) (gs : List Geometry) → TreeOver tree (bottoms.items_of gs) → bounds_of gs ≡ None → 0 < length tree.nodes → ⊥
 no-root tree gs over none some =
     let items = bottoms.items_of gs in
     let has = has_items tree.order items over.active_once in
@@ -137,11 +137,11 @@ no-root tree gs over none some =
 
 -- ---- an instance, and all of them
 
-module _ (s : Traced) (well : IsWellTraced s) (parts : AreParts (IsNode s) (parts_of s)) where
+module _ (s : Traced) (well : IsWalkable s) (parts : AreParts (IsNode s) (parts_of s)) where
   placed-found : (j : ℕ) (p : Placement) → placement_at s j ≡ Some p
       → IsPermutation (of_instance s parts j) (found_in_structure s.ray s.flags j p.instance (Some (bottoms.without_tree p.bottom)))
   placed-found j p is =
-      let over = (well.sound.each p.instance.id p.bottom (placement-is s j p is).stands).over in
+      let over = (well.bottoms.each p.instance.id p.bottom (placement-is s j p is).stands).over in
       let same : of_instance s parts j ≡ flat_map (found_of_item s j p) (items_below p.bottom.tree.order (shape_at p.bottom.tree 0)) =
       ap (λ o. flat_map (all s parts) (roots_by j o)) is
       ∙ root-gives (all s parts) (found_of_item s j p) p.bottom.tree (ref j p.bottom.tree 0) (λ some. bottom-every s parts j p is over.shape 0 some) in

@@ -1,7 +1,8 @@
 -- The candidates are what the ray finds, in rising order of keys, and no other list is.
 use Rattle.std.proofs.Common.{List}
 use Rattle.ray_query.specs.declared.found.Found.{Found}
-use Rattle.ray_walk.specs.Candidates.{candidates, found_in, in_key_order}
+use Rattle.ray_walk.specs.Candidates.{candidates, found_in}
+use Rattle.ray_nearest.specs.KeyOrder.{in_key_order}
 use Rattle.ray_walk.specs.Laws.{AreCandidates, CandidatesAreSo, CandidatesAreOne}
 use Rattle.ray_walk.proofs.Members.{Member-from_Contains, Contains-from_Member}
 use Rattle.ray_walk.proofs.Order.{KeysRise-from_Rises, Rises-from_KeysRise, Rises-in_key_order, in_key_order-has, in_key_order-keeps, rising_same}

@@ -10,6 +10,8 @@ pub mod Placements
 pub mod Every
 pub mod Missing
 pub mod Everywhere
+pub mod Walking
+pub mod Answering
 pub mod Apart
 pub mod Findings
 pub mod Placing
@@ -17,3 +19,16 @@ pub mod Exactly
 pub mod Playing
 pub mod Facing
 pub mod Agreeing
+pub mod Opened
+pub mod Reduced
+pub mod HitInside
+pub mod SpanInside
+pub mod Bounded
+pub mod FoundInside
+pub mod WellPlaced
+pub mod LeafItems
+pub mod LeafHolds
+pub mod InBounds
+pub mod Seam
+pub mod InnerNests
+pub mod NodesHold

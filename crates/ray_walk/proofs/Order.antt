@@ -13,8 +13,7 @@ use Rattle.ray_query.specs.declared.key.Key.{Key}
 use Rattle.ray_query.specs.declared.found.Found.{Found}
 use Rattle.ray_query.specs.Key.{KeysRise, found_key, key_cmp, key_lt}
 use Rattle.ray_walk.proofs.Keys.{Each, Each-from_All, KeysRise-first, KeysRise-rest, key_cmp-total, key_lt-itself, key_lt-not_both}
-use Rattle.ray_walk.specs.Candidates.{in_key_order, inserted}
-use Rattle.ray_walk.specs.Telling.{AreApart, has_key}
+use Rattle.ray_nearest.specs.KeyOrder.{AreApart, has_key, in_key_order, inserted}
 use Rattle.ray_walk.proofs.Members.{Member, Member-from_Contains, Contains-from_Member, Each-member, Each-from_members, All-from_Each}
 
 -- ---- rising, by recursion

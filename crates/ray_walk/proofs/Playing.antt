@@ -9,8 +9,8 @@ use Rattle.ray_query.specs.declared.decision.Decision.{Decision}
 use Rattle.ray_query.specs.declared.found.Found.{Found}
 use Rattle.ray_query.specs.Machine.{QueryValue, query_of}
 use Rattle.ray_query.specs.Play.{play}
-use Rattle.ray_walk.specs.Candidates.{Structures, candidates, found_in, in_key_order, trace_answer}
-use Rattle.ray_walk.specs.Telling.{AreApart}
+use Rattle.ray_walk.specs.Candidates.{Structures, candidates, found_in, trace_answer}
+use Rattle.ray_nearest.specs.KeyOrder.{AreApart, in_key_order}
 use Rattle.ray_walk.proofs.Apart.{AreApart-found}
 
 candidates-is : (top : TopContents) (bottoms : Structures) (ray : RayValue) (flags : RayFlags) (mask : ℕ)

@@ -22,8 +22,8 @@ use Rattle.ray_query.specs.declared.candidate.Candidate.{Candidate}
 use Rattle.ray_query.specs.declared.commit.Commit.{Commit}
 use Rattle.ray_query.specs.declared.decision.Decision.{Decision}
 use Rattle.ray_query.specs.declared.found.Found.{Found}
-use Rattle.ray_query.specs.Key.{found_key, key_lt}
 use Rattle.ray_query.specs.Play.{play, start}
+use Rattle.ray_nearest.specs.KeyOrder.{in_key_order}
 use Rattle.ray_walk.specs.Fractions.{fraction_of}
 
 -- the bottom structures: the contents of the one that stands under an id, if one does
@@ -145,16 +145,6 @@ found_in top bottoms ray flags mask =
     joined (λ n. found_in_instance bottoms ray flags mask n (active_instance top n)) (length top.instances)
 
 -- ---- in order
-
--- one put before the first whose key is above its own
-abbrev pub inserted : Found → List Found → List Found
-inserted f [] = f ∷ []
-inserted f (g ∷ gs) = if key_lt (found_key f) (found_key g) then f ∷ (g ∷ gs) else g ∷ inserted f gs
-
--- a list in rising order of keys
-unfoldable pub in_key_order : List Found → List Found
-in_key_order [] = []
-in_key_order (f ∷ fs) = inserted f (in_key_order fs)
 
 -- the candidates of a ray
 unfoldable pub candidates : TopContents → Structures → RayValue → RayFlags → ℕ → List Found

@@ -1,6 +1,7 @@
 -- What a walk knows of the structures that it looks at: each bottom structure is within the limits, with a tree over its primitives. (Own.)
 use Rattle.std.specs.Prelude.{ℕ, ◌≡◌, Option, Some, option_and_then, List, slice_get}
 use Rattle.ray_geom.specs.Boxes.{BoxValue}
+use Rattle.ray_geom.specs.Scene.{IsRay}
 use Rattle.ray_geom.specs.Transform.{IsMatrix}
 use Rattle.ray_contents.specs.Bounds.{KeepsBounds}
 use Rattle.ray_primitives.specs.Primitives.{box_of_triangle}
@@ -12,11 +13,10 @@ use Rattle.ray_bottom.specs.declared.prim_place.PrimPlace.{PrimPlace}
 use Rattle.ray_bottom.specs.Contents.{IsContents, bounds_of}
 use Rattle.ray_bottom.specs.Slots.{Slots, structure_at}
 use Rattle.ray_bottom.specs.Trees.{BottomWithTree, without_tree, items_of, place_at}
-use Rattle.ray_geom.specs.Scene.{IsRay}
 use Rattle.ray_top.specs.Contents.{IsTop}
-use Rattle.ray_top.specs.Trees as top_trees
+use Rattle.ray_top.specs.Trees.{without_tree as top_without_tree, items_of as top_items}
 use Rattle.ray_walk.specs.Standing.{AreStanding, structures_in}
-use Rattle.ray_walk.specs.Traced.{Placement, Traced}
+use Rattle.ray_walk.specs.Traced.{Traced, Placement}
 
 -- a bottom structure within the limits, with a tree over its primitives
 pub record IsSound (b : BottomWithTree) : Type 0 where
@@ -45,11 +45,10 @@ pub record IsWellPlaced (p : Placement) : Type 0 where
   pub kept : KeepsBounds p.instance.matrix (bounds_of p.bottom.geometries)
   pub sound : IsSound p.bottom
 
--- what is known of all that a ray is traced through: the top structure is within the limits, with a tree over its instances' boxes;
--- the structures of its active instances stand there; each structure is sound; and the ray is within the limits
-pub record IsWellTraced (s : Traced) : Type 0 where
-  pub limits : IsTop (top_trees.without_tree s.top)
-  pub over : TreeOver s.top.tree (top_trees.items_of (top_trees.without_tree s.top))
-  pub standing : AreStanding (top_trees.without_tree s.top) (structures_in s.bottoms)
-  pub sound : AreSound s.bottoms
+-- what is known of all that a walk looks at
+pub record IsWalkable (s : Traced) : Type 0 where
   pub ray : IsRay s.ray
+  pub top : IsTop (top_without_tree s.top)
+  pub over : TreeOver s.top.tree (top_items (top_without_tree s.top))
+  pub standing : AreStanding (top_without_tree s.top) (structures_in s.bottoms)
+  pub bottoms : AreSound s.bottoms

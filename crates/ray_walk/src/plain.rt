@@ -1,9 +1,9 @@
 ghost use Rattle.std.specs.Prelude.{◌≡◌, ◌≤◌, IfOk};
 ghost use Rattle.ray_flags.specs.Admission.{AsksBoth};
 ghost use Rattle.ray_top.specs.Trees.{without_tree};
-ghost use Rattle.ray_walk.specs.Candidates.{in_key_order, trace_answer};
+ghost use Rattle.ray_nearest.specs.KeyOrder.{AreApart, in_key_order};
+ghost use Rattle.ray_walk.specs.Candidates.{trace_answer};
 ghost use Rattle.ray_walk.specs.Standing.{AreStanding, structures_in};
-ghost use Rattle.ray_walk.specs.Telling.{AreApart};
 
 use crate::gathering::gather;
 use ray_bottom::Bottoms;
