@@ -25,8 +25,8 @@ impl Client for Always {
     }
 }
 
-// A node over two leaves, which are entered at 1 and at 3, with one triangle each.
-// It counts the calls of `open`, which contracts don't see.
+// A node over two leaves, which are entered at 1 and at 3, with one triangle each. It counts how
+// often it was opened, which contracts don't see.
 #[derive(Drop)]
 struct Small<'a> {
     near: &'a Found,
@@ -149,15 +149,16 @@ fn triangle(t: u32, primitive: u32) -> Found
     }
 }
 
-// Which primitive is committed where the triangle of the first leaf, the primitive 7, is at one
-// distance, that of the second, the primitive 3, at another, and all is decided so.
+// Which primitive is committed, and how many nodes are opened, where the triangle of the first
+// leaf, the primitive 7, is at one distance, that of the second, the primitive 3, at another, and
+// all is decided so.
 fn committed<L: Ledger>(
     turns: &mut Turns,
     near: u32,
     far: u32,
     decision: Decision,
     steps: &mut Steps<L>,
-) -> Result<Option<u32>, NoMemory>
+) -> Result<(Option<u32>, u32), NoMemory>
     requires near { 1 ≤ near }
     requires far { 3 ≤ far }
 {
@@ -169,28 +170,31 @@ fn committed<L: Ledger>(
         opened: 0,
     };
     let client = Always { decision };
-    match walk(&mut small, 9, RayFlags(0), &client, turns, steps)? {
-        Some(commit) => Ok(Some(commit.found.primitive)),
-        None => Ok(None),
-    }
+    let commit = walk(&mut small, 9, RayFlags(0), &client, turns, steps)?;
+    let primitive = match commit {
+        Some(commit) => Some(commit.found.primitive),
+        None => None,
+    };
+    Ok((primitive, small.opened))
 }
 
 #[test]
 fn nearest(rt: HostRuntime) -> Result<(), NoMemory> {
-    // The distances, the decision on each candidate, and the primitive that is committed.
-    let cases: [(&str, u32, u32, Decision, Option<u32>); 6] = [
-        ("the first", 2, 4, Decision::Confirm, Some(7)),
-        ("the second", 4, 3, Decision::Confirm, Some(3)),
-        ("at one distance", 3, 3, Decision::Confirm, Some(3)),
-        ("and ended", 2, 4, Decision::ConfirmTerminate, Some(7)),
-        ("ignored", 2, 4, Decision::Ignore, None),
-        ("ended", 2, 4, Decision::Terminate, None),
+    // The distances, the decision on each candidate, the primitive that is committed, and how many
+    // of the three nodes are opened.
+    let cases: [(&str, u32, u32, Decision, Option<u32>, u32); 6] = [
+        ("the first", 2, 4, Decision::Confirm, Some(7), 2),
+        ("the second", 4, 3, Decision::Confirm, Some(3), 3),
+        ("at one distance", 3, 3, Decision::Confirm, Some(3), 3),
+        ("and ended", 2, 4, Decision::ConfirmTerminate, Some(7), 2),
+        ("ignored", 2, 4, Decision::Ignore, None, 3),
+        ("ended", 2, 4, Decision::Terminate, None, 2),
     ];
     let mut turns = Turns::new(rt.alloc());
     let mut steps: Steps<Brand> = Steps::zero();
-    for (name, near, far, decision, want) in cases {
+    for (name, near, far, decision, primitive, opened) in cases {
         let got = committed(&mut turns, near.max(1), far.max(3), decision, &mut steps)?;
-        assert!(rt; got == want, "{}", name);
+        assert!(rt; got == (primitive, opened), "{}", name);
     }
     Ok(())
 }
