@@ -1,5 +1,5 @@
 ghost use Rattle.std.specs.Prelude.{◌≡◌, [], OnOk, OnErr, Some, None, true, option_copied};
-ghost use Rattle.ray_bottom.specs.Slots.{structure_at, has_room, Changes};
+ghost use Rattle.ray_bottom.specs.Slots.{AreSound, structure_at, has_room, Changes};
 
 use crate::bottom::Bottom;
 use std::alloc::{AllocError as NoMemory, Global};
@@ -15,11 +15,13 @@ pub struct Bottoms {
 }
 
 impl Model for Bottoms {
-    ghost use Rattle.ray_bottom.specs.Slots.{Slots};
+    ghost use Rattle.ray_bottom.specs.Slots.{AreSound, Slots};
 
     ghost Value = { Slots };
 
     ghost view = { λ b. b.slots.entries };
+
+    ghost invariant = { λ b. AreSound b.slots.entries };
 }
 
 impl Bottoms {
@@ -37,6 +39,14 @@ impl Bottoms {
         ensures { option_copied result ≡ structure_at id self.now }
     {
         self.slots.get(&id)?.as_ref()
+    }
+
+    /// Says that each structure that stands there is within the limits, with a tree over its
+    /// primitives; it does nothing.
+    pub fn sound(&self)
+        ensures { AreSound self.now }
+    {
+        let _len = self.slots.len();
     }
 
     /// Makes room for an id, where there is none yet. What stands there stays. Without memory all is

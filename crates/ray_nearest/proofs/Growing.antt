@@ -2,7 +2,7 @@
 use Rattle.std.proofs.Common.{◌≡◌, ◌∙◌, ◌++◌, ◌+◌, ◌≤◌, ◌<◌, ◌⊎◌, refl, ap, subst, ℕ, zero, suc, Option, Bool, true, false, if◌then◌else◌, List, [], ◌∷◌, length, map, All, inl, inr, sum_by, arith}
 use Rattle.std.specs.List.{flat_map, sum}
 use Rattle.std.proofs.lemmas.List.Folds.{flat_map-map}
-use Rattle.std.proofs.lemmas.List.Sums.{sum-map}
+use Rattle.std.proofs.lemmas.List.Sums.{sum-map, sum_by-append}
 use Rattle.ray_geom.specs.declared.ratio.Ratio.{Ratio}
 use Rattle.ray_geom.specs.Ratio.{ratio_of}
 use Rattle.ray_query.specs.declared.found.Found.{Found}
@@ -10,9 +10,8 @@ use Rattle.ray_nearest.specs.declared.node.WalkNode.{WalkNode}
 use Rattle.ray_nearest.specs.Parts.{AreParts, IsBelow, SceneParts, every_with, grown, opened_with, scene_of, size_with}
 use Rattle.ray_nearest.specs.KeyOrder.{AreApart}
 use Rattle.ray_nearest.specs.Scene.{Holds, IsInOrder, IsScene, found_in, is_open}
-use Rattle.ray_nearest.proofs.Members.{All-from_Each, Each-from_members, Each-member, Member, Member-append}
+use Rattle.ray_nearest.proofs.Members.{Member-flat_map, sum_by-flat_map, All-from_Each, Each-from_members, Each-member, Member, Member-append}
 use Rattle.ray_nearest.proofs.Orders.{Each-from_All}
-use Rattle.ray_nearest.proofs.Pending.{Member-flat_map}
 
 map-same : {X Y : Type 0} (f g : X → Y) (xs : List X) → ((x : X) → Member x xs → f x ≡ g x) → map f xs ≡ map g xs
 map-same f g [] h = refl
@@ -41,9 +40,9 @@ module _ (IsNode : WalkNode → Type 0) (p : SceneParts) (parts : AreParts IsNod
     stable (suc j) (suc k) n known lower low =
         ap (make n) (map-same (grown p.below make none j) (grown p.below make none k) (p.below n)
         (λ c m.
-            let b : IsBelow IsNode p n c = child n known c m in
-            let less : p.rank c < p.rank n = b.lower in
-            stable j k c b.known (omega (arith, lower, less)) (omega (arith, low, less))))
+        let b : IsBelow IsNode p n c = child n known c m in
+        let less : p.rank c < p.rank n = b.lower in
+        stable j k c b.known (omega (arith, lower, less)) (omega (arith, low, less))))
 
     unfolds : (n : WalkNode) → IsNode n
         → grown p.below make none (suc (p.rank n)) n ≡ make n (map (λ c. grown p.below make none (suc (p.rank c)) c) (p.below n))
@@ -51,13 +50,22 @@ module _ (IsNode : WalkNode → Type 0) (p : SceneParts) (parts : AreParts IsNod
     unfolds n known =
         ap (make n) (map-same (grown p.below make none (p.rank n)) (λ c. grown p.below make none (suc (p.rank c)) c) (p.below n)
         (λ c m.
-            let b : IsBelow IsNode p n c = child n known c m in
-            stable (p.rank n) (suc (p.rank c)) c b.known b.lower (omega arith)))
+        let b : IsBelow IsNode p n c = child n known c m in
+        stable (p.rank n) (suc (p.rank c)) c b.known b.lower (omega arith)))
 
+  -- what is found from a node down: below it, and right there
   pub every : (n : WalkNode) → IsNode n → (scene_of p).every n ≡ flat_map (scene_of p).every (p.below n) ++ p.finds n
   every n known =
       unfolds (every_with p) [] n known ∙
       ap (λ fs. fs ++ p.finds n) (flat_map-map (λ fs. fs) (scene_of p).every (p.below n))
+
+  -- so a sum over it is that of the nodes below and of what is found there
+  pub every-sum : (f : Found → ℕ) (n : WalkNode) → IsNode n
+      → sum_by f ((scene_of p).every n) ≡ sum_by (λ c. sum_by f ((scene_of p).every c)) (p.below n) + sum_by f (p.finds n)
+  every-sum f n known =
+      ap (sum_by f) (every n known) ∙
+      (sum_by-append f (flat_map (scene_of p).every (p.below n)) (p.finds n) ∙
+      ap (λ sum. sum + sum_by f (p.finds n)) (sum_by-flat_map f (scene_of p).every (p.below n)))
 
   size : (n : WalkNode) → IsNode n → 1 + (length (p.finds n) + sum_by (scene_of p).size (p.below n)) ≤ (scene_of p).size n
   size n known =
@@ -69,24 +77,29 @@ module _ (IsNode : WalkNode → Type 0) (p : SceneParts) (parts : AreParts IsNod
   chosen true x h = refl
   chosen false x h = absurd (cc)
 
+  -- what is opened from a node down: where the node is met, what is tested there and what is opened below
+  pub opened-is : (n : WalkNode) (limit : Option Ratio) → IsNode n
+      → (scene_of p).opened limit n ≡ (if is_open limit (p.entry n) then p.tests n + sum_by ((scene_of p).opened limit) (p.below n) else 0)
+  opened-is n limit known =
+      unfolds (opened_with p limit) 0 n known ∙
+      ap (λ below. if is_open limit (p.entry n) then p.tests n + below else 0) (sum-map ((scene_of p).opened limit) (p.below n))
+
   opened : (n : WalkNode) (limit : Option Ratio) → IsNode n → is_open limit (p.entry n) ≡ true
       → p.tests n + sum_by ((scene_of p).opened limit) (p.below n) ≤ (scene_of p).opened limit n
   opened n limit known met =
-      let at : (scene_of p).opened limit n ≡ p.tests n + sum (map ((scene_of p).opened limit) (p.below n)) =
-      unfolds (opened_with p limit) 0 n known ∙ chosen (is_open limit (p.entry n)) _ met in
-      let same : sum (map ((scene_of p).opened limit) (p.below n)) ≡ sum_by ((scene_of p).opened limit) (p.below n) =
-      sum-map ((scene_of p).opened limit) (p.below n) in
-      omega (arith, at, same)
+      let at : (scene_of p).opened limit n ≡ p.tests n + sum_by ((scene_of p).opened limit) (p.below n) =
+      opened-is n limit known ∙ chosen (is_open limit (p.entry n)) _ met in
+      omega (arith, at)
 
   -- what holds right at each node, and goes up from a node to the one above, holds of all that is found from a node down
   module _ (P : WalkNode → Found → Type 0) (here : (n : WalkNode) → IsNode n → (f : Found) → Member f (p.finds n) → P n f)
       (up : (n c : WalkNode) (f : Found) → IsBelow IsNode p n c → P c f → P n f) where
-    throughout : (k : ℕ) (n : WalkNode) → IsNode n → p.rank n < k → (f : Found) → Member f ((scene_of p).every n) → P n f
+    pub throughout : (k : ℕ) (n : WalkNode) → IsNode n → p.rank n < k → (f : Found) → Member f ((scene_of p).every n) → P n f
     throughout zero n known low f m = absurd (omega (arith, low))
     throughout (suc k) n known low f m =
         by (Member-append (flat_map (scene_of p).every (p.below n)) (p.finds n) f (subst (Member f) (every n known) m))
         (λ c among. let b : IsBelow IsNode p n c = child n known c among in let less : p.rank c < p.rank n = b.lower in
-            throughout k c b.known (omega (arith, low, less)) f)
+        throughout k c b.known (omega (arith, low, less)) f)
       where
         below : (c : WalkNode) × Member c (p.below n) × Member f ((scene_of p).every c)
             → ((c : WalkNode) → Member c (p.below n) → Member f ((scene_of p).every c) → P c f) → P n f

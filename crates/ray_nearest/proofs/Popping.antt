@@ -87,8 +87,8 @@ pub popped_found : (x : WaitingFound) (nodes : List WaitingNode) (found left : L
     → IsTaken (turns_of nodes found) (Some (found_turn x)) (turns_of nodes left)
 popped_found x nodes found left (none, first) moved above rest = (
   IsPermutation-trans (turns_of nodes found) (map node_turn nodes ++ map found_turn (x ∷ left)) (found_turn x ∷ turns_of nodes left)
-  (IsPermutation-append_right (map node_turn nodes) (map found_turn found) (map found_turn (x ∷ left)) (IsPermutation-map found_turn found (x ∷ left) moved))
-  (IsPermutation-middle (map node_turn nodes) (found_turn x) (map found_turn left)),
+      (IsPermutation-append_right (map node_turn nodes) (map found_turn found) (map found_turn (x ∷ left)) (IsPermutation-map found_turn found (x ∷ left) moved))
+      (IsPermutation-middle (map node_turn nodes) (found_turn x) (map found_turn left)),
   both (found_turn x) nodes left (first x above) (above_found x left rest),
 )
 

@@ -1,6 +1,6 @@
 -- For tests alone: the laws of scenes hold of the small scene.
 use Rattle.ray_geom.specs.declared.ratio.Ratio.{Ratio}
-use Rattle.std.proofs.Common.{List, None, Option, false, ◌≡◌, ◌∙◌, ◌+◌, ◌*◌, ◌++◌, ◌==◌, ◌≤◌, refl, sym, ap, subst, ℕ, zero, suc, true, cond, Some, [], ◌∷◌, All, sum_by, arith, nat_cmp}
+use Rattle.std.proofs.Common.{List, None, Option, ◌≡◌, ◌∙◌, ◌+◌, ◌*◌, ◌++◌, ◌≤◌, refl, sym, ap, subst, ℕ, zero, suc, true, cond, Some, [], ◌∷◌, All, sum_by, arith, nat_cmp}
 use Rattle.std.specs.Ordering.{is_eq, is_le, ordering_then}
 use Rattle.std.specs.declared.cmp.Ordering.{Ordering}
 use Rattle.std.specs.declared.cmp.Ordering.TheVariants.{Less, Equal, Greater}

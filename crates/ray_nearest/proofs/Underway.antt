@@ -28,10 +28,10 @@ use Rattle.ray_nearest.specs.KeyOrder.{AreApart, has_key, in_key_order}
 use Rattle.ray_nearest.specs.Scene.{IsInOrder, IsScene, SceneValue, distance_of, found_in, is_open, is_within, opened_in}
 use Rattle.ray_nearest.specs.Taking.{IsKnown, Takes}
 use Rattle.ray_nearest.specs.Turns.{IsNext, is_before, turn_at}
-use Rattle.ray_nearest.proofs.Members.{Each-member, Member, Member-append, Member-append_left, Member-append_right}
+use Rattle.ray_nearest.proofs.Members.{Member-flat_map, Each-member, Member, Member-append, Member-append_left, Member-append_right}
 use Rattle.ray_nearest.proofs.Orders.{Each, Each-from_All, beyond-farther, beyond-passed, key-nearer, key_lt-not_both, lt-chain, lt-from_not_le, never, ratio_le-chain, turn-farther, within-value}
 use Rattle.ray_nearest.proofs.Rising.{AreApart-first, Differs, IsAbove, above_other, in_key_order-first}
-use Rattle.ray_nearest.proofs.Pending.{Fits, Member-flat_map, keys, pending, pending-keys, pending-permuted, stands, stands-farther, unopened, weight}
+use Rattle.ray_nearest.proofs.Pending.{Fits, keys, pending, pending-keys, pending-permuted, stands, stands-farther, unopened, weight}
 use Rattle.ray_nearest.proofs.Plays.{IsReached, play-same, plays_in, reached-play_one}
 use Rattle.ray_nearest.proofs.Moving.{Moves, moves_nodes, moves_opened}
 
@@ -49,15 +49,12 @@ pub record IsUnderway (IsNode : WalkNode → Type 0) (s : SceneValue) (meaning :
   pub ray_is : q.ray ≡ ray
   pub flags_is : q.flags ≡ flags
   pub answered : q.asked ≡ None
-
   -- the turns are the scene's, and stand for no key twice
   pub fit : All (Fits IsNode s) items
   pub once : (k : Key) → sum_by (keys s k) items ≤ 1
   pub in_order : (f : Found) → Member f (pending s items) → IsInOrder f
-
   -- what they stand for, played from here, ends as all that is found does
   pub same : play meaning ray flags q.state (in_key_order (pending s items)) ≡ played_in meaning ray flags s
-
   -- the entries of the nodes that were opened: neither what waits nor what is committed is before them, and where the walk ends at a limit
   -- that isn't before them, what was tested and what is still to be opened is no more than what is opened in all
   pub marks : List Ratio
@@ -241,7 +238,7 @@ module _ (IsNode : WalkNode → Type 0) (s : SceneValue) where
             beyond = (
               (λ f m. all-farther (Node e n) rest u.fit first f (back f m)),
               Each-by (λ m. (f : Found) → Member f (pending s (Node e n ∷ rest)) → IsBehind m f) (λ m. (f : Found) → Member f (pending s new) → IsBehind m f) u.marks
-              (λ m h f among. h f (back f among)) u.beyond,
+                  (λ m h f among. h f (back f among)) u.beyond,
             );
             reached = (in_, u.reached);
             bound = λ limit reaches.
@@ -301,11 +298,11 @@ module _ (IsNode : WalkNode → Type 0) (s : SceneValue) where
       pub goes_on : (x : Turn) (items rest new : List Turn) (q r : QueryValue) (now later : ℕ)
           → IsUnderway IsNode s meaning ray flags begun items q now → IsNext q.state items (Some x) rest → Takes meaning s x q rest now r new later
           → IsUnderway IsNode s meaning ray flags begun new r later
-      goes_on (Node e n) items rest new q r now later u (in_, moved, first) (stays, opened, tested) =
+      goes_on (Node e n) items rest new q r now later u (open_, in_, moved, first) (stays, opened, tested) =
           let u' : IsUnderway IsNode s meaning ray flags begun (Node e n ∷ rest) q now = turned items (Node e n ∷ rest) q now moved u in
           subst (λ v. IsUnderway IsNode s meaning ray flags begun new v later) (sym stays)
           (subst (λ t. IsUnderway IsNode s meaning ray flags begun new q t) (sym tested) (node_taken e n rest new q now in_ first opened u'))
-      goes_on (Candidate f) items rest new q r now later u (in_, moved, first) (plays, none, stays) =
+      goes_on (Candidate f) items rest new q r now later u (open_, in_, moved, first) (plays, none, stays) =
           let u' : IsUnderway IsNode s meaning ray flags begun (Candidate f ∷ rest) q now = turned items (Candidate f ∷ rest) q now moved u in
           subst (λ v. IsUnderway IsNode s meaning ray flags begun new v later) (sym plays)
           (subst (λ ts. IsUnderway IsNode s meaning ray flags begun ts (record q { state = play_one meaning q.ray q.flags q.state f }) later) (sym none)
@@ -316,7 +313,7 @@ module _ (IsNode : WalkNode → Type 0) (s : SceneValue) where
       pub lighter : (x : Turn) (items rest new : List Turn) (q r : QueryValue) (now later : ℕ)
           → IsUnderway IsNode s meaning ray flags begun items q now → IsNext q.state items (Some x) rest → Takes meaning s x q rest now r new later
           → sum_by (weight s) new < sum_by (weight s) items
-      lighter (Node e n) items rest new q r now later u (in_, moved, first) (stays, opened, tested) =
+      lighter (Node e n) items rest new q r now later u (open_, in_, moved, first) (stays, opened, tested) =
           let u' : IsUnderway IsNode s meaning ray flags begun (Node e n ∷ rest) q now = turned items (Node e n ∷ rest) q now moved u in
           let fits : Fits IsNode s (Node e n) = All-head (Fits IsNode s) (Node e n) rest u'.fit in
           let moves : Moves IsNode s q.state (s.every n) (λ c. sum_by (s.opened c) (s.below n)) (sum_by s.size (s.below n) + length (s.finds n)) rest new =
@@ -326,7 +323,7 @@ module _ (IsNode : WalkNode → Type 0) (s : SceneValue) where
           let same : sum_by (weight s) (Node e n ∷ rest) ≡ sum_by (weight s) items = sum_by-IsPermutation (weight s) items (Node e n ∷ rest) moved in
           let sum : sum_by (weight s) (Node e n ∷ rest) ≡ s.size n + sum_by (weight s) rest = sum_by-cons (weight s) (Node e n) rest in
           omega (arith, light, size, same, sum)
-      lighter (Candidate f) items rest new q r now later u (in_, moved, first) (plays, none, stays) =
+      lighter (Candidate f) items rest new q r now later u (open_, in_, moved, first) (plays, none, stays) =
           let light : sum_by (weight s) new ≡ sum_by (weight s) rest = ap (sum_by (weight s)) none in
           let same : sum_by (weight s) (Candidate f ∷ rest) ≡ sum_by (weight s) items = sum_by-IsPermutation (weight s) items (Candidate f ∷ rest) moved in
           let sum : sum_by (weight s) (Candidate f ∷ rest) ≡ 1 + sum_by (weight s) rest = sum_by-cons (weight s) (Candidate f) rest in
@@ -339,7 +336,7 @@ module _ (IsNode : WalkNode → Type 0) (s : SceneValue) where
 
       pub known : (x : Turn) (items rest : List Turn) (q : QueryValue) (now : ℕ)
           → IsUnderway IsNode s meaning ray flags begun items q now → IsNext q.state items (Some x) rest → IsKnown IsNode x
-      known x items rest q now u (in_, moved, first) =
+      known x items rest q now u (open_, in_, moved, first) =
           fits_known x (All-head (Fits IsNode s) x rest (All-permutation (Fits IsNode s) items (x ∷ rest) moved u.fit))
 
       -- ---- it ends

@@ -33,25 +33,18 @@ distance_of (Some c) = Some (ratio_of c.t)
 pub record SceneValue : Type 0 where
   -- the nodes at which a walk begins
   pub roots : List WalkNode
-
   -- from where the ray is in a node's box; None where it doesn't meet it
   pub entry : WalkNode → Option Ratio
-
   -- the nodes right below a node
   pub below : WalkNode → List WalkNode
-
   -- what is found right at a node, as at a leaf
   pub finds : WalkNode → List Found
-
   -- how many primitives are tested right at a node
   pub tests : WalkNode → ℕ
-
   -- all that is found from a node down
   pub every : WalkNode → List Found
-
   -- how many primitives the opened leaves from a node down have, where the walk ends at a limit
   pub opened : Option Ratio → WalkNode → ℕ
-
   -- no less than the number of nodes and of what is found from a node down
   pub size : WalkNode → ℕ
 
@@ -76,18 +69,14 @@ pub record IsScene (IsNode : WalkNode → Type 0) (s : SceneValue) : Type 0 wher
   -- it knows its roots and what is below a node
   pub roots : All IsNode s.roots
   pub below : (n : WalkNode) → IsNode n → All IsNode (s.below n)
-
   -- what is found from a node down is found below it or right there, and a node is more than all that
   pub every : (n : WalkNode) → IsNode n → s.every n ≡ flat_map s.every (s.below n) ++ s.finds n
   pub size : (n : WalkNode) → IsNode n → 1 + (length (s.finds n) + sum_by s.size (s.below n)) ≤ s.size n
-
   -- no key is found twice
   pub apart : AreApart (found_in s)
-
   -- a node's box holds what is found from there down, and a candidate leaves where it enters or later
   pub holds : (n : WalkNode) → IsNode n → All (Holds (s.entry n)) (s.every n)
   pub in_order : (n : WalkNode) → IsNode n → All IsInOrder (s.every n)
-
   -- where a node is opened, what is tested there and opened below is opened from it down
   pub opened : (n : WalkNode) (limit : Option Ratio) → IsNode n → is_open limit (s.entry n) ≡ true
       → s.tests n + sum_by (s.opened limit) (s.below n) ≤ s.opened limit n

@@ -64,3 +64,8 @@ pub record AreSmall (near far : Found) : Type 0 where
   pub near_exit : near.exit ≡ near.t
   pub far_exit : far.exit ≡ far.t
   pub apart : near.primitive ≡ far.primitive → ⊥
+
+-- what contracts see of it
+pub record SmallValue : Type 0 where
+  pub near : Found
+  pub far : Found

@@ -37,4 +37,4 @@ IsTaken old (Some x) new = IsPermutation old (x ∷ new) × All (λ y. is_before
 abbrev pub IsNext : QueryState → List Turn → Option Turn → List Turn → Type 0
 IsNext st old None new = (st.over ≡ true) ⊎ All (λ y. is_within (distance_of st.committed) (turn_at y) ≡ false) old
 IsNext st old (Some x) new =
-    (is_within (distance_of st.committed) (turn_at x) ≡ true) × IsPermutation old (x ∷ new) × All (λ y. is_before y x ≡ false) new
+    (st.over ≡ false) × (is_within (distance_of st.committed) (turn_at x) ≡ true) × IsPermutation old (x ∷ new) × All (λ y. is_before y x ≡ false) new

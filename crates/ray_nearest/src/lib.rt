@@ -22,9 +22,9 @@ mod turn;
 mod turns;
 mod waiting;
 
+pub use nearest::walk;
 pub use node::WalkNode;
 pub use scene::Scene;
 pub use std::alloc::AllocError as NoMemory;
 pub use turn::Turn;
 pub use turns::Turns;
-pub use nearest::walk;

@@ -13,12 +13,12 @@ use ray_query::{Client, Commit, Query, parts_law, passing_law};
 use std::alloc::AllocError as NoMemory;
 use std::sync::ledger::Ledger;
 
-/// What the trace of a ray commits in a scene, nearest first: it opens nodes and plays what is found
-/// in rising order of distance, and ends where all that waits is beyond the committed hit. None
-/// exactly where the play of all that is found commits nothing. A step is taken for each primitive
-/// that is tested, and these are no more than the primitives of opened leaves. Turns that wait in
-/// `turns` are dropped; memory is taken for turns alone. `ray` is the ray's number in its trace.
-/// (Vulkan, "Ray Traversal"; own: the order, and the bound.)
+/// What the trace of a ray commits in a scene: it opens nodes and plays what is found in rising
+/// order of distance, and ends where all that waits is beyond the committed hit. None exactly where
+/// the play of all that is found commits nothing. A step is taken for each primitive that is
+/// tested, and these are no more than the primitives of opened leaves. Turns that wait in `turns`
+/// are dropped; memory is taken for turns alone. `ray` is the ray's number in its trace. (Vulkan,
+/// "Ray Traversal"; own: the order, and the bound.)
 pub fn walk<S: Scene, C: Client, L: Ledger>(
     scene: &mut S,
     ray: u32,

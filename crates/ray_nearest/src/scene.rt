@@ -4,8 +4,8 @@ use ray_geom::{Ratio, Steps};
 use std::alloc::AllocError as NoMemory;
 use std::sync::ledger::Ledger;
 
-/// What a walk looks at, for one ray. A call may change what the scene keeps for speed alone, as the
-/// ray in the space of the instance that was looked at last: hide that by an `impl Model`, since
+/// What a walk looks at, for one ray. A call may change what a scene keeps for speed alone, as the
+/// ray in the space of the instance that was looked at last: an `impl Model` hides that, since
 /// what contracts see of the scene stays. (Own.)
 pub trait Scene {
     ghost use Rattle.std.specs.Prelude.{◌≡◌, ◌+◌, ◌≤◌, OnOk};

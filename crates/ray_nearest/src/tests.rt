@@ -1,11 +1,14 @@
-ghost use Rattle.std.specs.Prelude.{◌≡◌, ◌*◌, ◌<◌, ◌≤◌};
+ghost use Rattle.std.specs.Prelude.{◌≡◌, ◌+◌, ◌*◌, ◌<◌, ◌≤◌, OnOk};
+ghost use Rattle.ray_nearest.specs.Adding.{IsOpened};
+ghost use Rattle.ray_nearest.specs.Parts.{scene_of};
+ghost use Rattle.ray_nearest.specs.Small.{IsSmallNode, small_parts, small_tests};
 ghost use Rattle.ray_geom.specs.Frac.{denominator, numerator};
 
 use crate::{NoMemory, Scene, Turns, WalkNode, walk};
 use ray_flags::{Kind, RayFlags};
 use ray_geom::{Frac, Ratio, Steps};
 use ray_query::{Candidate, Client, Decision, Found};
-use std::marker::Brand;
+use std::marker::{Brand, Model};
 use std::sync::ledger::Ledger;
 
 // A client that decides one thing on every candidate.
@@ -22,17 +25,24 @@ impl Client for Always {
     }
 }
 
-// A node over two leaves, which are entered at 1 and at 3, with one triangle each.
+// A node over two leaves, which are entered at 1 and at 3, with one triangle each. It counts how
+// often it was opened, which contracts don't see.
 #[derive(Drop)]
-struct Small {
-    near: Found,
-    far: Found,
+struct Small<'a> {
+    near: &'a Found,
+    far: &'a Found,
+    opened: u32,
 }
 
-impl Scene for Small {
-    ghost use Rattle.ray_nearest.specs.Small.{IsSmallNode, small_parts};
-    ghost use Rattle.ray_nearest.specs.Parts.{scene_of};
+impl<'a> Model for Small<'a> {
+    ghost use Rattle.ray_nearest.specs.Small.{SmallValue};
 
+    ghost Value = { SmallValue };
+
+    ghost view = { λ small. record { near = small.near.now; far = small.far.now } };
+}
+
+impl<'a> Scene for Small<'a> {
     ghost IsNode = { λ small n. IsSmallNode n };
 
     ghost scene = { λ small. scene_of (small_parts small.near small.far) };
@@ -48,21 +58,8 @@ impl Scene for Small {
         turns: &mut Turns,
         steps: &mut Steps<L>,
     ) -> Result<(), NoMemory> {
-        match node {
-            WalkNode::Inner { .. } => {
-                turns.push_node(limit, ratio(2, 2), FIRST)?;
-                turns.push_node(limit, ratio(3, 1), SECOND)
-            }
-            WalkNode::Leaf { node, .. } => {
-                steps.tick();
-                if node == 0 {
-                    turns.push_found(limit, self.near)
-                } else {
-                    turns.push_found(limit, self.far)
-                }
-            }
-            _ => Ok(()),
-        }
+        self.opened = self.opened.saturating_add(1);
+        open(self.near, self.far, node, limit, turns, steps)
     }
 }
 
@@ -80,6 +77,38 @@ const SECOND: WalkNode = WalkNode::Leaf {
     instance: 0,
     node: 1,
 };
+
+// Opens a node of the small scene.
+fn open<L: Ledger>(
+    near: &Found,
+    far: &Found,
+    node: WalkNode,
+    limit: Option<Ratio>,
+    turns: &mut Turns,
+    steps: &mut Steps<L>,
+) -> Result<(), NoMemory>
+    requires known { IsSmallNode node }
+    ensures opened { OnOk result
+        (IsOpened limit (scene_of (small_parts near.now far.now)) node turns.old turns.new) }
+    ensures steps { OnOk result (steps.new ≡ steps.old + small_tests node) }
+    ensures rising { steps.old ≤ steps.new }
+{
+    match node {
+        WalkNode::Inner { .. } => {
+            turns.push_node(limit, ratio(2, 2), FIRST)?;
+            turns.push_node(limit, ratio(3, 1), SECOND)
+        }
+        WalkNode::Leaf { node, .. } => {
+            steps.tick();
+            if node == 0 {
+                turns.push_found(limit, *near)
+            } else {
+                turns.push_found(limit, *far)
+            }
+        }
+        _ => Ok(()),
+    }
+}
 
 // A ratio as it is.
 fn ratio(num: u64, den: u64) -> Ratio
@@ -120,45 +149,52 @@ fn triangle(t: u32, primitive: u32) -> Found
     }
 }
 
-// Which primitive is committed where the triangle of the first leaf, the primitive 7, is at one
-// distance, that of the second, the primitive 3, at another, and all is decided so.
+// Which primitive is committed, and how many nodes are opened, where the triangle of the first
+// leaf, the primitive 7, is at one distance, that of the second, the primitive 3, at another, and
+// all is decided so.
 fn committed<L: Ledger>(
     turns: &mut Turns,
     near: u32,
     far: u32,
     decision: Decision,
     steps: &mut Steps<L>,
-) -> Result<Option<u32>, NoMemory>
+) -> Result<(Option<u32>, u32), NoMemory>
     requires near { 1 ≤ near }
     requires far { 3 ≤ far }
 {
+    let near = triangle(near, 7);
+    let far = triangle(far, 3);
     let mut small = Small {
-        near: triangle(near, 7),
-        far: triangle(far, 3),
+        near: &near,
+        far: &far,
+        opened: 0,
     };
     let client = Always { decision };
-    match walk(&mut small, 9, RayFlags(0), &client, turns, steps)? {
-        Some(commit) => Ok(Some(commit.found.primitive)),
-        None => Ok(None),
-    }
+    let commit = walk(&mut small, 9, RayFlags(0), &client, turns, steps)?;
+    let primitive = match commit {
+        Some(commit) => Some(commit.found.primitive),
+        None => None,
+    };
+    Ok((primitive, small.opened))
 }
 
 #[test]
 fn nearest(rt: HostRuntime) -> Result<(), NoMemory> {
-    // The distances, the decision on each candidate, and the primitive that is committed.
-    let cases: [(&str, u32, u32, Decision, Option<u32>); 6] = [
-        ("the first", 2, 4, Decision::Confirm, Some(7)),
-        ("the second", 4, 3, Decision::Confirm, Some(3)),
-        ("at one distance", 3, 3, Decision::Confirm, Some(3)),
-        ("and ended", 2, 4, Decision::ConfirmTerminate, Some(7)),
-        ("ignored", 2, 4, Decision::Ignore, None),
-        ("ended", 2, 4, Decision::Terminate, None),
+    // The distances, the decision on each candidate, the primitive that is committed, and how many
+    // of the three nodes are opened.
+    let cases: [(&str, u32, u32, Decision, Option<u32>, u32); 6] = [
+        ("the first", 2, 4, Decision::Confirm, Some(7), 2),
+        ("the second", 4, 3, Decision::Confirm, Some(3), 3),
+        ("at one distance", 3, 3, Decision::Confirm, Some(3), 3),
+        ("and ended", 2, 4, Decision::ConfirmTerminate, Some(7), 2),
+        ("ignored", 2, 4, Decision::Ignore, None, 3),
+        ("ended", 2, 4, Decision::Terminate, None, 2),
     ];
     let mut turns = Turns::new(rt.alloc());
     let mut steps: Steps<Brand> = Steps::zero();
-    for (name, near, far, decision, want) in cases {
+    for (name, near, far, decision, primitive, opened) in cases {
         let got = committed(&mut turns, near.max(1), far.max(3), decision, &mut steps)?;
-        assert!(rt; got == want, "{}", name);
+        assert!(rt; got == (primitive, opened), "{}", name);
     }
     Ok(())
 }

@@ -1,6 +1,8 @@
 ghost use Rattle.std.specs.Prelude.{◌≡◌, ◌++◌, [], OnOk};
 ghost use Rattle.std.specs.List.Sorted.{IsPermutation};
 ghost use Rattle.ray_nearest.specs.declared.turn.Turn.TheVariants.{Node, Candidate};
+ghost use Rattle.std.specs.Ordering.{is_le};
+ghost use Rattle.ray_geom.specs.Ratio.{ratio_cmp, ratio_of};
 ghost use Rattle.std.specs.BinaryHeap.{IsHeap, heap_items};
 ghost use Rattle.ray_nearest.specs.Heaps.{IsNodeFirst, found_turn, node_turn, turns_of};
 ghost use Rattle.ray_nearest.specs.Scene.{is_within};
@@ -36,7 +38,7 @@ impl Model for Turns {
     ghost view = { λ t. turns_of (heap_items t.nodes) (heap_items t.found) };
 
     ghost invariant = { λ t.
-      IsHeap node_cmp (heap_items t.nodes) × IsHeap found_cmp (heap_items t.found) };
+        IsHeap node_cmp (heap_items t.nodes) × IsHeap found_cmp (heap_items t.found) };
 }
 
 impl Turns {
@@ -140,7 +142,14 @@ fn takes_node(nodes: &BinaryHeap<WaitingNode>, found: &BinaryHeap<WaitingFound>)
     let Some(first) = found.peek() else {
         return true;
     };
-    node.entry <= Ratio::of(first.found.t)
+    is_no_farther(node.entry, first.found)
+}
+
+// Whether a node is entered at or before the distance of a candidate.
+fn is_no_farther(entry: Ratio, found: Found) -> bool
+    ensures { result ≡ is_le (ratio_cmp entry (ratio_of found.t)) }
+{
+    entry <= Ratio::of(found.t)
 }
 
 // Whether a distance is within a limit.

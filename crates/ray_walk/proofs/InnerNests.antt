@@ -13,7 +13,7 @@ use Rattle.ray_bottom.specs.Trees.{items_of as bottom_items}
 use Rattle.ray_top.specs.Trees.{without_tree, items_of}
 use Rattle.ray_nearest.specs.Parts.{Nests}
 use Rattle.ray_walk.specs.Traced.{Traced, Placement, placement_at, no_box, entry_in, top_entry, entry_of_placement, bottom_entry}
-use Rattle.ray_walk.specs.Sound.{IsSound}
+use Rattle.ray_bottom.specs.Slots.{IsSound}
 use Rattle.ray_walk.proofs.Opened.{nests_part}
 
 -- in any tree, for any ray

@@ -3,7 +3,7 @@ use Rattle.std.proofs.Common.{◌≡◌, ◌∙◌, refl, sym, ap, subst, ℕ, B
 use Rattle.ray_geom.specs.Boxes.{BoxValue}
 use Rattle.ray_contents.specs.Bounds.{KeepsBounds}
 use Rattle.ray_bottom.specs.Contents.{ContentsValue as BottomContents, bounds_of}
-use Rattle.ray_bottom.specs.Slots.{Slots, structure_at}
+use Rattle.ray_bottom.specs.Slots.{Slots, structure_at, AreSound}
 use Rattle.ray_bottom.specs.Trees.{BottomWithTree, without_tree as contents_of}
 use Rattle.ray_top.specs.Instances.{InstanceValue}
 use Rattle.ray_top.specs.InstanceReading.{bounds_in}
@@ -12,7 +12,7 @@ use Rattle.ray_top.specs.Trees.{without_tree}
 use Rattle.ray_walk.specs.Candidates.{is_seen, active_instance}
 use Rattle.ray_walk.specs.Standing.{IsStanding, AreStanding, structures_in}
 use Rattle.ray_walk.specs.Traced.{Traced, Placement, placement_of, placement_at}
-use Rattle.ray_walk.specs.Sound.{AreSound, IsWellPlaced}
+use Rattle.ray_walk.specs.Sound.{IsWellPlaced}
 use Rattle.ray_walk.proofs.Placing.{All-at}
 
 -- what a placement is

@@ -11,21 +11,12 @@ use Rattle.ray_bottom.specs.declared.shapes.Shapes.{Shapes}
 use Rattle.ray_bottom.specs.declared.shapes.Shapes.TheVariants.{Triangles, Boxes}
 use Rattle.ray_bottom.specs.declared.prim_place.PrimPlace.{PrimPlace}
 use Rattle.ray_bottom.specs.Contents.{IsContents, bounds_of}
-use Rattle.ray_bottom.specs.Slots.{Slots, structure_at}
+use Rattle.ray_bottom.specs.Slots.{AreSound, IsSound}
 use Rattle.ray_bottom.specs.Trees.{BottomWithTree, without_tree, items_of, place_at}
 use Rattle.ray_top.specs.Contents.{IsTop}
 use Rattle.ray_top.specs.Trees.{without_tree as top_without_tree, items_of as top_items}
 use Rattle.ray_walk.specs.Standing.{AreStanding, structures_in}
 use Rattle.ray_walk.specs.Traced.{Traced, Placement}
-
--- a bottom structure within the limits, with a tree over its primitives
-pub record IsSound (b : BottomWithTree) : Type 0 where
-  pub limits : IsContents (without_tree b)
-  pub over : TreeOver b.tree (items_of b.geometries)
-
--- each of them is so
-pub record AreSound (bottoms : Slots) : Type 0 where
-  pub each : (id : ℕ) (b : BottomWithTree) → structure_at id bottoms ≡ Some b → IsSound b
 
 -- the box of the primitive of a number, and of that at a place; none where none stands there, and where it is inactive
 abbrev pub shape_box : ℕ → Shapes → Option BoxValue

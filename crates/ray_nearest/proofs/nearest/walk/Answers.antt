@@ -7,8 +7,8 @@ pub loop-turn-init : goal.loop-turn-init
 loop-turn-init g c = record {
   kept = c.begin.ensures.kept;
   underway = begins (g.S.Scene.IsNode c.args.scene.now) (g.S.Scene.scene c.args.scene.now) c.requires.scene c.passing_law.ensures.left_out
-    (g.C.Client.meaning c.args.client.now) c.args.ray c.args.flags c.args.steps.now
-    c.clear.new.self c.begin.new.turns c.initialize-query.result c.clear.ensures c.initialize-query.ensures c.in_ok-begin.ensures.begun;
+      (g.C.Client.meaning c.args.client.now) c.args.ray c.args.flags c.args.steps.now
+      c.clear.new.self c.begin.new.turns c.initialize-query.result c.clear.ensures c.initialize-query.ensures c.in_ok-begin.ensures.begun;
 }
 
 pub take-requires-clause-known : goal.take-requires-clause-known
@@ -31,11 +31,11 @@ pub loop-turn-preserved : goal.loop-turn-preserved
 loop-turn-preserved g c = record {
   kept = c.take.ensures.kept ∙ c.loop-turn.invariant.kept;
   underway = goes_on (g.S.Scene.IsNode c.args.scene.now) (g.S.Scene.scene c.args.scene.now) c.requires.scene c.passing_law.ensures.left_out
-    (g.C.Client.meaning c.args.client.now) c.args.ray c.args.flags c.args.steps.now
-    c.in-Some.turn c.loop-turn.turns c.next_turn.new.turns c.take.new.turns c.loop-turn.query c.take.new.query c.loop-turn.steps c.take.new.steps
-    c.loop-turn.invariant.underway c.in-Some.ensures
-    (subst (λ scene. Takes (g.C.Client.meaning c.args.client.now) (g.S.Scene.scene scene) c.in-Some.turn c.loop-turn.query c.next_turn.new.turns
-    c.loop-turn.steps c.take.new.query c.take.new.turns c.take.new.steps) c.loop-turn.invariant.kept c.in_ok-take.ensures.taken);
+      (g.C.Client.meaning c.args.client.now) c.args.ray c.args.flags c.args.steps.now
+      c.in-Some.turn c.loop-turn.turns c.next_turn.new.turns c.take.new.turns c.loop-turn.query c.take.new.query c.loop-turn.steps c.take.new.steps
+      c.loop-turn.invariant.underway c.in-Some.ensures
+      (subst (λ scene. Takes (g.C.Client.meaning c.args.client.now) (g.S.Scene.scene scene) c.in-Some.turn c.loop-turn.query c.next_turn.new.turns
+      c.loop-turn.steps c.take.new.query c.take.new.turns c.take.new.steps) c.loop-turn.invariant.kept c.in_ok-take.ensures.taken);
 }
 
 pub returns-clause-answer : goal.returns-clause-answer

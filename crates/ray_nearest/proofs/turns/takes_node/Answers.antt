@@ -1,7 +1,5 @@
-use Rattle.std.proofs.Common.{◌∙◌, rules, ap}
+use Rattle.std.proofs.Common.{rules}
 use Rattle.std.specs.BinaryHeap.{heap_items}
-use Rattle.std.specs.Ordering.{is_le}
-use Rattle.ray_geom.specs.Ratio.{ratio_cmp}
 use Rattle.ray_nearest.proofs.Popping.{AreTops, is_node_first}
 use Rattle.ray_nearest.proofs.turns.takes_node.Goals as goal
 
@@ -15,5 +13,4 @@ returns c =
       a_above = c.in-Some.ensures.greatest c.requires.nodes;
       b_above = c.in-Some-peek.ensures.greatest c.requires.found;
     } in
-    is_node_first (heap_items c.args.nodes.now) (heap_items c.args.found.now) c.in-Some.node.now c.in-Some-peek.first.now tops c.le.result
-    (c.le.ensures ∙ ap (λ r. is_le (ratio_cmp c.in-Some.node.now.entry r)) c.of.ensures.value)
+    is_node_first (heap_items c.args.nodes.now) (heap_items c.args.found.now) c.in-Some.node.now c.in-Some-peek.first.now tops c.is_no_farther.result c.is_no_farther.ensures

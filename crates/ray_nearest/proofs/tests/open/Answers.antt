@@ -4,13 +4,13 @@ use Rattle.ray_nearest.specs.Adding.{IsOpened}
 use Rattle.ray_nearest.specs.Parts.{scene_of}
 use Rattle.ray_nearest.specs.Small.{small_parts}
 use Rattle.ray_nearest.proofs.SmallScene.{opened_inner, opened_first, opened_second}
-use Rattle.ray_nearest.proofs.tests.SmallScene.open.Goals as goal
+use Rattle.ray_nearest.proofs.tests.open.Goals as goal
 
 pub returns-in_ok-push_node-in-Inner-clause-opened :
     goal.returns-in_ok-push_node-in-Inner-clause-opened
 returns-in_ok-push_node-in-Inner-clause-opened g c =
-    let near = c.args.self.now.near in
-    let far = c.args.self.now.far in
+    let near = c.args.near.now in
+    let far = c.args.far.now in
     on_ok_weaker c.push_node-in-Inner.result
     (λ moved. subst (λ n. IsOpened c.args.limit (scene_of (small_parts near far)) n c.args.turns.now c.push_node-in-Inner.new.self) (sym c.in-Inner.is)
     (opened_inner near far c.args.turns.now c.push_node-in-Inner.new.self c.args.limit c.in-Inner.instance c.in-Inner.node c.push_node.new.self
@@ -20,8 +20,8 @@ returns-in_ok-push_node-in-Inner-clause-opened g c =
 
 pub returns-then-node-eq0-clause-opened : goal.returns-then-node-eq0-clause-opened
 returns-then-node-eq0-clause-opened g c =
-    let near = c.args.self.now.near in
-    let far = c.args.self.now.far in
+    let near = c.args.near.now in
+    let far = c.args.far.now in
     on_ok_weaker c.push_found.result
     (λ moved. subst (λ n. IsOpened c.args.limit (scene_of (small_parts near far)) n c.args.turns.now c.push_found.new.self) (sym c.in-Leaf.is)
     (opened_first near far c.args.turns.now c.push_found.new.self c.args.limit c.in-Leaf.instance c.in-Leaf.node c.if-node-eq0.true moved))
@@ -29,8 +29,8 @@ returns-then-node-eq0-clause-opened g c =
 
 pub returns-else-node-eq0-clause-opened : goal.returns-else-node-eq0-clause-opened
 returns-else-node-eq0-clause-opened g c =
-    let near = c.args.self.now.near in
-    let far = c.args.self.now.far in
+    let near = c.args.near.now in
+    let far = c.args.far.now in
     on_ok_weaker c.push_found-else-node-eq0.result
     (λ moved. subst (λ n. IsOpened c.args.limit (scene_of (small_parts near far)) n c.args.turns.now c.push_found-else-node-eq0.new.self) (sym c.in-Leaf.is)
     (opened_second near far c.args.turns.now c.push_found-else-node-eq0.new.self c.args.limit c.in-Leaf.instance c.in-Leaf.node c.if-node-eq0.false moved))
