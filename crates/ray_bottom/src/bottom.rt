@@ -3,6 +3,7 @@ ghost use Rattle.ray_geom.specs.LeastBoxes.{HoldsBoxes, IsLeast};
 ghost use Rattle.ray_bytes.specs.StructureSizes.{compacted_size};
 ghost use Rattle.ray_bottom.specs.Contents.{bounds_of, total_of, active_of, active_boxes};
 ghost use Rattle.ray_bottom.specs.Contents.{kind_of, count_of, IsContents};
+ghost use Rattle.ray_bottom.specs.Slots.{IsSound};
 ghost use Rattle.ray_bottom.specs.Trees.{without_tree, items_of, places_below};
 ghost use Rattle.ray_tree.specs.Trees.{TreeOver};
 ghost use Rattle.ray_wide.specs.Wides.{WideOver};
@@ -98,6 +99,14 @@ impl Bottom {
             }
             Node::Inner { .. } => &[],
         }
+    }
+
+    /// Says that it is within the limits, with a tree over its primitives; it does nothing.
+    pub fn sound(&self)
+        ensures { IsSound self.now }
+    {
+        let _limits = self.geometries();
+        let _tree = self.tree();
     }
 
     /// The flags of its build.

@@ -55,10 +55,7 @@ impl Bottoms {
         ensures ok { OnOk result (Changes id (Some (structure_at id self.old)) self.old self.new) }
         ensures err { OnErr result (self.new ≡ self.old) }
     {
-        if !self.slots.contains_key(&id) {
-            self.slots.insert(id, None)?;
-        }
-        Ok(())
+        make_slot(&mut self.slots, id)
     }
 
     /// Puts a structure under an id for which room was made, in place of what stands there.
@@ -66,15 +63,43 @@ impl Bottoms {
         requires { has_room id self.old ≡ true }
         ensures { Changes id (Some (Some bottom)) self.old self.new }
     {
-        if let Some(slot) = self.slots.get_mut(&id) {
-            *slot = Some(bottom);
-        }
+        bottom.sound();
+        fill_slot(&mut self.slots, id, bottom);
     }
 
     /// Drops an id with its room and what stands there.
     pub fn drop_id(&mut self, id: u32)
         ensures { Changes id None self.old self.new }
     {
-        self.slots.remove(&id);
+        drop_slot(&mut self.slots, id);
     }
+}
+
+// Makes room for an id, where there is none yet.
+fn make_slot(slots: &mut BTreeMap<u32, Option<Bottom>>, id: u32) -> Result<(), NoMemory>
+    ensures ok { OnOk result (Changes id (Some (structure_at id slots.old.entries))
+        slots.old.entries slots.new.entries) }
+    ensures err { OnErr result (slots.new.entries ≡ slots.old.entries) }
+{
+    if !slots.contains_key(&id) {
+        slots.insert(id, None)?;
+    }
+    Ok(())
+}
+
+// Puts a structure under an id for which there is room.
+fn fill_slot(slots: &mut BTreeMap<u32, Option<Bottom>>, id: u32, bottom: Bottom)
+    requires { has_room id slots.old.entries ≡ true }
+    ensures { Changes id (Some (Some bottom)) slots.old.entries slots.new.entries }
+{
+    if let Some(slot) = slots.get_mut(&id) {
+        *slot = Some(bottom);
+    }
+}
+
+// Drops the room of an id.
+fn drop_slot(slots: &mut BTreeMap<u32, Option<Bottom>>, id: u32)
+    ensures { Changes id None slots.old.entries slots.new.entries }
+{
+    slots.remove(&id);
 }
