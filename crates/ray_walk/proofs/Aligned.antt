@@ -1,13 +1,13 @@
 -- The box of each active item of a structure is that of the primitive at its place.
-use Rattle.std.proofs.Common.{◌≡◌, ◌∙◌, refl, sym, ap, subst, ℕ, zero, suc, ◌+◌, ◌-◌, ◌<◌, ◌≤◌, Option, Some, None, option_map, option_and_then, List, [], ◌∷◌, ◌++◌, map, length, get_or, slice_get, inl, inr, arith}
-use Rattle.std.specs.List.{flat_map, range_with_len}
+use Rattle.std.proofs.Common.{◌≡◌, ◌∙◌, refl, sym, ap, subst, ℕ, suc, ◌+◌, ◌-◌, ◌<◌, Option, Some, None, option_map, option_and_then, List, [], ◌∷◌, ◌++◌, map, length, get_or, slice_get, inl, inr, arith}
+use Rattle.std.specs.List.{range_with_len}
 use Rattle.std.proofs.lemmas.Bool.{cases_lt}
 use Rattle.std.proofs.lemmas.List.{get_or_append_left, get_or-append_right, length-map}
 use Rattle.std.proofs.lemmas.List.Concat.{flat_map-cons}
 use Rattle.std.proofs.lemmas.List.FromFn.{get_or-map-range_with_len, length-map-range_with_len}
 use Rattle.std.proofs.lemmas.Option.{slice_get-get_or, slice_get-map}
 use Rattle.ray_geom.specs.Boxes.{BoxValue}
-use Rattle.ray_primitives.specs.Primitives.{TriangleValue, box_of_triangle}
+use Rattle.ray_primitives.specs.Primitives.{box_of_triangle}
 use Rattle.ray_bottom.specs.declared.geometry.Geometry.{Geometry}
 use Rattle.ray_bottom.specs.declared.shapes.Shapes.{Shapes}
 use Rattle.ray_bottom.specs.declared.shapes.Shapes.TheVariants.{Triangles, Boxes}
@@ -62,16 +62,16 @@ placed_from from (g ∷ gs) q box d is =
     let many : length (own from g) ≡ count = length-map-range_with_len (place_of from) 0 count in
     elim (cases_lt q count) [
       | inl below ↦ (let small : q < length (items_of_shapes g.shapes) = omega (arith, below, as_many g.shapes) in
-        first_placed from q g gs box (get_or (places_from from (g ∷ gs)) q d)
-        (get_or_append_left (own from g) (places_from (from + 1) gs) d q (omega (arith, below, many))
-        ∙ get_or-map-range_with_len (place_of from) 0 count q q d below (omega arith))
-        (shape_item g.shapes q box small (sym (get_or_append_left (items_of_shapes g.shapes) (items_of gs) None q small) ∙ items)))
+          first_placed from q g gs box (get_or (places_from from (g ∷ gs)) q d)
+          (get_or_append_left (own from g) (places_from (from + 1) gs) d q (omega (arith, below, many))
+          ∙ get_or-map-range_with_len (place_of from) 0 count q q d below (omega arith))
+          (shape_item g.shapes q box small (sym (get_or_append_left (items_of_shapes g.shapes) (items_of gs) None q small) ∙ items)))
       | inr past ↦ (let rest : get_or (items_of gs) (q - count) None ≡ Some box =
-        sym (get_or-append_right (items_of_shapes g.shapes) (items_of gs) count q None (as_many g.shapes) past) ∙ items in
-        let here : get_or (places_from from (g ∷ gs)) q d ≡ get_or (places_from (from + 1) gs) (q - count) d =
-        get_or-append_right (own from g) (places_from (from + 1) gs) count q d many past in
-        later_placed from g gs (get_or (places_from from (g ∷ gs)) q d) box
-        (subst (λ (at : PrimPlace). IsPlaced (from + 1) gs at box) (sym here) (placed_from (from + 1) gs (q - count) box d rest)))
+          sym (get_or-append_right (items_of_shapes g.shapes) (items_of gs) count q None (as_many g.shapes) past) ∙ items in
+          let here : get_or (places_from from (g ∷ gs)) q d ≡ get_or (places_from (from + 1) gs) (q - count) d =
+          get_or-append_right (own from g) (places_from (from + 1) gs) count q d many past in
+          later_placed from g gs (get_or (places_from from (g ∷ gs)) q d) box
+          (subst (λ (at : PrimPlace). IsPlaced (from + 1) gs at box) (sym here) (placed_from (from + 1) gs (q - count) box d rest)))
     ]
 
 pub are_aligned : (gs : List Geometry) → AreAligned gs

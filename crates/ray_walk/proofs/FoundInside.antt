@@ -1,5 +1,5 @@
 -- What is found of a primitive is found inside its box, and is left where it is entered or later.
-use Rattle.std.proofs.Common.{◌≡◌, ◌∙◌, ◌*◌, refl, sym, ap, subst, ℕ, Bool, true, false, if◌then◌else◌, Option, Some, None, option_map, option_and_then, IfSome, List, [], ◌∷◌, All, slice_get, inl, inr, arith}
+use Rattle.std.proofs.Common.{◌≡◌, ◌*◌, refl, sym, subst, ℕ, Bool, true, false, if◌then◌else◌, Option, Some, None, option_map, option_and_then, IfSome, List, [], ◌∷◌, All, slice_get, inl, inr, arith}
 use Rattle.std.specs.Ordering.{is_le}
 use Rattle.ray_geom.specs.Scene.{RayValue, TriValue, IsRay, IsTri}
 use Rattle.ray_geom.specs.Boxes.{BoxValue, IsBox}
@@ -28,7 +28,7 @@ use Rattle.ray_nearest.specs.Scene.{IsInOrder}
 use Rattle.ray_walk.specs.Fractions.{fraction_of}
 use Rattle.ray_walk.specs.Candidates.{Placed, placed, passes_over, found_of, admitted, found_at}
 use Rattle.ray_walk.specs.Traced.{Traced, Placement, found_in_placed, found_at_place, found_of_item}
-use Rattle.ray_walk.specs.Sound.{shape_box, prim_box, IsSound, IsWellPlaced}
+use Rattle.ray_walk.specs.Sound.{shape_box, prim_box, IsWellPlaced}
 use Rattle.ray_walk.proofs.Members.{Member}
 use Rattle.ray_walk.proofs.Placing.{All-at}
 use Rattle.ray_walk.proofs.Opened.{le_tells}
