@@ -32,7 +32,7 @@ use Rattle.ray_walk.specs.Sound.{IsWalkable}
 use Rattle.ray_walk.specs.Traced.{IsNode, Traced, Placement, parts_of, traced_scene, placement_at, placement_of, ref, root_in, roots_by, top_ref}
 use Rattle.ray_walk.proofs.Apart.{AreApart-found}
 use Rattle.ray_walk.proofs.Placing.{All-at}
-use Rattle.ray_walk.proofs.Placements.{placement-is, some_same}
+use Rattle.ray_walk.proofs.WellPlaced.{is_placement}
 use Rattle.ray_walk.proofs.Spread.{joined-spread, joined-permuted}
 use Rattle.ray_walk.proofs.Every.{all, of_instance, top-every}
 use Rattle.ray_walk.proofs.Everywhere.{instance-found, no-root, no_bounds, root-gives, tree-spread}
@@ -43,6 +43,12 @@ at-get [] k d below = absurd (omega (arith, below))
 at-get (x ∷ xs) zero d below = refl
 at-get (x ∷ xs) (suc k) d below = at-get xs k d (omega (arith, below))
 
+some_same : {X : Type 0} (x y : X) → Some x ≡ Some y → x ≡ y
+some_same x y e = cc
+
+same_twice : {X : Type 0} (x y : X) → Some (Some x) ≡ Some (Some y) → x ≡ y
+same_twice x y e = some_same x y (some_same (Some x) (Some y) e)
+
 module _ (s : Traced) (w : IsWalkable s) where
   -- nothing is found of an instance that has no box in the world
   no_roots : (j : ℕ) (p : Placement) → placement_at s j ≡ Some p → bounds_of p.bottom.geometries ≡ None → of_instance s (are-parts s w) j ≡ []
@@ -51,7 +57,7 @@ module _ (s : Traced) (w : IsWalkable s) where
       by : (ns : List Node) → p.bottom.tree.nodes ≡ ns → flat_map (all s (are-parts s w)) (root_in ns (ref j p.bottom.tree 0)) ≡ []
       by [] e = refl
       by (x ∷ xs) e = let many = ap length e in
-          let over = (w.bottoms.each p.instance.id p.bottom (placement-is s j p is).stands).over in
+          let over = (w.bottoms.each p.instance.id p.bottom (is_placement s j p is).stands).over in
           absurd (no-root p.bottom.tree p.bottom.geometries over none (omega (arith, many)))
 
   no_placement : (j : ℕ) → placement_at s j ≡ None → of_instance s (are-parts s w) j ≡ []
@@ -62,9 +68,8 @@ module _ (s : Traced) (w : IsWalkable s) where
       → (o : Option Placement) → placement_at s j ≡ o → of_instance s (are-parts s w) j ≡ []
   of_active j i at none None is = no_placement j is
   of_active j i at none (Some p) is =
-      let placed = placement-is s j p is in
-      let active : active_instance s.top.contents j ≡ Some i = ap (option_and_then (λ k. k)) at in
-      let same : i ≡ p.instance = some_same i p.instance (sym active ∙ placed.active) in
+      let placed = is_placement s j p is in
+      let same : i ≡ p.instance = same_twice i p.instance (sym at ∙ placed.active) in
       let standing : IsStanding s.top.used (structures_in s.bottoms) i =
       All-at (λ k. IfSome k (IsStanding s.top.used (structures_in s.bottoms))) s.top.contents.instances j (Some i) w.standing.each at in
       let there : structures_in s.bottoms i.id ≡ Some (bottoms.without_tree p.bottom) =

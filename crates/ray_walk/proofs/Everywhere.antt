@@ -35,7 +35,7 @@ use Rattle.ray_walk.specs.Standing.{IsStanding, structures_in}
 use Rattle.ray_walk.specs.Sound.{IsWalkable, prim_box}
 use Rattle.ray_walk.specs.Traced.{Traced, Placement, IsNode, found_at_place, found_in_placed, found_of_item, parts_of, placement_at, placement_of, ref, root_in, root_of_placement, roots_by, roots_of, top_ref}
 use Rattle.ray_walk.proofs.Placing.{All-at}
-use Rattle.ray_walk.proofs.Placements.{IsPlacement, placement-is, some_same}
+use Rattle.ray_walk.proofs.WellPlaced.{is_placement}
 use Rattle.ray_walk.proofs.Spread.{IsSpread, joined-spread, joined-permuted}
 use Rattle.ray_walk.proofs.Leaves.{items-once}
 use Rattle.ray_walk.proofs.Aligned.{item-aligned, joined-places}
@@ -141,7 +141,7 @@ module _ (s : Traced) (well : IsWalkable s) (parts : AreParts (IsNode s) (parts_
   placed-found : (j : ℕ) (p : Placement) → placement_at s j ≡ Some p
       → IsPermutation (of_instance s parts j) (found_in_structure s.ray s.flags j p.instance (Some (bottoms.without_tree p.bottom)))
   placed-found j p is =
-      let over = (well.bottoms.each p.instance.id p.bottom (placement-is s j p is).stands).over in
+      let over = (well.bottoms.each p.instance.id p.bottom (is_placement s j p is).stands).over in
       let same : of_instance s parts j ≡ flat_map (found_of_item s j p) (items_below p.bottom.tree.order (shape_at p.bottom.tree 0)) =
       ap (λ o. flat_map (all s parts) (roots_by j o)) is
       ∙ root-gives (all s parts) (found_of_item s j p) p.bottom.tree (ref j p.bottom.tree 0) (λ some. bottom-every s parts j p is over.shape 0 some) in

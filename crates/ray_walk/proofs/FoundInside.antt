@@ -1,5 +1,5 @@
 -- What is found of a primitive is found inside its box, and is left where it is entered or later.
-use Rattle.std.proofs.Common.{◌≡◌, ◌∙◌, ◌*◌, refl, sym, ap, subst, ℕ, Bool, true, false, if◌then◌else◌, Option, Some, None, option_map, option_and_then, IfSome, List, [], ◌∷◌, All, slice_get, inl, inr, arith}
+use Rattle.std.proofs.Common.{◌≡◌, ◌*◌, refl, sym, subst, ℕ, Bool, true, false, if◌then◌else◌, Option, Some, None, option_map, option_and_then, IfSome, List, [], ◌∷◌, All, slice_get, inl, inr, arith}
 use Rattle.std.specs.Ordering.{is_le}
 use Rattle.ray_geom.specs.Scene.{RayValue, TriValue, IsRay, IsTri}
 use Rattle.ray_geom.specs.Boxes.{BoxValue, IsBox}

@@ -1,10 +1,10 @@
 -- The distance at which a triangle is hit, as the fraction that is told, is inside each box that holds the triangle.
-use Rattle.std.proofs.Common.{ℕ, zero, suc, ◌≡◌, ◌≢◌, ◌+◌, ◌*◌, ◌^◌, ◌≤◌, ◌<◌, Option, Some, refl, sym, ap, subst, ◌∙◌, arith}
+use Rattle.std.proofs.Common.{ℕ, zero, suc, ◌≡◌, ◌≢◌, ◌*◌, ◌^◌, ◌≤◌, ◌<◌, Some, refl, ap, subst, arith}
 use Rattle.std.specs.Prelude.{ℤ, pos, negsuc, ◌*ℤ◌, ◌≤ℤ◌, unsigned_abs}
 use Rattle.std.proofs.lemmas.Int.{ints}
 use Rattle.ray_geom.specs.declared.vec3.Vec3.{Vec3}
-use Rattle.ray_geom.specs.Vector.{IsWithin, IsShort, minus_of, cross_of, dot_of}
-use Rattle.ray_geom.specs.Fraction.{IsFraction, IsSameValue}
+use Rattle.ray_geom.specs.Vector.{IsWithin, IsShort, minus_of, cross_of}
+use Rattle.ray_geom.specs.Fraction.{IsFraction}
 use Rattle.ray_geom.specs.Frac.{numerator, denominator}
 use Rattle.ray_geom.specs.Scene.{RayValue, TriValue, IsRay, IsTri}
 use Rattle.ray_geom.specs.Boxes.{BoxValue}

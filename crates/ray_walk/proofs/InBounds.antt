@@ -1,6 +1,5 @@
 -- The box of each node of a bottom structure's tree is in the bounds of the structure.
-use Rattle.std.proofs.Common.{◌≡◌, ◌∙◌, refl, sym, ap, subst, ℕ, ◌<◌, ◌≤◌, Option, Some, None, IfSome, filter_map, List, [], ◌∷◌, ◌++◌, map, All, length, take, drop, get_or, inl, inr}
-use Rattle.std.specs.List.{flat_map}
+use Rattle.std.proofs.Common.{◌≡◌, ◌∙◌, refl, sym, subst, ℕ, ◌<◌, Option, Some, None, IfSome, filter_map, List, [], ◌∷◌, ◌++◌, All, length, take, drop, get_or, inl, inr}
 use Rattle.std.specs.Option.{option_to_list}
 use Rattle.std.proofs.lemmas.Bool.{cases_lt}
 use Rattle.std.proofs.lemmas.List.{get_or_past}

@@ -1,17 +1,17 @@
 -- The box of a leaf holds what is found there.
-use Rattle.std.proofs.Common.{◌≡◌, ◌∙◌, refl, sym, subst, ℕ, ◌<◌, Option, Some, None, option_and_then, List, [], All, length}
+use Rattle.std.proofs.Common.{◌≡◌, ◌∙◌, sym, subst, ℕ, ◌<◌, Option, Some, option_and_then, All, length}
 use Rattle.ray_geom.specs.Scene.{IsRay}
 use Rattle.ray_geom.specs.Boxes.{BoxValue, IsPart}
 use Rattle.ray_geom.specs.Frac.{numerator, denominator}
 use Rattle.ray_geom.specs.ObjectRay.{object_of}
 use Rattle.ray_prune.specs.BoxSpan.{IsInside}
-use Rattle.ray_tree.specs.Trees.{box_at, item_box}
+use Rattle.ray_tree.specs.Trees.{box_at}
 use Rattle.ray_bottom.specs.Trees.{items_of, place_at}
 use Rattle.ray_query.specs.declared.found.Found.{Found}
 use Rattle.ray_nearest.specs.declared.node.WalkNode.TheVariants.{Leaf}
 use Rattle.ray_nearest.specs.Scene.{Holds, IsInOrder}
 use Rattle.ray_walk.specs.Traced.{Traced, Placement, placement_at, no_box, entry_of_placement, bottom_entry, items_at, found_of_item, found_in_leaf, finds, IsBottomNode}
-use Rattle.ray_walk.specs.Sound.{prim_box, AreAligned, IsWellPlaced}
+use Rattle.ray_walk.specs.Sound.{AreAligned, IsWellPlaced}
 use Rattle.ray_walk.proofs.Members.{Member, Each-from_members, All-from_Each}
 use Rattle.ray_walk.proofs.Opened.{inside_held}
 use Rattle.ray_walk.proofs.FoundInside.{IsFoundIn, found_inside}

@@ -1,15 +1,15 @@
 -- The items of a leaf: each is active, and its box is in that of the leaf.
-use Rattle.std.proofs.Common.{◌≡◌, ◌∙◌, refl, sym, ap, subst, ℕ, zero, suc, ◌<◌, Bool, if◌then◌else◌, Option, Some, None, is_some, List, [], ◌∷◌, ◌++◌, All, length, take, drop, inl, inr, arith}
+use Rattle.std.proofs.Common.{◌≡◌, ◌∙◌, refl, ap, subst, ℕ, zero, suc, ◌<◌, if◌then◌else◌, Option, Some, None, is_some, List, [], ◌∷◌, ◌++◌, All, length, take, drop, inl, inr, arith}
 use Rattle.std.specs.List.{flat_map}
 use Rattle.std.specs.Option.{option_to_list}
 use Rattle.std.proofs.lemmas.List.Elements.{All-head}
 use Rattle.std.proofs.lemmas.List.Concat.{flat_map-cons}
 use Rattle.ray_geom.specs.Boxes.{BoxValue, IsPart}
-use Rattle.ray_geom.specs.LeastBoxes.{HoldsBoxes, IsLeast}
+use Rattle.ray_geom.specs.LeastBoxes.{HoldsBoxes}
 use Rattle.ray_tree.specs.declared.node.Node.{Node}
 use Rattle.ray_tree.specs.declared.node.Node.TheVariants as nodes
 use Rattle.ray_tree.specs.Shapes.{Shape, node_at}
-use Rattle.ray_tree.specs.Trees.{TreeValue, TreeOver, shape_at, box_at, item_box, active, boxes_of, boxes_below}
+use Rattle.ray_tree.specs.Trees.{TreeValue, TreeOver, box_at, item_box, boxes_of, boxes_below}
 use Rattle.ray_tree.specs.Local.{IsActive}
 use Rattle.ray_tree.proofs.Counting.{has_items}
 use Rattle.ray_tree.proofs.LeastLists.{All-second}

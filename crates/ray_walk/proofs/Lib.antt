@@ -6,7 +6,6 @@ pub mod Joined
 pub mod Spread
 pub mod Leaves
 pub mod Aligned
-pub mod Placements
 pub mod Every
 pub mod Missing
 pub mod Everywhere

@@ -1,12 +1,11 @@
 -- The laws of a walk's parts that are about boxes: what is found at a node is held by its box, and a node's box nests those of the nodes below it.
-use Rattle.std.proofs.Common.{◌≡◌, ◌∙◌, refl, sym, ap, subst, ℕ, ◌<◌, Option, Some, None, option_and_then, List, [], ◌∷◌, All, length, inl, inr, arith}
+use Rattle.std.proofs.Common.{◌≡◌, refl, sym, subst, ℕ, ◌<◌, Option, Some, None, List, [], ◌∷◌, All, length, inl, inr, arith}
 use Rattle.std.proofs.lemmas.List.Elements.{All-nil, All-cons}
 use Rattle.ray_geom.specs.declared.ratio.Ratio.{Ratio}
 use Rattle.ray_tree.specs.declared.node.Node.{Node}
 use Rattle.ray_tree.specs.declared.node.Node.TheVariants as nodes
 use Rattle.ray_tree.specs.Shapes.{node_at}
 use Rattle.ray_tree.specs.Trees.{TreeValue}
-use Rattle.ray_query.specs.declared.found.Found.{Found}
 use Rattle.ray_nearest.specs.declared.node.WalkNode.{WalkNode}
 use Rattle.ray_nearest.specs.declared.node.WalkNode.TheVariants.{TopInner, TopLeaf, Inner, Leaf}
 use Rattle.ray_nearest.specs.Parts.{Nests}

@@ -1,5 +1,5 @@
 -- Where a ray is inside a box the box is met, and a box that holds what is inside another nests it.
-use Rattle.std.proofs.Common.{ℕ, ◌≡◌, ◌*◌, ◌<◌, ◌≤◌, true, Option, Some, None, option_map, refl, arith}
+use Rattle.std.proofs.Common.{ℕ, ◌≡◌, ◌*◌, ◌<◌, ◌≤◌, true, Option, Some, None, option_map, arith}
 use Rattle.std.specs.Prelude.{IfSome, IfNone}
 use Rattle.std.specs.Ordering.{is_le, nat_cmp}
 use Rattle.std.proofs.lemmas.Bool.Decides.{nat_tests}

@@ -1,5 +1,5 @@
 -- A fraction in lowest terms that is within the limits keeps its numbers.
-use Rattle.std.proofs.Common.{ℕ, ◌≡◌, ◌*◌, ◌<◌, refl, sym, ap, ◌∙◌, subst}
+use Rattle.std.proofs.Common.{ℕ, ◌≡◌, ◌*◌, refl, sym, ◌∙◌}
 use Rattle.ray_geom.specs.Fraction.{IsFraction, IsSameValue}
 use Rattle.ray_geom.specs.Frac.{numerator, denominator}
 use Rattle.ray_geom.specs.Gauss.{gcd_exists}

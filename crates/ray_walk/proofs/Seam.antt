@@ -1,5 +1,5 @@
 -- The box of a leaf of the top structure's tree nests the root of each structure that is placed there.
-use Rattle.std.proofs.Common.{◌≡◌, ◌∙◌, refl, sym, ap, subst, ℕ, ◌<◌, Option, Some, None, option_map, option_and_then, List, map, length, slice_get}
+use Rattle.std.proofs.Common.{◌≡◌, ◌∙◌, refl, sym, ap, subst, ℕ, ◌<◌, Option, Some, None, option_map, option_and_then, length, slice_get}
 use Rattle.std.proofs.lemmas.Option.{slice_get-map, get_or_from_slice_get}
 use Rattle.ray_geom.specs.Boxes.{BoxValue, IsPart, corners_of}
 use Rattle.ray_geom.specs.Transform.{MatrixValue, identity_value}
@@ -14,7 +14,7 @@ use Rattle.ray_top.specs.Instances.{InstanceValue}
 use Rattle.ray_top.specs.InstanceReading.{bounds_in}
 use Rattle.ray_top.specs.Trees.{without_tree, world_box, item_of, items_of}
 use Rattle.ray_nearest.specs.Parts.{Nests}
-use Rattle.ray_walk.specs.Traced.{Traced, Placement, placement_at, no_box, entry_in, top_entry, entry_of_placement, bottom_entry, items_at}
+use Rattle.ray_walk.specs.Traced.{Traced, Placement, placement_at, no_box, top_entry, entry_of_placement, bottom_entry, items_at}
 use Rattle.ray_walk.specs.Sound.{IsWellPlaced, IsWalkable}
 use Rattle.ray_walk.proofs.Members.{Member}
 use Rattle.ray_walk.proofs.Opened.{Carries, nests_carried}

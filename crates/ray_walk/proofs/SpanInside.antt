@@ -1,6 +1,6 @@
 -- The distance at which a box is entered, as the fraction that is told, is inside the box, and isn't after the one at which it is left.
-use Rattle.std.proofs.Common.{ℕ, zero, suc, ◌≡◌, ◌≢◌, ◌+◌, ◌*◌, ◌^◌, ◌≤◌, ◌<◌, Bool, true, false, cond, nat_le, Option, Some, None, option_map, refl, sym, ap, subst, ◌∙◌, arith}
-use Rattle.std.specs.Prelude.{ℤ, pos, negsuc, ◌-ℤ◌, ◌*ℤ◌, ◌≤ℤ◌, unsigned_abs, IfSome}
+use Rattle.std.proofs.Common.{ℕ, zero, suc, ◌≡◌, ◌+◌, ◌*◌, ◌^◌, ◌≤◌, ◌<◌, Bool, true, false, cond, nat_le, Option, Some, None, option_map, refl, subst, arith}
+use Rattle.std.specs.Prelude.{ℤ, pos, negsuc, unsigned_abs, IfSome}
 use Rattle.std.specs.Ordering.{is_le}
 use Rattle.std.proofs.lemmas.Int.{ints}
 use Rattle.ray_geom.specs.declared.ratio.Ratio.{Ratio}
@@ -14,7 +14,7 @@ use Rattle.ray_geom.specs.Decided.{where_so}
 use Rattle.ray_geom.specs.HitValue.{lowest_terms}
 use Rattle.ray_prune.specs.declared.reach.Reach.{Reach}
 use Rattle.ray_prune.specs.Decided.{inside_decided}
-use Rattle.ray_prune.specs.BoxSpan.{near_end, far_end, IsInside, IsReach, AreFractions}
+use Rattle.ray_prune.specs.BoxSpan.{near_end, far_end, IsInside, IsReach}
 use Rattle.ray_prune.specs.BoxReach.{SpanValue, natural_part, way_in, way_out, enters_at, leaves_at, entry_on, exit_on, entry_of, exit_of, reach_value, reach_of, span_in_lowest_terms, span_of}
 use Rattle.ray_prune.specs.Slabs.{IsAxis}
 use Rattle.ray_prune.proofs.Slabs.{EndsFit, ends_fit}

@@ -33,7 +33,7 @@ use Rattle.ray_walk.specs.Sound.{IsWalkable}
 use Rattle.ray_walk.specs.Traced.{Traced, Placement, IsNode, IsTopNode, IsBottomNode, below, children, children_of, entry, items_at, items_by, parts_of, placement_at, placement_of, rank, rank_of_placement, ref, ref_by, root_in, roots_by, roots_of, top_children, top_ref, top_ref_by}
 use Rattle.ray_walk.proofs.Members.{Member}
 use Rattle.ray_walk.proofs.Placing.{All-at}
-use Rattle.ray_walk.proofs.Placements.{IsPlacement, placement-is, some_same}
+use Rattle.ray_walk.proofs.WellPlaced.{is_placement}
 use Rattle.ray_walk.proofs.Spread.{joined-spread, joined-permuted}
 use Rattle.ray_walk.proofs.Every.{all, of_instance, top-every}
 use Rattle.ray_walk.proofs.NodesHold.{holds_at, in_order_at, nests_below}
@@ -113,7 +113,7 @@ module _ (s : Traced) (w : IsWalkable s) where
   lower-bottom i n p (nodes.Leaf first count) placed e there m is = All-nil (IsLower m)
   lower-bottom i n p (nodes.Inner l r) placed e there m is =
       let tree = p.bottom.tree in
-      let over = (w.bottoms.each p.instance.id p.bottom (placement-is s i p placed).stands).over in
+      let over = (w.bottoms.each p.instance.id p.bottom (is_placement s i p placed).stands).over in
       let at = at_inner tree over.shape n l r there e in
       let heavy : weight (shape_at tree n) ≡ 1 + (weight (shape_at tree l) + weight (shape_at tree r)) = ap weight at.shape in
       let left = bottom-rank i l (node_at tree.nodes l) p placed in
@@ -135,7 +135,7 @@ module _ (s : Traced) (w : IsWalkable s) where
       by (x ∷ xs) is =
           let many = ap length is in
           let some : 0 < length p.bottom.tree.nodes = omega (arith, many) in
-          let sound = w.bottoms.each p.instance.id p.bottom (placement-is s j p e).stands in
+          let sound = w.bottoms.each p.instance.id p.bottom (is_placement s j p e).stands in
           let light = bottom-light p.bottom sound.over sound.limits.primitives some in
           let ranked = bottom-rank j 0 (node_at p.bottom.tree.nodes 0) p e in
           All-cons (IsLower m) (ref j p.bottom.tree 0) []

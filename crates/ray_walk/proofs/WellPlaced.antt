@@ -9,7 +9,7 @@ use Rattle.ray_top.specs.Instances.{InstanceValue}
 use Rattle.ray_top.specs.InstanceReading.{bounds_in}
 use Rattle.ray_top.specs.Contents.{IsTop, IsActive, IsInstance}
 use Rattle.ray_top.specs.Trees.{without_tree}
-use Rattle.ray_walk.specs.Candidates.{is_seen, active_instance}
+use Rattle.ray_walk.specs.Candidates.{is_seen}
 use Rattle.ray_walk.specs.Standing.{IsStanding, AreStanding, structures_in}
 use Rattle.ray_walk.specs.Traced.{Traced, Placement, placement_of, placement_at}
 use Rattle.ray_walk.specs.Sound.{IsWellPlaced}
