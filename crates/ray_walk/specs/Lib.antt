@@ -5,3 +5,4 @@ pub mod Standing
 pub mod Telling
 pub mod Traced
 pub mod Sound
+pub mod Scenes

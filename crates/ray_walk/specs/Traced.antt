@@ -39,6 +39,10 @@ pub record Traced : Type 0 where
   pub flags : RayFlags
   pub mask : ℕ
 
+-- that of these
+abbrev pub traced_by : TopWithTree → Slots → RayValue → RayFlags → ℕ → Traced
+traced_by top bottoms ray flags mask = record { top = top; bottoms = bottoms; ray = ray; flags = flags; mask = mask }
+
 -- an instance with the bottom structure that it places in the world
 pub record Placement : Type 0 where
   pub instance : InstanceValue

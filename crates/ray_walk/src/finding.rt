@@ -1,4 +1,4 @@
-ghost use Rattle.std.specs.Prelude.{◌≡◌, ◌≤◌, Some};
+ghost use Rattle.std.specs.Prelude.{◌≡◌, ◌+◌, Some};
 ghost use Rattle.std.specs.Option.{option_to_list};
 ghost use Rattle.ray_contents.specs.Bounds.{KeepsBounds};
 ghost use Rattle.ray_bottom.specs.Contents.{bounds_of};
@@ -28,7 +28,7 @@ pub(crate) fn find<L: Ledger>(
     requires { KeepsBounds at.now.instance.matrix (bounds_of bottom.now.geometries) }
     ensures value { option_to_list result
         ≡ found_at ray.now flags bottom.now.geometries (placed_value at.now) primitive }
-    ensures rising { steps.old ≤ steps.new }
+    ensures step { steps.new ≡ steps.old + 1 }
 {
     let place = PrimPlace {
         geometry: at.geometry,

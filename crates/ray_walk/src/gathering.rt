@@ -48,7 +48,7 @@ pub(crate) fn gather<L: Ledger>(
 }
 
 // The instance of a number, where it is active.
-fn active(top: &Top, number: u32) -> Option<Instance>
+pub(crate) fn active(top: &Top, number: u32) -> Option<Instance>
     ensures { option_map instance_of result ≡ active_instance top.now.contents number }
 {
     let instance = top.instance(number)?;

@@ -16,8 +16,12 @@
 mod finding;
 mod gathering;
 mod laws;
+mod leaf;
+mod looked;
+mod opening;
 mod placed;
 mod plain;
+mod ray_scene;
 #[cfg(test)]
 mod tests;
 

@@ -1,0 +1,105 @@
+//! What is found in a leaf of the structure of an instance.
+ghost use Rattle.std.specs.Prelude.{◌≡◌, ◌+◌, ◌<◌, ◌≤◌, OnOk, Some, length};
+ghost use Rattle.std.specs.Option.{option_to_list};
+ghost use Rattle.ray_contents.specs.Bounds.{KeepsBounds};
+ghost use Rattle.ray_bottom.specs.Contents.{bounds_of};
+ghost use Rattle.ray_flags.specs.Admission.{AsksBoth, ForcesBoth};
+ghost use Rattle.ray_nearest.specs.Adding.{Adds, AddsFound, IsOpened};
+ghost use Rattle.ray_nearest.specs.declared.node.WalkNode.TheVariants.{Leaf};
+ghost use Rattle.ray_walk.specs.Scenes.{found_by_place, placement_value, traced_in};
+ghost use Rattle.ray_walk.specs.Traced.{found_at_place, placement_at, tests, traced_scene};
+
+use crate::finding::find;
+use crate::looked::Looked;
+use crate::placed::Placed;
+use crate::ray_scene::RayScene;
+use ray_bottom::PrimPlace;
+use ray_flags::{RayFlags, effective};
+use ray_geom::{Ratio, Ray, Steps};
+use ray_nearest::{NoMemory, Turns};
+use ray_query::Found;
+use std::sync::ledger::Ledger;
+
+// Adds the turns of what is found in a leaf, a step for each primitive.
+pub(crate) fn open_leaf<L: Ledger>(
+    scene: &RayScene<'_>,
+    looked: &Looked<'_>,
+    i: u32,
+    n: u32,
+    limit: Option<Ratio>,
+    turns: &mut Turns,
+    steps: &mut Steps<L>,
+) -> Result<(), NoMemory>
+    requires is_it { placement_at (traced_in scene.now) i ≡ Some (placement_value looked.now) }
+    requires within { n < length looked.now.bottom.now.tree.nodes }
+    ensures opened { OnOk result
+        (IsOpened limit (traced_scene (traced_in scene.now)) (Leaf i n) turns.old turns.new) }
+    ensures steps { OnOk result (steps.new ≡ steps.old + tests (traced_in scene.now) (Leaf i n)) }
+    ensures rising { steps.old ≤ steps.new }
+{
+    for place in looked.bottom.items_of(n) {
+        let found = find_at(scene, looked, i, *place, steps);
+        push(turns, limit, found)?;
+    }
+    Ok(())
+}
+
+// What is found of the primitive at a place. It takes one step.
+fn find_at<L: Ledger>(
+    scene: &RayScene<'_>,
+    looked: &Looked<'_>,
+    i: u32,
+    place: PrimPlace,
+    steps: &mut Steps<L>,
+) -> Option<Found>
+    requires is_it { placement_at (traced_in scene.now) i ≡ Some (placement_value looked.now) }
+    ensures value { option_to_list result
+        ≡ found_at_place (traced_in scene.now) i (placement_value looked.now) place }
+    ensures step { steps.new ≡ steps.old + 1 }
+{
+    find_in(looked, i, place, scene.ray, scene.flags, steps)
+}
+
+// The same, where the transform keeps the bounds of the structure, and flags agree.
+fn find_in<L: Ledger>(
+    looked: &Looked<'_>,
+    i: u32,
+    place: PrimPlace,
+    ray: &Ray,
+    flags: RayFlags,
+    steps: &mut Steps<L>,
+) -> Option<Found>
+    requires kept { KeepsBounds looked.now.instance.matrix (bounds_of looked.now.bottom.now.geometries) }
+    requires instance_agrees { ¬ ForcesBoth looked.now.instance.flags }
+    requires flags_agree { ¬ AsksBoth flags }
+    ensures value { option_to_list result ≡ found_by_place ray.now flags i
+        (placement_value looked.now) place }
+    ensures step { steps.new ≡ steps.old + 1 }
+{
+    if place.geometry >= looked.bottom.geometries() {
+        steps.tick();
+        return None;
+    }
+    let opaque = effective(
+        looked.bottom.opaque(place.geometry),
+        looked.instance.flags,
+        flags,
+    );
+    let at = Placed {
+        number: i,
+        instance: looked.instance,
+        geometry: place.geometry,
+        opaque,
+    };
+    find(looked.bottom, &at, place.primitive, ray, flags, steps)
+}
+
+// Adds the turn of what is found, if anything is.
+fn push(turns: &mut Turns, limit: Option<Ratio>, found: Option<Found>) -> Result<(), NoMemory>
+    ensures { OnOk result (Adds (AddsFound limit) (option_to_list found) turns.old turns.new) }
+{
+    match found {
+        Some(found) => turns.push_found(limit, found),
+        None => Ok(()),
+    }
+}
