@@ -65,8 +65,8 @@ module _ {X : Type 0} (P : X → List Turn → Type 0) where
 module _ (limit : Option Ratio) (s : SceneValue) (n : WalkNode) (old new : List Turn) where
   -- at which nothing is found
   pub IsOpened-inner : s.finds n ≡ [] → AddsNodes limit s (s.below n) old new → IsOpened limit s n old new
-  IsOpened-inner none added = (new, added, subst (λ fs. Adds (AddsFound limit) fs new new) (sym none) (IsPermutation-refl new))
+  IsOpened-inner none added = (old, subst (λ fs. Adds (AddsFound limit) fs old old) (sym none) (IsPermutation-refl old), added)
 
   -- below which there is none
   pub IsOpened-leaf : s.below n ≡ [] → Adds (AddsFound limit) (s.finds n) old new → IsOpened limit s n old new
-  IsOpened-leaf none added = (old, subst (λ ns. AddsNodes limit s ns old old) (sym none) (IsPermutation-refl old), added)
+  IsOpened-leaf none added = (new, added, subst (λ ns. AddsNodes limit s ns new new) (sym none) (IsPermutation-refl new))

@@ -122,8 +122,8 @@ module _ (near far : Found) where
           below = below;
           holds = holds;
           in_order = in_order;
-          apart = subst AreApart (sym found) (record { once = once });
         })
+        (subst AreApart (sym found) (record { once = once }))
 
   -- ---- what its calls add
 
