@@ -26,8 +26,8 @@ use Rattle.ray_nearest.specs.Adding.{AddsNodes, HasValue, IsOpened}
 use Rattle.ray_nearest.specs.Answer.{answer_in, played_in}
 use Rattle.ray_nearest.specs.KeyOrder.{AreApart, has_key, in_key_order}
 use Rattle.ray_nearest.specs.Scene.{IsInOrder, IsScene, SceneValue, distance_of, found_in, is_open, is_within, opened_in}
-use Rattle.ray_nearest.specs.Taking.{IsKnown, Takes}
-use Rattle.ray_nearest.specs.Turns.{IsNext, is_before, turn_at}
+use Rattle.ray_nearest.specs.Taking.{IsNext, IsKnown, Takes}
+use Rattle.ray_nearest.specs.Turns.{is_before, turn_at}
 use Rattle.ray_nearest.proofs.Members.{Member-flat_map, Each-member, Member, Member-append, Member-append_left, Member-append_right}
 use Rattle.ray_nearest.proofs.Orders.{Each, Each-from_All, beyond-farther, beyond-passed, key-nearer, key_lt-not_both, lt-chain, lt-from_not_le, never, ratio_le-chain, turn-farther, within-value}
 use Rattle.ray_nearest.proofs.Rising.{AreApart-first, Differs, IsAbove, above_other, in_key_order-first}
