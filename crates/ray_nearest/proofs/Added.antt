@@ -1,5 +1,6 @@
 -- For who writes a scene: from the calls that add turns to `IsOpened`.
-use Rattle.std.proofs.Common.{◌≡◌, ◌∙◌, ◌++◌, refl, sym, subst, Option, Some, None, Bool, true, false, if◌then◌else◌, List, [], ◌∷◌, inl, inr}
+use Rattle.std.proofs.lemmas.List.{take_more}
+use Rattle.std.proofs.Common.{ℕ, ◌+◌, ◌<◌, length, slice_index_or, take, ◌≡◌, ◌∙◌, ◌++◌, refl, sym, subst, Option, Some, None, Bool, true, false, if◌then◌else◌, List, [], ◌∷◌, inl, inr}
 use Rattle.std.specs.List.Sorted.{IsPermutation}
 use Rattle.std.proofs.lemmas.List.Sorted.{IsPermutation-append_right, IsPermutation-refl, IsPermutation-trans}
 use Rattle.ray_geom.specs.declared.ratio.Ratio.{Ratio}
@@ -60,13 +61,20 @@ module _ {X : Type 0} (P : X → List Turn → Type 0) where
   pub Adds-more : (xs : List X) (x : X) (old mid new : List Turn) → Adds P xs old mid → AddsOne (P x) mid new → Adds P (xs ++ x ∷ []) old new
   Adds-more xs x old mid new before one = Adds-append xs (x ∷ []) old mid new before (new, one, IsPermutation-refl new)
 
+  -- the step of a loop over a list
+  pub Adds-take : (xs : List X) (i : ℕ) (x : X) (old mid new : List Turn) → i < length xs → x ≡ slice_index_or xs i x
+      → Adds P (take i xs) old mid → AddsOne (P x) mid new → Adds P (take (i + 1) xs) old new
+  Adds-take xs i x old mid new below at before one =
+      subst (λ ys. Adds P ys old new) (sym (take_more xs i x below))
+      (Adds-more (take i xs) (slice_index_or xs i x) old mid new before (subst (λ y. AddsOne (P y) mid new) at one))
+
 -- ---- a node
 
 module _ (limit : Option Ratio) (s : SceneValue) (n : WalkNode) (old new : List Turn) where
   -- at which nothing is found
   pub IsOpened-inner : s.finds n ≡ [] → AddsNodes limit s (s.below n) old new → IsOpened limit s n old new
-  IsOpened-inner none added = (new, added, subst (λ fs. Adds (AddsFound limit) fs new new) (sym none) (IsPermutation-refl new))
+  IsOpened-inner none added = (old, subst (λ fs. Adds (AddsFound limit) fs old old) (sym none) (IsPermutation-refl old), added)
 
   -- below which there is none
   pub IsOpened-leaf : s.below n ≡ [] → Adds (AddsFound limit) (s.finds n) old new → IsOpened limit s n old new
-  IsOpened-leaf none added = (old, subst (λ ns. AddsNodes limit s ns old old) (sym none) (IsPermutation-refl old), added)
+  IsOpened-leaf none added = (new, added, subst (λ ns. AddsNodes limit s ns new new) (sym none) (IsPermutation-refl new))

@@ -178,12 +178,12 @@ module _ (IsNode : WalkNode → Type 0) (s : SceneValue) (st : QueryState) where
 
     -- opening a node
     pub moves_opened : (n : WalkNode) (old new : List Turn) → IsNode n → IsOpened (distance_of st.committed) s n old new
-        → Moves IsNode s st (s.every n) (λ c. sum_by (s.opened c) (s.below n)) (sum_by s.size (s.below n) + length (s.finds n)) old new
-    moves_opened n old new known (mid, nodes, found) =
-        subst (λ more. Moves IsNode s st more (λ c. sum_by (s.opened c) (s.below n)) (sum_by s.size (s.below n) + length (s.finds n)) old new)
+        → Moves IsNode s st (s.every n) (λ c. sum_by (s.opened c) (s.below n)) (length (s.finds n) + sum_by s.size (s.below n)) old new
+    moves_opened n old new known (mid, found, nodes) =
+        subst (λ more. Moves IsNode s st more (λ c. sum_by (s.opened c) (s.below n)) (length (s.finds n) + sum_by s.size (s.below n)) old new)
         (sym (scene.every n known))
-        (moves_within (flat_map s.every (s.below n) ++ s.finds n) (λ c. sum_by (s.opened c) (s.below n) + 0) (λ c. sum_by (s.opened c) (s.below n))
-        (sum_by s.size (s.below n) + length (s.finds n)) (sum_by s.size (s.below n) + length (s.finds n)) old new
+        (moves_within (s.finds n ++ flat_map s.every (s.below n)) (λ c. 0 + sum_by (s.opened c) (s.below n)) (λ c. sum_by (s.opened c) (s.below n))
+        (length (s.finds n) + sum_by s.size (s.below n)) (length (s.finds n) + sum_by s.size (s.below n)) old new
         (λ c. omega arith) (omega arith)
-        (moves_more (flat_map s.every (s.below n)) (s.finds n) (λ c. sum_by (s.opened c) (s.below n)) (λ c. 0) (sum_by s.size (s.below n)) (length (s.finds n)) old mid new
-        (moves_nodes (s.below n) old mid (scene.below n known) nodes) (moves_founds (s.finds n) mid new found)))
+        (moves_more (s.finds n) (flat_map s.every (s.below n)) (λ c. 0) (λ c. sum_by (s.opened c) (s.below n)) (length (s.finds n)) (sum_by s.size (s.below n)) old mid new
+        (moves_founds (s.finds n) old mid found) (moves_nodes (s.below n) mid new (scene.below n known) nodes)))

@@ -26,8 +26,8 @@ use Rattle.ray_nearest.specs.Adding.{AddsNodes, HasValue, IsOpened}
 use Rattle.ray_nearest.specs.Answer.{answer_in, played_in}
 use Rattle.ray_nearest.specs.KeyOrder.{AreApart, has_key, in_key_order}
 use Rattle.ray_nearest.specs.Scene.{IsInOrder, IsScene, SceneValue, distance_of, found_in, is_open, is_within, opened_in}
-use Rattle.ray_nearest.specs.Taking.{IsKnown, Takes}
-use Rattle.ray_nearest.specs.Turns.{IsNext, is_before, turn_at}
+use Rattle.ray_nearest.specs.Taking.{IsNext, IsKnown, Takes}
+use Rattle.ray_nearest.specs.Turns.{is_before, turn_at}
 use Rattle.ray_nearest.proofs.Members.{Member-flat_map, Each-member, Member, Member-append, Member-append_left, Member-append_right}
 use Rattle.ray_nearest.proofs.Orders.{Each, Each-from_All, beyond-farther, beyond-passed, key-nearer, key_lt-not_both, lt-chain, lt-from_not_le, never, ratio_le-chain, turn-farther, within-value}
 use Rattle.ray_nearest.proofs.Rising.{AreApart-first, Differs, IsAbove, above_other, in_key_order-first}
@@ -215,7 +215,7 @@ module _ (IsNode : WalkNode → Type 0) (s : SceneValue) where
           → IsUnderway IsNode s meaning ray flags begun (Node e n ∷ rest) q now → IsUnderway IsNode s meaning ray flags begun new q (now + s.tests n)
       node_taken e n rest new q now in_ first opened u =
           let fits : Fits IsNode s (Node e n) = All-head (Fits IsNode s) (Node e n) rest u.fit in
-          let moves : Moves IsNode s q.state (s.every n) (λ c. sum_by (s.opened c) (s.below n)) (sum_by s.size (s.below n) + length (s.finds n)) rest new =
+          let moves : Moves IsNode s q.state (s.every n) (λ c. sum_by (s.opened c) (s.below n)) (length (s.finds n) + sum_by s.size (s.below n)) rest new =
           moves_opened IsNode s q.state scene n rest new fits.0 opened in
           let once : (k : Key) → sum_by (keys s k) new ≤ 1 = λ k.
           let most : sum_by (keys s k) new ≤ sum_by (has_key k) (s.every n) + sum_by (keys s k) rest = moves.once k in
@@ -316,9 +316,9 @@ module _ (IsNode : WalkNode → Type 0) (s : SceneValue) where
       lighter (Node e n) items rest new q r now later u (open_, in_, moved, first) (stays, opened, tested) =
           let u' : IsUnderway IsNode s meaning ray flags begun (Node e n ∷ rest) q now = turned items (Node e n ∷ rest) q now moved u in
           let fits : Fits IsNode s (Node e n) = All-head (Fits IsNode s) (Node e n) rest u'.fit in
-          let moves : Moves IsNode s q.state (s.every n) (λ c. sum_by (s.opened c) (s.below n)) (sum_by s.size (s.below n) + length (s.finds n)) rest new =
+          let moves : Moves IsNode s q.state (s.every n) (λ c. sum_by (s.opened c) (s.below n)) (length (s.finds n) + sum_by s.size (s.below n)) rest new =
           moves_opened IsNode s q.state scene n rest new fits.0 opened in
-          let light : sum_by (weight s) new ≤ (sum_by s.size (s.below n) + length (s.finds n)) + sum_by (weight s) rest = moves.light in
+          let light : sum_by (weight s) new ≤ (length (s.finds n) + sum_by s.size (s.below n)) + sum_by (weight s) rest = moves.light in
           let size : 1 + (length (s.finds n) + sum_by s.size (s.below n)) ≤ s.size n = scene.size n fits.0 in
           let same : sum_by (weight s) (Node e n ∷ rest) ≡ sum_by (weight s) items = sum_by-IsPermutation (weight s) items (Node e n ∷ rest) moved in
           let sum : sum_by (weight s) (Node e n ∷ rest) ≡ s.size n + sum_by (weight s) rest = sum_by-cons (weight s) (Node e n) rest in

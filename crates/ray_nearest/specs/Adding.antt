@@ -37,7 +37,7 @@ Adds P (x ∷ xs) old new = (mid : List Turn) × AddsOne (P x) old mid × Adds P
 abbrev pub AddsNodes : Option Ratio → SceneValue → List WalkNode → List Turn → List Turn → Type 0
 AddsNodes limit s = Adds (AddsNode limit s.entry)
 
--- a node was opened: the turns of the nodes below it were added, and those of what is found there
+-- a node was opened: the turns of what is found there were added, and those of the nodes below it
 abbrev pub IsOpened : Option Ratio → SceneValue → WalkNode → List Turn → List Turn → Type 0
 IsOpened limit s n old new =
-    (mid : List Turn) × AddsNodes limit s (s.below n) old mid × Adds (AddsFound limit) (s.finds n) mid new
+    (mid : List Turn) × Adds (AddsFound limit) (s.finds n) old mid × AddsNodes limit s (s.below n) mid new

@@ -1,6 +1,6 @@
 -- A scene from its parts: what is right at each node, and which nodes are right below it. What is found or opened from a node down is
 -- grown from that.
-use Rattle.std.specs.Prelude.{ℕ, zero, suc, ◌≡◌, ◌+◌, ◌<◌, ◌++◌, true, if◌then◌else◌, Option, Some, List, [], length, map, All}
+use Rattle.std.specs.Prelude.{ℕ, zero, suc, ◌≡◌, ◌+◌, ◌<◌, ◌++◌, true, if◌then◌else◌, Option, Some, List, [], ◌∷◌, length, map, All}
 use Rattle.std.specs.List.{sum, flat_map}
 use Rattle.ray_geom.specs.declared.ratio.Ratio.{Ratio}
 use Rattle.ray_query.specs.declared.found.Found.{Found}
@@ -21,9 +21,9 @@ unfoldable pub grown : {A : Type 0} → (WalkNode → List WalkNode) → (WalkNo
 grown below make none zero n = none
 grown below make none (suc k) n = make n (map (grown below make none k) (below n))
 
--- what is found below a node, and right there
+-- what is found right at a node, and below it
 abbrev pub every_with : SceneParts → WalkNode → List (List Found) → List Found
-every_with p n lists = flat_map (λ fs. fs) lists ++ p.finds n
+every_with p n lists = p.finds n ++ flat_map (λ fs. fs) lists
 
 -- where a node is met within a limit, what is tested there and what is opened below; else nothing
 abbrev pub opened_with : SceneParts → Option Ratio → WalkNode → List ℕ → ℕ
@@ -32,6 +32,18 @@ opened_with p limit n counts = if is_open limit (p.entry n) then p.tests n + sum
 -- the node, what is found there, and the sizes of those below
 abbrev pub size_with : SceneParts → WalkNode → List ℕ → ℕ
 size_with p n sizes = 1 + (length (p.finds n) + sum sizes)
+
+-- the node, and those below it
+abbrev pub nodes_with : WalkNode → List (List WalkNode) → List WalkNode
+nodes_with n lists = n ∷ flat_map (λ ns. ns) lists
+
+-- all nodes from a node down
+abbrev pub all_from : SceneParts → WalkNode → List WalkNode
+all_from p n = grown p.below nodes_with [] (suc (p.rank n)) n
+
+-- what is tested right at a node, where its own box is met within a limit
+abbrev pub tested_at : SceneParts → Option Ratio → WalkNode → ℕ
+tested_at p limit n = if is_open limit (p.entry n) then p.tests n else 0
 
 -- the scene of such parts
 abbrev pub scene_of : SceneParts → SceneValue

@@ -69,8 +69,8 @@ pub record IsScene (IsNode : WalkNode → Type 0) (s : SceneValue) : Type 0 wher
   -- it knows its roots and what is below a node
   pub roots : All IsNode s.roots
   pub below : (n : WalkNode) → IsNode n → All IsNode (s.below n)
-  -- what is found from a node down is found below it or right there, and a node is more than all that
-  pub every : (n : WalkNode) → IsNode n → s.every n ≡ flat_map s.every (s.below n) ++ s.finds n
+  -- what is found from a node down is found right there or below it, and a node is more than all that
+  pub every : (n : WalkNode) → IsNode n → s.every n ≡ s.finds n ++ flat_map s.every (s.below n)
   pub size : (n : WalkNode) → IsNode n → 1 + (length (s.finds n) + sum_by s.size (s.below n)) ≤ s.size n
   -- no key is found twice
   pub apart : AreApart (found_in s)

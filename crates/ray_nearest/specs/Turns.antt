@@ -1,14 +1,13 @@
 -- The turns of a walk: what it has to look at next, nearest first.
-use Rattle.std.specs.Prelude.{◌≡◌, ◌⊎◌, Bool, true, false, Option, Some, None, All, List, [], ◌∷◌, if◌then◌else◌}
+use Rattle.std.specs.Prelude.{◌≡◌, Bool, false, Option, Some, None, All, List, [], ◌∷◌, if◌then◌else◌}
 use Rattle.std.specs.List.Sorted.{IsPermutation}
 use Rattle.std.specs.Ordering.{is_le, is_lt}
 use Rattle.ray_geom.specs.declared.ratio.Ratio.{Ratio}
 use Rattle.ray_geom.specs.Ratio.{ratio_cmp, ratio_of}
 use Rattle.ray_query.specs.Key.{found_key, key_lt}
-use Rattle.ray_query.specs.Play.{QueryState}
 use Rattle.ray_nearest.specs.declared.turn.Turn.{Turn}
 use Rattle.ray_nearest.specs.declared.turn.Turn.TheVariants.{Node, Candidate}
-use Rattle.ray_nearest.specs.Scene.{distance_of, is_within}
+use Rattle.ray_nearest.specs.Scene.{is_within}
 
 -- at which distance a turn comes: a node at its entry, a candidate at its own distance (own)
 abbrev pub turn_at : Turn → Ratio
@@ -31,10 +30,3 @@ turn_within limit x = if is_within limit (turn_at x) then x ∷ [] else []
 abbrev pub IsTaken : List Turn → Option Turn → List Turn → Type 0
 IsTaken old None new = old ≡ []
 IsTaken old (Some x) new = IsPermutation old (x ∷ new) × All (λ y. is_before y x ≡ false) new
-
--- the next turn of a walk whose query stands so: none where the query is over, or where all turns that wait are beyond the
--- committed distance; else a first one, which isn't
-abbrev pub IsNext : QueryState → List Turn → Option Turn → List Turn → Type 0
-IsNext st old None new = (st.over ≡ true) ⊎ All (λ y. is_within (distance_of st.committed) (turn_at y) ≡ false) old
-IsNext st old (Some x) new =
-    (st.over ≡ false) × (is_within (distance_of st.committed) (turn_at x) ≡ true) × IsPermutation old (x ∷ new) × All (λ y. is_before y x ≡ false) new

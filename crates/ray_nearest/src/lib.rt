@@ -8,7 +8,8 @@
 //! found in the scene (`answer_in` of `specs/Answer`), and the steps that it takes are no more than
 //! the primitives of opened leaves: those that are met up to the committed distance. A scene adds
 //! to [`Turns`] by [`Turns::push_node`] and [`Turns::push_found`], and shows `IsOpened` of
-//! `specs/Adding`; the lemmas of `proofs/Added` put that together.
+//! `specs/Adding`; the lemmas of `proofs/Added` put that together. `specs/Parts` makes a scene of
+//! what is right at each node, and `proofs/Growing` shows that it is one.
 //!
 //! It stands on ray_geom (ratios, steps), ray_query (the play) and ray_flags (flags of a ray).
 #![tactic(auto)]

@@ -1,8 +1,8 @@
 ghost use Rattle.std.specs.Prelude.{◌≡◌, ◌+◌, ◌≤◌, IfOk, OnOk, None};
 ghost use Rattle.ray_nearest.specs.Answer.{answer_in};
 ghost use Rattle.ray_nearest.specs.Scene.{IsScene, distance_of, opened_in};
-ghost use Rattle.ray_nearest.specs.Taking.{IsKnown, Takes};
-ghost use Rattle.ray_nearest.specs.Turns.{IsNext, turn_at};
+ghost use Rattle.ray_nearest.specs.Taking.{IsKnown, IsNext, Takes};
+ghost use Rattle.ray_nearest.specs.Turns.{turn_at};
 
 use crate::scene::Scene;
 use crate::turn::Turn;

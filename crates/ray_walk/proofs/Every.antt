@@ -42,9 +42,10 @@ module _ (s : Traced) (parts : AreParts (IsNode s) (parts_of s)) where
         let F = found_of_item s i p in
         let order = p.bottom.tree.order in
         every (IsNode s) (parts_of s) parts (Leaf i n) (record { placement = p; is_it = placed; there = there })
+        ∙ (append-nil (found_in_leaf s i n (placement_at s i))
         ∙ (ap (found_in_leaf s i n) placed
         ∙ (ap (λ node. flat_map F (items_by order node)) e
-        ∙ ap (λ t. flat_map F (items_below order t)) (sym (at_leaf p.bottom.tree shape n first count there e).shape)))
+        ∙ ap (λ t. flat_map F (items_below order t)) (sym (at_leaf p.bottom.tree shape n first count there e).shape))))
 
     bottom_inner : (n l r : ℕ) → n < length p.bottom.tree.nodes → node_at p.bottom.tree.nodes n ≡ nodes.Inner l r
         → all (ref i p.bottom.tree l) ≡ flat_map (found_of_item s i p) (items_below p.bottom.tree.order (shape_at p.bottom.tree l))
@@ -54,13 +55,12 @@ module _ (s : Traced) (parts : AreParts (IsNode s) (parts_of s)) where
         let F = found_of_item s i p in
         let tree = p.bottom.tree in
         every (IsNode s) (parts_of s) parts (Inner i n) (record { placement = p; is_it = placed; there = there })
-        ∙ (append-nil (flat_map all (children_of i n (placement_at s i)))
         ∙ (ap (λ o. flat_map all (children_of i n o)) placed
         ∙ (ap (λ node. flat_map all (children i tree node)) e
         ∙ (two all (ref i tree l) (ref i tree r)
         ∙ ((λ j. left j ++ right j)
         ∙ (sym (flat_map-append F (items_below tree.order (shape_at tree l)) (items_below tree.order (shape_at tree r)))
-        ∙ ap (λ t. flat_map F (items_below tree.order t)) (sym (at_inner tree shape n l r there e).shape)))))))
+        ∙ ap (λ t. flat_map F (items_below tree.order t)) (sym (at_inner tree shape n l r there e).shape))))))
 
     bottom_by : (k n : ℕ) (node : Node) → node_at p.bottom.tree.nodes n ≡ node → n < length p.bottom.tree.nodes → weight (shape_at p.bottom.tree n) < suc k
         → ((m : ℕ) → m < length p.bottom.tree.nodes → weight (shape_at p.bottom.tree m) < k
@@ -93,10 +93,9 @@ module _ (s : Traced) (parts : AreParts (IsNode s) (parts_of s)) where
     top_leaf n first count there e =
         let tree = s.top.tree in
         every (IsNode s) (parts_of s) parts (TopLeaf n) (record { there = there })
-        ∙ (append-nil (flat_map all (flat_map (roots_of s) (items_at tree n)))
         ∙ (flat-flat all (roots_of s) (items_at tree n)
         ∙ (ap (λ node. flat_map of_instance (items_by tree.order node)) e
-        ∙ ap (λ t. flat_map of_instance (items_below tree.order t)) (sym (at_leaf tree shape n first count there e).shape))))
+        ∙ ap (λ t. flat_map of_instance (items_below tree.order t)) (sym (at_leaf tree shape n first count there e).shape)))
 
     top_inner : (n l r : ℕ) → n < length s.top.tree.nodes → node_at s.top.tree.nodes n ≡ nodes.Inner l r
         → all (top_ref s.top.tree l) ≡ flat_map of_instance (items_below s.top.tree.order (shape_at s.top.tree l))
@@ -105,12 +104,11 @@ module _ (s : Traced) (parts : AreParts (IsNode s) (parts_of s)) where
     top_inner n l r there e left right =
         let tree = s.top.tree in
         every (IsNode s) (parts_of s) parts (TopInner n) (record { there = there })
-        ∙ (append-nil (flat_map all (top_children tree (node_at tree.nodes n)))
         ∙ (ap (λ node. flat_map all (top_children tree node)) e
         ∙ (two all (top_ref tree l) (top_ref tree r)
         ∙ ((λ j. left j ++ right j)
         ∙ (sym (flat_map-append of_instance (items_below tree.order (shape_at tree l)) (items_below tree.order (shape_at tree r)))
-        ∙ ap (λ t. flat_map of_instance (items_below tree.order t)) (sym (at_inner tree shape n l r there e).shape))))))
+        ∙ ap (λ t. flat_map of_instance (items_below tree.order t)) (sym (at_inner tree shape n l r there e).shape)))))
 
     top_by : (k n : ℕ) (node : Node) → node_at s.top.tree.nodes n ≡ node → n < length s.top.tree.nodes → weight (shape_at s.top.tree n) < suc k
         → ((m : ℕ) → m < length s.top.tree.nodes → weight (shape_at s.top.tree m) < k
