@@ -6,7 +6,7 @@ ghost use Rattle.ray_bottom.specs.Contents.{bounds_of};
 ghost use Rattle.ray_flags.specs.Admission.{AsksBoth, ForcesBoth};
 ghost use Rattle.ray_nearest.specs.Adding.{Adds, AddsFound, IsOpened};
 ghost use Rattle.ray_nearest.specs.declared.node.WalkNode.TheVariants.{Leaf};
-ghost use Rattle.ray_walk.specs.Scenes.{found_by_place, placement_value, traced_in};
+ghost use Rattle.ray_walk.specs.Scenes.{found_by_place, placement_value};
 ghost use Rattle.ray_walk.specs.Traced.{found_at_place, placement_at, tests, traced_scene};
 
 use crate::finding::find;
@@ -30,11 +30,11 @@ pub(crate) fn open_leaf<L: Ledger>(
     turns: &mut Turns,
     steps: &mut Steps<L>,
 ) -> Result<(), NoMemory>
-    requires is_it { placement_at (traced_in scene.now) i ≡ Some (placement_value looked.now) }
+    requires is_it { placement_at scene.now i ≡ Some (placement_value looked.now) }
     requires within { n < length looked.now.bottom.now.tree.nodes }
     ensures opened { OnOk result
-        (IsOpened limit (traced_scene (traced_in scene.now)) (Leaf i n) turns.old turns.new) }
-    ensures steps { OnOk result (steps.new ≡ steps.old + tests (traced_in scene.now) (Leaf i n)) }
+        (IsOpened limit (traced_scene scene.now) (Leaf i n) turns.old turns.new) }
+    ensures steps { OnOk result (steps.new ≡ steps.old + tests scene.now (Leaf i n)) }
     ensures rising { steps.old ≤ steps.new }
 {
     for place in looked.bottom.items_of(n) {
@@ -52,12 +52,12 @@ fn find_at<L: Ledger>(
     place: PrimPlace,
     steps: &mut Steps<L>,
 ) -> Option<Found>
-    requires is_it { placement_at (traced_in scene.now) i ≡ Some (placement_value looked.now) }
+    requires is_it { placement_at scene.now i ≡ Some (placement_value looked.now) }
     ensures value { option_to_list result
-        ≡ found_at_place (traced_in scene.now) i (placement_value looked.now) place }
+        ≡ found_at_place scene.now i (placement_value looked.now) place }
     ensures step { steps.new ≡ steps.old + 1 }
 {
-    find_in(looked, i, place, scene.ray, scene.flags, steps)
+    find_in(looked, i, place, scene.ray(), scene.flags(), steps)
 }
 
 // The same, where the transform keeps the bounds of the structure, and flags agree.

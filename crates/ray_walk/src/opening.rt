@@ -3,7 +3,7 @@ ghost use Rattle.std.specs.Prelude.{◌≡◌, ◌+◌, ◌<◌, ◌≤◌, OnOk
 ghost use Rattle.ray_geom.specs.ObjectRay.{object_of};
 ghost use Rattle.ray_nearest.specs.Adding.{AddsNode, AddsNodes, AddsOne, IsOpened};
 ghost use Rattle.ray_tree.specs.Shapes.{node_at};
-ghost use Rattle.ray_walk.specs.Scenes.{placement_value, traced_in};
+ghost use Rattle.ray_walk.specs.Scenes.{placement_value};
 ghost use Rattle.ray_walk.specs.Telling.{instance_of};
 ghost use Rattle.ray_walk.specs.Traced.{IsNode, IsBottomNode, children_of, entry, entry_in};
 ghost use Rattle.ray_walk.specs.Traced.{entry_of_placement, items_at, placement_at, placement_of, ref};
@@ -59,21 +59,21 @@ fn push_top(
     n: u32,
     turns: &mut Turns,
 ) -> Result<(), NoMemory>
-    requires { n < length scene.now.top.now.tree.nodes }
-    ensures { OnOk result (AddsOne (AddsNode limit (entry (traced_in scene.now))
-        (top_ref scene.now.top.now.tree n)) turns.old turns.new) }
+    requires { n < length scene.now.top.tree.nodes }
+    ensures { OnOk result (AddsNodeOf limit scene.now
+        (top_ref scene.now.top.tree n) turns.old turns.new) }
 {
-    let tree = scene.top.tree();
+    let tree = scene.top().tree();
     let bounds = tree.node_box(n);
-    push_met(turns, limit, &scene.world, &bounds, top_ref(tree, n))
+    push_met(turns, limit, scene.world(), &bounds, top_ref(tree, n))
 }
 
 // Adds the turn of the root of the top structure, if it has one.
 pub(crate) fn begin(scene: &RayScene<'_>, turns: &mut Turns) -> Result<(), NoMemory>
-    ensures { let s = traced_scene (traced_in scene.now) in
+    ensures { let s = traced_scene scene.now in
         OnOk result (AddsNodes None s s.roots turns.old turns.new) }
 {
-    if scene.top.tree().nodes() == 0 {
+    if scene.top().tree().nodes() == 0 {
         return Ok(());
     }
     push_top(scene, None, 0, turns)
@@ -86,12 +86,12 @@ fn open_top(
     limit: Option<Ratio>,
     turns: &mut Turns,
 ) -> Result<(), NoMemory>
-    requires { n < length scene.now.top.now.tree.nodes }
-    ensures { let tree = scene.now.top.now.tree in
-        OnOk result (AddsNodes limit (traced_scene (traced_in scene.now))
+    requires { n < length scene.now.top.tree.nodes }
+    ensures { let tree = scene.now.top.tree in
+        OnOk result (AddsNodesOf limit scene.now
         (top_children tree (node_at tree.nodes n)) turns.old turns.new) }
 {
-    match scene.top.tree().node(n) {
+    match scene.top().tree().node(n) {
         Node::Leaf { .. } => Ok(()),
         Node::Inner { left, right } => {
             push_top(scene, limit, left, turns)?;
@@ -105,10 +105,10 @@ fn open_top(
 // The instance of a number with its structure, where it is active, its mask is seen, and its
 // structure stands there.
 fn looked_at<'a>(scene: &RayScene<'a>, i: u32) -> Option<Looked<'a>>
-    ensures { option_map placement_value result ≡ placement_at (traced_in scene.now) i }
+    ensures { option_map placement_value result ≡ placement_at scene.now i }
 {
-    let instance = active(scene.top, i)?;
-    look(scene.bottoms, scene.mask, instance)
+    let instance = active(scene.top(), i)?;
+    look(scene.bottoms(), scene.mask(), instance)
 }
 
 // The same of an instance that is active.
@@ -150,11 +150,11 @@ fn push_bottom(
     n: u32,
     turns: &mut Turns,
 ) -> Result<(), NoMemory>
-    requires is_it { placement_at (traced_in scene.now) i ≡ Some (placement_value looked.now) }
+    requires is_it { placement_at scene.now i ≡ Some (placement_value looked.now) }
     requires within { n < length looked.now.bottom.now.tree.nodes }
-    requires in_object { ray.now ≡ object_of scene.now.ray.now looked.now.instance.matrix }
-    ensures { OnOk result (AddsOne (AddsNode limit (entry (traced_in scene.now))
-        (ref i looked.now.bottom.now.tree n)) turns.old turns.new) }
+    requires in_object { ray.now ≡ object_of scene.now.ray looked.now.instance.matrix }
+    ensures { OnOk result (AddsNodeOf limit scene.now
+        (ref i looked.now.bottom.now.tree n) turns.old turns.new) }
 {
     let tree = looked.bottom.tree();
     let bounds = tree.node_box(n);
@@ -168,15 +168,15 @@ fn push_root(
     i: u32,
     turns: &mut Turns,
 ) -> Result<(), NoMemory>
-    ensures { let s = traced_in scene.now in
-        OnOk result (AddsNodes limit (traced_scene s) (roots_of s i) turns.old turns.new) }
+    ensures { let s = scene.now in
+        OnOk result (AddsNodesOf limit s (roots_of s i) turns.old turns.new) }
 {
     match looked_at(scene, i) {
         Some(looked) => {
             if looked.bottom.tree().nodes() == 0 {
                 return Ok(());
             }
-            let ray = object_ray(scene.ray, &looked.instance.matrix);
+            let ray = object_ray(scene.ray(), &looked.instance.matrix);
             push_bottom(scene, &looked, &ray, limit, i, 0, turns)
         }
         None => Ok(()),
@@ -190,12 +190,12 @@ fn open_instances(
     limit: Option<Ratio>,
     turns: &mut Turns,
 ) -> Result<(), NoMemory>
-    requires { n < length scene.now.top.now.tree.nodes }
-    ensures { let s = traced_in scene.now in
-        OnOk result (AddsNodes limit (traced_scene s)
+    requires { n < length scene.now.top.tree.nodes }
+    ensures { let s = scene.now in
+        OnOk result (AddsNodesOf limit s
         (flat_map (roots_of s) (items_at s.top.tree n)) turns.old turns.new) }
 {
-    for i in scene.top.items_of(n) {
+    for i in scene.top().items_of(n) {
         push_root(scene, limit, *i, turns)?;
     }
     Ok(())
@@ -209,14 +209,14 @@ fn open_bottom(
     limit: Option<Ratio>,
     turns: &mut Turns,
 ) -> Result<(), NoMemory>
-    requires { IsBottomNode (traced_in scene.now) i n }
-    ensures { let s = traced_in scene.now in
-        OnOk result (AddsNodes limit (traced_scene s)
+    requires { IsBottomNode scene.now i n }
+    ensures { let s = scene.now in
+        OnOk result (AddsNodesOf limit s
         (children_of i n (placement_at s i)) turns.old turns.new) }
 {
     match looked_at(scene, i) {
         Some(looked) => {
-            let ray = object_ray(scene.ray, &looked.instance.matrix);
+            let ray = object_ray(scene.ray(), &looked.instance.matrix);
             push_children(scene, &looked, &ray, limit, i, n, turns)
         }
         None => Ok(()),
@@ -233,10 +233,10 @@ fn push_children(
     n: u32,
     turns: &mut Turns,
 ) -> Result<(), NoMemory>
-    requires is_it { placement_at (traced_in scene.now) i ≡ Some (placement_value looked.now) }
+    requires is_it { placement_at scene.now i ≡ Some (placement_value looked.now) }
     requires within { n < length looked.now.bottom.now.tree.nodes }
-    requires in_object { ray.now ≡ object_of scene.now.ray.now looked.now.instance.matrix }
-    ensures { OnOk result (AddsNodes limit (traced_scene (traced_in scene.now))
+    requires in_object { ray.now ≡ object_of scene.now.ray looked.now.instance.matrix }
+    ensures { OnOk result (AddsNodesOf limit scene.now
         (children_of i n (Some (placement_value looked.now))) turns.old turns.new) }
 {
     match looked.bottom.tree().node(n) {
@@ -259,10 +259,10 @@ pub(crate) fn open<L: Ledger>(
     turns: &mut Turns,
     steps: &mut Steps<L>,
 ) -> Result<(), NoMemory>
-    requires { IsNode (traced_in scene.now) node }
+    requires { IsNode scene.now node }
     ensures opened { OnOk result
-        (IsOpened limit (traced_scene (traced_in scene.now)) node turns.old turns.new) }
-    ensures steps { OnOk result (steps.new ≡ steps.old + tests (traced_in scene.now) node) }
+        (IsOpened limit (traced_scene scene.now) node turns.old turns.new) }
+    ensures steps { OnOk result (steps.new ≡ steps.old + tests scene.now node) }
     ensures rising { steps.old ≤ steps.new }
 {
     match node {

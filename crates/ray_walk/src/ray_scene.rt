@@ -13,26 +13,36 @@ use ray_flags::RayFlags;
 use ray_geom::{Matrix, ObjectRay, Ratio, Ray, Steps, object_ray};
 use ray_nearest::{NoMemory, Scene, Turns, WalkNode};
 use ray_top::Top;
+use std::marker::Model;
 use std::sync::ledger::Ledger;
 
-// What a walk looks at for one ray: the top structure, and the bottom structures below it.
+/// What a walk looks at for one ray: the top structure, and the bottom structures below it.
 #[derive(Drop)]
 pub(crate) struct RayScene<'a> {
-    pub(crate) top: &'a Top,
-    pub(crate) bottoms: &'a Bottoms,
-    pub(crate) ray: &'a Ray,
-    pub(crate) flags: RayFlags,
-    pub(crate) mask: u8,
+    top: &'a Top,
+    bottoms: &'a Bottoms,
+    ray: &'a Ray,
+    flags: RayFlags,
+    mask: u8,
     // The ray in the world, as it meets boxes there.
-    pub(crate) world: ObjectRay,
-    pub(crate) ghost walkable: { IsWalkable (traced_by top.now bottoms.now ray.now flags mask) },
-    pub(crate) ghost agrees: { AsksBoth flags → ⊥ },
-    pub(crate) ghost in_world: { world ≡ object_of ray.now identity_value },
+    world: ObjectRay,
+}
+
+impl<'a> Model for RayScene<'a> {
+    ghost use Rattle.ray_walk.specs.Scenes.{IsAtHand};
+    ghost use Rattle.ray_walk.specs.Traced.{Traced, traced_by};
+
+    ghost Value = { Traced };
+
+    ghost view = { λ s. traced_by s.top.now s.bottoms.now s.ray.now s.flags s.mask };
+
+    ghost invariant = { λ s.
+        IsAtHand (traced_by s.top.now s.bottoms.now s.ray.now s.flags s.mask) s.world };
 }
 
 impl<'a> RayScene<'a> {
-    // The scene of a ray. The structures of the active instances stand there, as they were when the
-    // top structure was built or last updated.
+    /// The scene of a ray. The structures of the active instances stand there, as they were when
+    /// the top structure was built or last updated.
     pub(crate) fn new(
         top: &'a Top,
         bottoms: &'a Bottoms,
@@ -42,11 +52,7 @@ impl<'a> RayScene<'a> {
     ) -> RayScene<'a>
         requires standing { AreStanding (without_tree top.now) (structures_in bottoms.now) }
         requires flags_agree { ¬ AsksBoth flags }
-        ensures top { result.top.now ≡ top.now }
-        ensures bottoms { result.bottoms.now ≡ bottoms.now }
-        ensures ray { result.ray.now ≡ ray.now }
-        ensures flags { result.flags ≡ flags }
-        ensures mask { result.mask ≡ mask }
+        ensures { result ≡ traced_by top.now bottoms.now ray.now flags mask }
     {
         let _len = top.len();
         let _tree = top.tree();
@@ -62,12 +68,60 @@ impl<'a> RayScene<'a> {
             world,
         }
     }
+
+    /// The top structure.
+    pub(crate) fn top(&self) -> &'a Top
+        ensures { result.now ≡ self.now.top }
+    {
+        self.top
+    }
+
+    /// The bottom structures.
+    pub(crate) fn bottoms(&self) -> &'a Bottoms
+        ensures { result.now ≡ self.now.bottoms }
+    {
+        self.bottoms
+    }
+
+    /// The ray.
+    pub(crate) fn ray(&self) -> &'a Ray
+        ensures { result.now ≡ self.now.ray }
+    {
+        self.ray
+    }
+
+    /// The flags of the ray, which agree.
+    pub(crate) fn flags(&self) -> RayFlags
+        ensures value { result ≡ self.now.flags }
+        ensures agree { ¬ AsksBoth self.now.flags }
+    {
+        self.flags
+    }
+
+    /// The cull mask.
+    pub(crate) fn mask(&self) -> u8
+        ensures { result ≡ self.now.mask }
+    {
+        self.mask
+    }
+
+    /// The ray in the world, as it meets boxes there.
+    pub(crate) fn world(&self) -> &ObjectRay
+        ensures { result.now ≡ object_of self.now.ray identity_value }
+    {
+        &self.world
+    }
+
+    /// What is known of all that is looked at.
+    pub(crate) fn known(&self)
+        ensures { IsWalkable self.now }
+    {}
 }
 
 impl<'a> Scene for RayScene<'a> {
-    ghost IsNode = { λ r. IsNode (traced_by r.top.now r.bottoms.now r.ray.now r.flags r.mask) };
+    ghost IsNode = { λ s. IsNode s };
 
-    ghost scene = { λ r. traced_scene (traced_by r.top.now r.bottoms.now r.ray.now r.flags r.mask) };
+    ghost scene = { λ s. traced_scene s };
 
     fn begin(&mut self, turns: &mut Turns) -> Result<(), NoMemory> {
         begin(self, turns)
