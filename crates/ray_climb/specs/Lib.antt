@@ -1,0 +1,4 @@
+pub mod Frames
+pub mod Halves
+pub mod Rule
+pub mod Steps
