@@ -4,5 +4,8 @@ mod Passed
 mod Stores
 mod Begins
 mod Arrives
+mod Loads
 mod Seats
 mod Closes
+mod Words
+mod Allowed

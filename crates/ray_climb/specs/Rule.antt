@@ -1,6 +1,7 @@
 -- The climb rule: what holds of the shared words and of what all seats know, between any two atomic
 -- steps, whatever seats step. (Own.)
-use Rattle.std.specs.Prelude.{◌≡◌, ◌≢◌, ℕ, ◌+◌, ◌*◌, ◌/◌, ◌%◌, ◌<◌, ◌≤◌, ◌⊎◌, Bool, true, false, ◌==◌, if◌then◌else◌, List, [], ◌∷◌}
+use Rattle.std.specs.Prelude.{◌≡◌, ◌≢◌, ℕ, ◌+◌, ◌*◌, ◌/◌, ◌%◌, ◌<◌, ◌≤◌, ◌⊎◌, max, Bool, true, false, ◌==◌, if◌then◌else◌, List, [], ◌∷◌, length, slice_index}
+use Rattle.atomic_table.specs.Table.{State}
 use mathlib.Core.Option.{some}
 use lib.ListN.{get_elem?}
 use Rattle.ray_climb.specs.declared.rule.View.{View}
@@ -115,3 +116,24 @@ pub record IsClimb (t : Frame) (arrivals lows highs : ℕ → ℕ) (views : List
   -- (e) a node that is passed has a hand at it, or its bit at its parent, or is the root and exact
   pub moves_on : (i : ℕ) → i < t.nodes → IsPassed t arrivals views i
       → (0 < hands i views) ⊎ (HasArrived t arrivals i ⊎ ((i ≡ 0) × IsExact t lows highs i))
+
+-- how many words the table over a tree has: three for each node, and one where there is none
+abbrev pub words_of : ℕ → ℕ
+words_of nodes = max (3 * nodes) 1
+
+-- the words of a node: its arrivals, and the low and the high half of its box
+abbrev pub arrivals_in : List ℕ → ℕ → ℕ
+arrivals_in words i = slice_index words (3 * i)
+
+abbrev pub lows_in : List ℕ → ℕ → ℕ
+lows_in words i = slice_index words (3 * i + 1)
+
+abbrev pub highs_in : List ℕ → ℕ → ℕ
+highs_in words i = slice_index words (3 * i + 2)
+
+-- a table keeps the rule of a tree
+pub record HasClimb (t : Frame) (s : State (Unit {0}) View) : Type 0 where
+  pub long : length s.words ≡ words_of t.nodes
+  -- the one word over a tree without a node is never changed
+  pub unused : t.nodes ≡ 0 → slice_index s.words 0 ≡ 0
+  pub rule : IsClimb t (arrivals_in s.words) (lows_in s.words) (highs_in s.words) s.views
