@@ -57,28 +57,8 @@ loaded_again : (t : Frame) (s : State (Unit {0}) View) (i id : ℕ) (held : List
 loaded_again t s i id held w h r = subst (λ ws. HasClimb t record { words = ws; homes = s.homes; views = set s.views id w }) (sym (set-get_or s.words i 0))
     (record { long = h.long; unused = h.unused; rule = r })
 
--- a step by a seat whose hand is known
-module _ (t : Frame) (ok : IsFrame t) (slots id : ℕ) (me : Me (Unit {0}) View) where
-
-  -- the first store of a climb
-  pub begins_at : (leaf node low high : ℕ) → node ≡ t.node_of leaf → me.0.hand ≡ Empty → leaf < t.leaves → 0 < times leaf me.0.todo
-      → low ≡ t.low node → high ≡ t.high node
-      → Allows (HasClimb t) slots id me (3 * node + 1) (λ _. low) (λ _. Begins leaf high (step slots (3 * node + 1) low 0 none) me low)
-  begins_at leaf node low high node_is free small listed low_is high_is s h _ at _ =
-      let v : View = me.0 in
-      let within : node < t.nodes = subst (λ n. n < t.nodes) (sym node_is) (ok.leaf_small leaf small) in
-      let in_words : 3 * node + 1 < length s.words = subst (λ n. 3 * node + 1 < n) (sym h.long) (low_in t.nodes node within) in
-      let words : List ℕ = set s.words (3 * node + 1) low in
-      let w : View = begun v leaf (At leaf node (Stored low) (Held high)) in
-      let there : lows_in words node ≡ low = get_or-set_same s.words (3 * node + 1) low 0 in_words in
-      let r : IsClimb t (arrivals_in s.words) (lows_in words) (highs_in s.words) (set s.views id w) =
-      subst (λ n. IsClimb t (arrivals_in s.words) (lows_in words) (highs_in s.words) (set s.views id (begun v leaf (At leaf n (Stored low) (Held high))))) (sym node_is)
-      (begins t ok (arrivals_in s.words) (lows_in s.words) (highs_in s.words) (lows_in words) s.views id v leaf low high h.rule at free small listed
-        (lows_truer t.low s.words node low in_words low_is)
-        (subst (λ n. lows_in words n ≡ low) node_is there) (low_is ∙ ap t.low node_is) (high_is ∙ ap t.high node_is)) in
-      (w, keeps, tt, placed t s (3 * node + 1) low id node me.1 w within h (lows_only t s.words node low (set s.views id w) r),
-        (λ i. (begun v leaf (At leaf (sym (div_low node) i) (Stored low) (Held high)), me.1)))
-
+-- stores by a seat whose hand is known
+module _ (t : Frame) (slots id : ℕ) (me : Me (Unit {0}) View) where
   -- the low half of an inner node's box is stored
   pub stores_low_at : (leaf node x : ℕ) (high : Half) → me.0.hand ≡ At leaf node (Held x) high
       → Allows (HasClimb t) slots id me (3 * node + 1) (λ _. x) (λ _. StoresLow (step slots (3 * node + 1) x 0 none) me x)
@@ -140,6 +120,28 @@ module _ (t : Frame) (ok : IsFrame t) (slots id : ℕ) (me : Me (Unit {0}) View)
           (subst (λ n. (lows_in s.words n ≡ t.low n) × (highs_in words n ≡ t.high n)) root (hand.low_true.1 ∙ hand.low_true.0, there ∙ hand.high_true)) in
       (w, keeps, tt, placed t s (3 * node + 2) x id node me.1 w hand.node_small h (highs_only t s.words node x (set s.views id w) r),
         (λ i. (let_go v (sym is i), me.1)))
+
+-- steps by a seat whose hand is known
+module _ (t : Frame) (ok : IsFrame t) (slots id : ℕ) (me : Me (Unit {0}) View) where
+
+  -- the first store of a climb
+  pub begins_at : (leaf node low high : ℕ) → node ≡ t.node_of leaf → me.0.hand ≡ Empty → leaf < t.leaves → 0 < times leaf me.0.todo
+      → low ≡ t.low node → high ≡ t.high node
+      → Allows (HasClimb t) slots id me (3 * node + 1) (λ _. low) (λ _. Begins leaf high (step slots (3 * node + 1) low 0 none) me low)
+  begins_at leaf node low high node_is free small listed low_is high_is s h _ at _ =
+      let v : View = me.0 in
+      let within : node < t.nodes = subst (λ n. n < t.nodes) (sym node_is) (ok.leaf_small leaf small) in
+      let in_words : 3 * node + 1 < length s.words = subst (λ n. 3 * node + 1 < n) (sym h.long) (low_in t.nodes node within) in
+      let words : List ℕ = set s.words (3 * node + 1) low in
+      let w : View = begun v leaf (At leaf node (Stored low) (Held high)) in
+      let there : lows_in words node ≡ low = get_or-set_same s.words (3 * node + 1) low 0 in_words in
+      let r : IsClimb t (arrivals_in s.words) (lows_in words) (highs_in s.words) (set s.views id w) =
+      subst (λ n. IsClimb t (arrivals_in s.words) (lows_in words) (highs_in s.words) (set s.views id (begun v leaf (At leaf n (Stored low) (Held high))))) (sym node_is)
+      (begins t ok (arrivals_in s.words) (lows_in s.words) (highs_in s.words) (lows_in words) s.views id v leaf low high h.rule at free small listed
+        (lows_truer t.low s.words node low in_words low_is)
+        (subst (λ n. lows_in words n ≡ low) node_is there) (low_is ∙ ap t.low node_is) (high_is ∙ ap t.high node_is)) in
+      (w, keeps, tt, placed t s (3 * node + 1) low id node me.1 w within h (lows_only t s.words node low (set s.views id w) r),
+        (λ i. (begun v leaf (At leaf (sym (div_low node) i) (Stored low) (Held high)), me.1)))
 
   -- a child's bit is set at its parent
   arrives_to : (leaf node low high : ℕ) → node ≢ 0 → me.0.hand ≡ At leaf node (Stored low) (Stored high)

@@ -9,3 +9,9 @@ mod Seats
 mod Closes
 mod Words
 mod Allowed
+mod Packing
+mod Parents
+mod Leaves
+mod LeastOver
+mod Framed
+mod Opening

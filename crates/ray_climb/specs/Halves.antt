@@ -1,7 +1,8 @@
 -- A box in two numbers of 63 bits: its low half has its least corner and its high half its greatest,
 -- three coordinates of 21 bits each, counted from the least one that there is. (Own.)
-use Rattle.std.specs.Prelude.{ℕ, ℤ, pos, ◌+◌, ◌*◌, ◌/◌, ◌%◌, ◌^◌, ◌+ℤ◌, min, max}
+use Rattle.std.specs.Prelude.{ℕ, ℤ, pos, ◌+◌, ◌*◌, ◌/◌, ◌%◌, ◌^◌, ◌+ℤ◌, ◌-ℤ◌, min, max}
 use Rattle.ray_geom.specs.declared.vec3.Vec3.{Vec3}
+use Rattle.ray_geom.specs.Vector.{vec3}
 use Rattle.ray_geom.specs.Boxes.{BoxValue}
 use Rattle.ray_prune.specs.BoxReach.{natural_part}
 
@@ -40,3 +41,7 @@ lesser_half a b = packed (min (x_of a) (x_of b)) (min (y_of a) (y_of b)) (min (z
 
 unfoldable pub greater_half : ℕ → ℕ → ℕ
 greater_half a b = packed (max (x_of a) (x_of b)) (max (y_of a) (y_of b)) (max (z_of a) (z_of b))
+
+-- the corner again
+abbrev pub corner_of : ℕ → Vec3
+corner_of half = vec3 (pos (x_of half) -ℤ pos (2 ^ 19)) (pos (y_of half) -ℤ pos (2 ^ 19)) (pos (z_of half) -ℤ pos (2 ^ 19))

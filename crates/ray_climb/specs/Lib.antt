@@ -1,4 +1,5 @@
 pub mod Frames
 pub mod Halves
+pub mod Refits
 pub mod Rule
 pub mod Steps

@@ -1,5 +1,6 @@
 -- The kinds of step by which a view changes. (Own.)
 use Rattle.std.specs.Prelude.{◌≡◌, ℕ, ◌/◌, ◌-◌, Bool, true, false, List, [], ◌∷◌, ◌++◌, ◌==◌, if◌then◌else◌, length, take, drop}
+use Rattle.std.specs.List.{range_with_len}
 use Rattle.atomic_table.specs.Table.{Me, Step}
 use Rattle.ray_climb.specs.declared.rule.View.{View}
 use Rattle.ray_climb.specs.declared.rule.Half.{Half}
@@ -12,6 +13,10 @@ use Rattle.ray_climb.specs.Rule.{has}
 -- a view of these parts
 abbrev pub knows : List ℕ → List ℕ → Hand → View
 knows todo done hand = record { todo = todo; done = done; hand = hand }
+
+-- what the first seat knows: all leaves are to be climbed from
+abbrev pub first_view : ℕ → View
+first_view leaves = knows (range_with_len 0 leaves) [] Empty
 
 -- the view with another hand
 abbrev pub with_hand : View → Hand → View
