@@ -4,6 +4,8 @@ use Rattle.std.specs.Prelude.{unwrap_or}
 use Rattle.std.specs.List.{All}
 use Rattle.std.specs.Option.{option_to_list}
 use Rattle.std.proofs.lemmas.Bool.Decides.{nat_tests}
+use Rattle.std.proofs.lemmas.List.{get_or-drop}
+use Rattle.std.proofs.lemmas.List.Sums.{count_by-le-length}
 use Rattle.std.proofs.lemmas.List.Elements.{All-nil, All-cons, All-append, All-take, All-drop, All-head, All-tail}
 use Rattle.std.proofs.lemmas.Int.{ints}
 use Rattle.ray_geom.specs.Vector.{IsWithin}
@@ -12,10 +14,11 @@ use Rattle.ray_geom.specs.LeastBoxes.{HoldsBoxes, IsLeast, union_of, joined_of, 
 use Rattle.ray_geom.proofs.LeastBoxes.{IsBox-union, IsLeastOf-boxes}
 use Rattle.ray_tree.specs.declared.node.Node.TheVariants.{Leaf, Inner}
 use Rattle.ray_tree.specs.Shapes.{Shape, Gone, Tip, Fork, node_at, inside, gone, holds, AreFew}
-use Rattle.ray_tree.specs.Trees.{TreeValue, IsShape, shape_at, item_box, boxes_of, boxes_below}
+use Rattle.ray_tree.specs.Trees.{TreeValue, IsShape, shape_at, item_box, boxes_of, boxes_in, boxes_below}
 use Rattle.ray_tree.specs.Local.{IsActive, HasItems}
-use Rattle.ray_tree.proofs.NodeLaws.{whole_at, at_inner}
+use Rattle.ray_tree.proofs.NodeLaws.{whole_at, at_leaf, at_inner}
 use Rattle.ray_tree.proofs.LeastLists.{least_append, same_least}
+use Rattle.ray_tree.proofs.ItemBoxes.{least_first, least_more}
 use Rattle.ray_tree.proofs.Counting.{has_items}
 use Rattle.ray_climb.specs.Refits.{RefitValue, HasActivity, AreBoxes, no_box, box_over}
 
@@ -121,3 +124,31 @@ module _ (r : RefitValue) (shape : IsShape r.tree) (activity : HasActivity r.tre
       same_least (lefts ++ rights) (box_over r n) (union_of (box_over r l) (box_over r s))
       (subst (λ x. IsLeast (HoldsBoxes (boxes_below r.items r.tree.order x)) (box_over r n)) at.shape (least_at n small))
       (least_append lefts rights (box_over r l) (box_over r s) (least_at l at.left) (least_at s at.right))
+
+  -- so is that of a leaf
+  pub leaf_is : (n first count : ℕ) (b : BoxValue) → n < length r.tree.nodes → node_at r.tree.nodes n ≡ Leaf first count
+      → IsLeast (HoldsBoxes (boxes_in r.items r.tree.order first count)) b → b ≡ box_over r n
+  leaf_is n first count b small is least =
+      same_least (boxes_in r.items r.tree.order first count) b (box_over r n) least
+      (subst (λ s. IsLeast (HoldsBoxes (boxes_below r.items r.tree.order s)) (box_over r n)) (at_leaf r.tree shape n first count small is).shape (least_at n small))
+
+  -- there are no more places than items
+  pub places_few : length r.tree.order ≤ length r.items
+  places_few = let m = (has_items r.tree.order r.items activity.active_once).many in let c = count_by-le-length is_some r.items in omega arith
+
+-- the least box of a leaf's items, one place after the other
+at_place : (items : List (Option BoxValue)) (order : List ℕ) (first i : ℕ) (b : BoxValue) → item_box items (get_or order (first + i) 0) ≡ Some b
+    → item_box items (get_or (drop first order) i 0) ≡ Some b
+at_place items order first i b is = ap (item_box items) (get_or-drop first order i 0) ∙ is
+
+pub first_place : (items : List (Option BoxValue)) (order : List ℕ) (first : ℕ) (b : BoxValue) → first < length order → item_box items (get_or order first 0) ≡ Some b
+    → IsLeast (HoldsBoxes (boxes_of items (take 1 (drop first order)))) b
+first_place items order first b small is =
+    let l = length-drop first order in
+    least_first items (drop first order) b (omega arith) (at_place items order first 0 b (ap (λ k. item_box items (get_or order k 0)) (omega arith) ∙ is))
+
+pub next_place : (items : List (Option BoxValue)) (order : List ℕ) (first i : ℕ) (a b : BoxValue) → first + i < length order → item_box items (get_or order (first + i) 0) ≡ Some b
+    → IsLeast (HoldsBoxes (boxes_of items (take i (drop first order)))) a → IsLeast (HoldsBoxes (boxes_of items (take (i + 1) (drop first order)))) (union_of a b)
+next_place items order first i a b small is least =
+    let l = length-drop first order in
+    least_more items (drop first order) i a b (omega arith) (at_place items order first i b is) least

@@ -15,3 +15,4 @@ mod Leaves
 mod LeastOver
 mod Framed
 mod Opening
+mod Boxed

@@ -4,4 +4,7 @@
 //! It stands on `atomic_table`, `ray_tree` and `ray_geom`.
 #![tactic(auto)]
 
+mod half;
+mod least;
+mod refit;
 mod rule;
