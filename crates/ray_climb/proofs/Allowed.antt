@@ -237,3 +237,32 @@ joins_at t id other v w free idle s h at apart there = record {
   unused = h.unused;
   rule = joins t (arrivals_in s.words) (lows_in s.words) (highs_in s.words) s.views id v h.rule at free other w idle apart there;
 }
+
+-- the same, with what the first step of a climb is told by other names
+pub begins_told : (t : Frame) → IsFrame t → (slots id : ℕ) (me : Me (Unit {0}) View) (leaf node low high told_leaf told_high : ℕ) → told_leaf ≡ leaf → told_high ≡ high
+    → node ≡ t.node_of leaf → me.0.hand ≡ Empty → leaf < t.leaves → 0 < times leaf me.0.todo → low ≡ t.low node → high ≡ t.high node
+    → Allows (HasClimb t) slots id me (3 * node + 1) (λ _. low) (λ _. Begins told_leaf told_high (step slots (3 * node + 1) low 0 none) me low)
+begins_told t ok slots id me leaf node low high told_leaf told_high leaf_is high_is node_is free small listed low_true high_true =
+    subst (λ (z : ℕ × ℕ). Allows (HasClimb t) slots id me (3 * node + 1) (λ _. low) (λ _. Begins z.0 z.1 (step slots (3 * node + 1) low 0 none) me low))
+    (λ i. (sym leaf_is i, sym high_is i)) (begins_at t ok slots id me leaf node low high node_is free small listed low_true high_true)
+
+-- and a bit by another name
+pub arrives_told : (t : Frame) → IsFrame t → (slots id : ℕ) (me : Me (Unit {0}) View) (leaf node low high parent told : ℕ) (right : Bool) → told ≡ bit right → node ≢ 0
+    → me.0.hand ≡ At leaf node (Stored low) (Stored high) → parent ≡ t.parent node → right ≡ t.side node
+    → Allows (HasClimb t) slots id me (3 * parent) (λ n. bit_or n told) (Arrives (step slots (3 * parent) told 0 none) me)
+arrives_told t ok slots id me leaf node low high parent told right told_is below is parent_is right_is =
+    subst (λ (z : ℕ). Allows (HasClimb t) slots id me (3 * parent) (λ n. bit_or n z) (Arrives (step slots (3 * parent) z 0 none) me))
+    (sym told_is) (arrives_at t ok slots id me leaf node low high parent right below is parent_is right_is)
+
+-- and the sibling by the parent's name for it
+pub loads_low_told : (t : Frame) → IsFrame t → (slots id : ℕ) (me : Me (Unit {0}) View) (leaf node child x other : ℕ) (high : Half) → me.0.hand ≡ At leaf node (Below child x) high
+    → node ≡ t.parent child → other ≡ t.child (t.parent child) (not (t.side child))
+    → Allows (HasClimb t) slots id me (3 * other + 1) (λ n. n) (LoadsLow (step slots (3 * other + 1) 0 0 none) me)
+loads_low_told t ok slots id me leaf node child x other high is node_is other_is =
+    loads_low_at t ok slots id me leaf node child x other high is (other_is ∙ ap (λ n. t.child n (not (t.side child))) (sym node_is))
+
+pub loads_high_told : (t : Frame) → IsFrame t → (slots id : ℕ) (me : Me (Unit {0}) View) (leaf node child x other : ℕ) (low : Half) → me.0.hand ≡ At leaf node low (Below child x)
+    → node ≡ t.parent child → other ≡ t.child (t.parent child) (not (t.side child))
+    → Allows (HasClimb t) slots id me (3 * other + 2) (λ n. n) (LoadsHigh (step slots (3 * other + 2) 0 0 none) me)
+loads_high_told t ok slots id me leaf node child x other low is node_is other_is =
+    loads_high_at t ok slots id me leaf node child x other low is (other_is ∙ ap (λ n. t.child n (not (t.side child))) (sym node_is))

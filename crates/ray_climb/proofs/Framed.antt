@@ -9,6 +9,7 @@ use Rattle.ray_tree.proofs.NodeLaws.{at_inner}
 use Rattle.ray_tree.proofs.Under.{shape_suc, shape_zero}
 use Rattle.ray_climb.specs.Halves.{low_half, high_half, half_of, lesser_half, greater_half}
 use Rattle.ray_climb.specs.Refits.{RefitValue, HasActivity, AreBoxes, is_inner, kid, box_over, frame_of}
+use Rattle.ray_climb.specs.Ready.{IsTable}
 use Rattle.ray_climb.proofs.Trees.{IsFrame, IsKid}
 use Rattle.ray_climb.proofs.Packing.{lesser_packed, greater_packed}
 use Rattle.ray_climb.proofs.Parents.{IsBelow, IsAbove, below, above}
@@ -65,3 +66,7 @@ module _ (r : RefitValue) (shape : IsShape r.tree) where
       low_joins = λ p lt inner. low_case p (node_at r.tree.nodes p) refl lt inner;
       high_joins = λ p lt inner. high_case p (node_at r.tree.nodes p) refl lt inner;
     }
+
+-- the same of what a table is over
+pub framed : (words : ℕ) (key : RefitValue) → IsTable words key → IsFrame (frame_of key)
+framed words key table = is_frame key table.ready.shape table.ready.activity table.ready.boxes

@@ -8,3 +8,4 @@ mod half;
 mod least;
 mod refit;
 mod rule;
+mod steps;
