@@ -1,5 +1,5 @@
 -- The frame of a tree and its new items has the facts on which the climb rule rests.
-use Rattle.std.proofs.Common.{◌≡◌, ◌≢◌, ◌∙◌, ℕ, zero, suc, ◌+◌, ◌<◌, ◌≤◌, Bool, true, false, max, List, length, refl, sym, ap, subst, arith, true≢false}
+use Rattle.std.proofs.Common.{◌≡◌, ◌≢◌, ◌∙◌, ℕ, zero, suc, ◌+◌, ◌-◌, ◌<◌, ◌≤◌, Bool, true, false, max, List, length, refl, sym, ap, subst, arith, true≢false}
 use Rattle.ray_tree.specs.declared.node.Node.{Node}
 use Rattle.ray_tree.specs.declared.node.Node.TheVariants.{Leaf, Inner}
 use Rattle.ray_geom.specs.LeastBoxes.{union_of}
@@ -8,7 +8,7 @@ use Rattle.ray_tree.specs.Trees.{IsShape, shape_at}
 use Rattle.ray_tree.proofs.NodeLaws.{at_inner}
 use Rattle.ray_tree.proofs.Under.{shape_suc, shape_zero}
 use Rattle.ray_climb.specs.Halves.{low_half, high_half, half_of, lesser_half, greater_half}
-use Rattle.ray_climb.specs.Refits.{RefitValue, HasActivity, AreBoxes, is_inner, kid, box_over, frame_of}
+use Rattle.ray_climb.specs.Refits.{RefitValue, HasActivity, AreBoxes, is_inner, kid, parent_of, is_right, box_over, frame_of}
 use Rattle.ray_climb.specs.Ready.{IsTable}
 use Rattle.ray_climb.proofs.Trees.{IsFrame, IsKid}
 use Rattle.ray_climb.proofs.Packing.{lesser_packed, greater_packed}
@@ -35,6 +35,17 @@ module _ (r : RefitValue) (shape : IsShape r.tree) where
   pub higher : (p : ℕ) (s : Bool) → p < length r.tree.nodes → is_inner (node_at r.tree.nodes p) ≡ true
       → levels (shape_at r.tree (kid (node_at r.tree.nodes p) s)) < levels (shape_at r.tree p)
   higher p s small inner = higher_case p s (node_at r.tree.nodes p) refl small inner
+
+  -- a way up comes to an end
+  pub climbs_up : (n p : ℕ) → n < length r.tree.nodes → n ≢ 0 → p ≡ parent_of r.tree.nodes n
+      → length r.tree.nodes - levels (shape_at r.tree p) < length r.tree.nodes - levels (shape_at r.tree n)
+  climbs_up n p small ne is =
+      let b = below r.tree shape n small ne in
+      let up = higher (parent_of r.tree.nodes n) (is_right r.tree.nodes n) b.small b.inner in
+      let here = ap (λ x. levels (shape_at r.tree x)) b.child in
+      let there = ap (λ x. levels (shape_at r.tree x)) is in
+      let most = levels_most r.tree.nodes (length r.tree.nodes) p in
+      omega arith
 
   module _ (activity : HasActivity r.tree r.items) (are : AreBoxes r.items) where
     low_case : (p : ℕ) (node : Node) → node_at r.tree.nodes p ≡ node → p < length r.tree.nodes → is_inner node ≡ true

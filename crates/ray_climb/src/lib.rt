@@ -4,8 +4,10 @@
 //! It stands on `atomic_table`, `ray_tree` and `ray_geom`.
 #![tactic(auto)]
 
+mod ascent;
 mod half;
 mod least;
 mod refit;
 mod rule;
+mod seat;
 mod steps;
