@@ -1,5 +1,5 @@
 -- Sums over views, and how often a leaf stands in a list.
-use Rattle.std.proofs.Common.{◌≡◌, ◌≢◌, ℕ, zero, suc, ◌+◌, ◌<◌, ◌≤◌, Bool, true, false, cond, eqb, List, [], ◌∷◌, ◌++◌, set, sym, refl, ap, ◌∙◌, subst, ⊎_elim, arith}
+use Rattle.std.proofs.Common.{◌≡◌, ◌≢◌, ℕ, zero, suc, ◌+◌, ◌<◌, ◌≤◌, Bool, true, false, cond, eqb, List, [], ◌∷◌, ◌++◌, set, take, drop, inl, inr, sym, refl, ap, ◌∙◌, subst, ⊎_elim, arith}
 use Rattle.std.proofs.lemmas.Bool.Decides.{nat_tests}
 use mathlib.Core.Option.{some, some-injective, some-ne-none}
 use mathlib.Core.Logic.{dite}
@@ -9,6 +9,9 @@ use Rattle.atomic_table.proofs.Lists.{at_set, at_snoc}
 use Rattle.ray_climb.specs.declared.rule.View.{View}
 use Rattle.ray_climb.specs.Rule.{total, times}
 use Rattle.ray_climb.specs.Steps.{without}
+use Rattle.ray_climb.specs.Seats.{AreLeaves}
+use Rattle.ray_tree.proofs.Counting.{either}
+use Rattle.std.proofs.lemmas.List.{take-append-drop}
 
 -- a sum after a change of one view
 pub total_set : (f : View → ℕ) (views : List View) (id : ℕ) (v w : View) → get_elem? views id ≡ some v
@@ -74,3 +77,32 @@ times_without k j (x ∷ xs) there = dite (ℕ_discrete x j)
 
     eq_false : (a b : ℕ) → a ≢ b → eqb a b ≡ false
     eq_false a b ne = grind (arith, nat_tests)
+
+-- none more often
+without_fewer : (k j : ℕ) (xs : List ℕ) → times k (without j xs) ≤ times k xs
+without_fewer k j [] = omega arith
+without_fewer k j (x ∷ xs) = by_test (eqb x j) (without_fewer k j xs)
+  where
+    by_test : (b : Bool) → times k (without j xs) ≤ times k xs → times k (cond b xs (x ∷ without j xs)) ≤ times k (x ∷ xs)
+    by_test true r = omega arith
+    by_test false r = omega arith
+
+-- lists of leaf numbers
+pub leaves_without : (n j : ℕ) (xs : List ℕ) → AreLeaves n xs → AreLeaves n (without j xs)
+leaves_without n j xs are = record { each = λ k there. are.each k (let f = without_fewer k j xs in omega arith) }
+
+pub leaves_take : (n i : ℕ) (xs : List ℕ) → AreLeaves n xs → AreLeaves n (take i xs)
+leaves_take n i xs are =
+    record { each = λ k there. are.each k (let s = times_append k (take i xs) (drop i xs) in let e = ap (times k) (take-append-drop i xs) in omega arith) }
+
+pub leaves_drop : (n i : ℕ) (xs : List ℕ) → AreLeaves n xs → AreLeaves n (drop i xs)
+leaves_drop n i xs are =
+    record { each = λ k there. are.each k (let s = times_append k (take i xs) (drop i xs) in let e = ap (times k) (take-append-drop i xs) in omega arith) }
+
+pub leaves_append : (n m : ℕ) (xs ys : List ℕ) → m ≡ n → AreLeaves n xs → AreLeaves m ys → AreLeaves n (xs ++ ys)
+leaves_append n m xs ys same are also = record {
+  each = λ k there. elim (either 0 (times k xs)) [
+    | inl a ↦ are.each k a
+    | inr b ↦ (let s = times_append k xs ys in let lt = also.each k (omega arith) in omega arith)
+  ];
+}

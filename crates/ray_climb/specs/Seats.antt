@@ -1,5 +1,5 @@
 -- How contracts see a climb and its seats. (Own.)
-use Rattle.std.specs.Prelude.{◌≡◌, ◌<◌, ℕ, List, length}
+use Rattle.std.specs.Prelude.{◌≡◌, ◌<◌, ℕ, List, [], length, take, drop}
 use Rattle.atomic_table.specs.Seated.{TableId}
 use Rattle.ray_tree.specs.Trees.{TreeValue, leaves_of}
 use Rattle.ray_climb.specs.Refits.{RefitValue}
@@ -26,6 +26,13 @@ climb_id table leaves = record { table = table; leaves = leaves }
 
 abbrev pub seat_view : ClimbId → List ℕ → List ℕ → SeatView
 seat_view id todo done = record { id = id; todo = todo; done = done }
+
+-- a seat that keeps the first so many leaves that it has to climb from, and a new one that has the others
+abbrev pub keeping : ℕ → SeatView → SeatView
+keeping many s = seat_view s.id (take many s.todo) s.done
+
+abbrev pub leaving : ℕ → SeatView → SeatView
+leaving many s = seat_view s.id (drop many s.todo) []
 
 -- a list has leaf numbers alone
 pub record AreLeaves (leaves : ℕ) (list : List ℕ) : Type 0 where

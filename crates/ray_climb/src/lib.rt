@@ -5,6 +5,7 @@
 #![tactic(auto)]
 
 mod ascent;
+mod climb;
 mod half;
 mod least;
 mod refit;

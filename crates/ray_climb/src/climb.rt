@@ -1,0 +1,97 @@
+ghost use Rattle.std.specs.Prelude.{◌≡◌, ◌≢◌, ◌-◌, ◌<◌, ◌≤◌, ◌^◌, ◌++◌, ◌∷◌, [], ℕ, length, IfOk, IfErr, IsOk};
+ghost use Rattle.std.specs.List.{range_with_len};
+ghost use Rattle.ray_tree.specs.Trees.{leaves_of};
+ghost use Rattle.ray_climb.specs.Refits.{HasActivity, IsRefit, refit_value};
+ghost use Rattle.ray_climb.specs.Rule.{times};
+ghost use Rattle.ray_climb.specs.Seats.{HasEachLeaf, seat_view, keeping, leaving};
+ghost use Rattle.ray_climb.specs.Steps.{without};
+
+use crate::ascent::climb;
+use crate::refit::Refit;
+use crate::rule::{Both, ClimbRule, Cut, Keep, View};
+use crate::seat::ClimbSeat;
+use atomic_table::Table;
+use ray_geom::Box3;
+use ray_tree::Tree;
+use std::alloc::{AllocError as NoMemory, Global};
+use std::marker::{Brand, Model};
+
+/// A tree that is refitted to new items by any number of seats, and the shared words of its nodes.
+/// Contracts see the tree and the items, and which climb it is, which tells its seats from others.
+/// (Own.)
+#[derive(Drop)]
+pub struct Climb<'a> {
+    table: Table<(), View, Refit<'a>, ClimbRule, Global>,
+    refit: Refit<'a>,
+}
+
+impl<'a> Model for Climb<'a> {
+    ghost use Rattle.std.specs.Prelude.{◌≡◌, length};
+    ghost use Rattle.ray_tree.specs.Trees.{leaves_of};
+    ghost use Rattle.ray_climb.specs.Rule.{words_of};
+    ghost use Rattle.ray_climb.specs.Seats.{ClimbView, climb_id};
+
+    ghost Value = { ClimbView };
+
+    ghost view = { λ c. record {
+        id = climb_id c.table.shared.table_id (length (leaves_of c.refit.tree));
+        refit = c.refit;
+    } };
+
+    ghost invariant = { λ c. (c.table.shared.table_id.words ≡ words_of (length c.refit.tree.nodes))
+        × (c.table.shared.table_id.slots ≡ 0) × (c.table.shared.key ≡ c.refit) };
+}
+
+impl<'a> Climb<'a> {
+    /// Brings the box of a leaf up the tree, as far as it is known: at each node the caller that
+    /// comes second goes on with the boxes of both children, and the one that comes first ends
+    /// there. It takes no memory and waits for nobody.
+    pub fn climb_leaf(&self, seat: &mut ClimbSeat, leaf: u32)
+        requires own { seat.old.id ≡ self.now.id }
+        requires todo { 0 < times leaf seat.old.todo }
+        ensures moved { seat.new ≡ seat_view seat.old.id (without leaf seat.old.todo)
+            (seat.old.done ++ leaf ∷ []) }
+    {
+        self.refit.ready();
+        climb(&self.table.shared, &self.refit, &mut seat.seat, leaf);
+    }
+
+    /// A new seat, which has the last `take` leaves that the old one still had to climb from, and has
+    /// climbed from none. The answer for want of memory never comes (`ok`): a seat takes none.
+    pub fn split(&self, seat: &mut ClimbSeat, take: u32) -> Result<ClimbSeat, NoMemory>
+        requires own { seat.old.id ≡ self.now.id }
+        requires within { take ≤ length seat.old.todo }
+        ensures ok { IsOk result }
+        ensures old { seat.new ≡ keeping (length seat.old.todo - take) seat.old }
+        ensures new { IfOk result (λ s. s ≡ leaving (length seat.old.todo - take) seat.old) }
+    {
+        Ok(self.cut::<Brand>(seat, take))
+    }
+
+    // The same, with a name for how many leaves the old seat keeps.
+    fn cut<P: Keep>(&self, seat: &mut ClimbSeat, _take: u32) -> ClimbSeat
+        requires keep { P.keep ≡ length seat.old.todo - _take }
+        requires own { seat.old.id ≡ self.now.id }
+        ensures old { seat.new ≡ keeping P.keep seat.old }
+        ensures new { result ≡ leaving P.keep seat.old }
+    {
+        let leaves = seat.leaves;
+        let new = self.table.shared.split_seat::<Cut<P>>(&mut seat.seat);
+        ClimbSeat { seat: new, leaves }
+    }
+
+    /// Puts the leaves that `from` has still to climb from behind those of `into`, and so those from
+    /// which it has climbed. The refusal, which would hand `from` back, never comes (`ok`): a join
+    /// takes no memory.
+    pub fn join(&self, into: &mut ClimbSeat, from: ClimbSeat) -> Result<(), ClimbSeat>
+        requires own { into.old.id ≡ self.now.id }
+        requires from { from.id ≡ self.now.id }
+        ensures ok { IsOk result }
+        ensures joined { into.new ≡ seat_view into.old.id (into.old.todo ++ from.todo)
+            (into.old.done ++ from.done) }
+    {
+        let table = &self.table.shared;
+        table.join_seat::<Both>(&mut into.seat, from.seat);
+        Ok(())
+    }
+}
