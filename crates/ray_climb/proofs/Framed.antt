@@ -12,7 +12,7 @@ use Rattle.ray_climb.specs.Refits.{RefitValue, HasActivity, AreBoxes, is_inner, 
 use Rattle.ray_climb.specs.Ready.{IsTable}
 use Rattle.ray_climb.proofs.Trees.{IsFrame, IsKid}
 use Rattle.ray_climb.proofs.Packing.{lesser_packed, greater_packed}
-use Rattle.ray_climb.proofs.Parents.{IsBelow, IsAbove, below, above}
+use Rattle.ray_climb.proofs.OneParent.{IsBelow, IsAbove, below, above}
 use Rattle.ray_climb.proofs.Leaves.{node_small, node_leaf, leaf_only, leaf_named}
 use Rattle.ray_climb.proofs.LeastOver.{is_box, over_union}
 

@@ -10,7 +10,7 @@ mod Closes
 mod Words
 mod Allowed
 mod Packing
-mod Parents
+mod OneParent
 mod Leaves
 mod LeastOver
 mod Framed

@@ -12,6 +12,11 @@ use Rattle.ray_climb.specs.declared.rule.Hand.TheVariants.{Empty}
 use Rattle.ray_climb.specs.Frames.{Frame}
 use Rattle.ray_climb.specs.Rule.{times, todos, has, words_of, arrivals_in, lows_in, highs_in, IsExact, IsPassed, IsTrueHand, IsClimb, HasClimb}
 use Rattle.ray_climb.specs.Steps.{first_view}
+use Rattle.ray_tree.specs.Trees.{leaves_of}
+use Rattle.ray_climb.specs.Refits.{RefitValue, frame_of}
+use Rattle.ray_climb.specs.Ready.{IsReady, AreExact}
+use Rattle.ray_climb.specs.Seats.{HasEachLeaf}
+use Rattle.ray_climb.proofs.Framed.{is_frame}
 use Rattle.ray_climb.proofs.Trees.{IsFrame}
 use Rattle.ray_climb.proofs.Sums.{alike, unlike}
 use Rattle.ray_climb.proofs.Passed.{inner_passed, leaf_passed}
@@ -78,3 +83,12 @@ closes t ok id v ws xs final all i lt =
     let s : State (Unit {0}) View = final.0 in
     subst (λ l. IsExact t (lows_in l) (highs_in l) i) final.2
     (all_exact t ok (arrivals_in s.words) (lows_in s.words) (highs_in s.words) s.views id v final.1.0.rule final.1.1 all i lt)
+
+-- the same of a tree and its items
+pub closes_at : (key r : RefitValue) → key ≡ r → IsReady r → (id : ℕ) (v : View) (done ws : List ℕ) (xs : List (Unit {0})) → Final (Seen (HasClimb (frame_of key)) id v) ws xs
+    → v.done ≡ done → HasEachLeaf r.tree done → AreExact ws r
+closes_at key r keyed ready id v done ws xs final is each =
+    let f = subst (λ k. Final (Seen (HasClimb (frame_of k)) id v) ws xs) keyed final in
+    let all : (k : ℕ) → k < length (leaves_of r.tree) → times k v.done ≡ 1 = λ k lt. ap (times k) is ∙ each.once k lt in
+    let exact = closes (frame_of r) (is_frame r ready.shape ready.activity ready.boxes) id v ws xs f all in
+    record { low = λ n lt. (exact n lt).0; high = λ n lt. (exact n lt).1 }

@@ -11,6 +11,7 @@ use Rattle.ray_climb.specs.Rule.{total, times}
 use Rattle.ray_climb.specs.Steps.{without}
 use Rattle.ray_climb.specs.Seats.{AreLeaves}
 use Rattle.ray_tree.proofs.Counting.{either}
+use Rattle.std.specs.List.{range_with_len}
 use Rattle.std.proofs.lemmas.List.{take-append-drop}
 
 -- a sum after a change of one view
@@ -106,3 +107,12 @@ leaves_append n m xs ys same are also = record {
     | inr b ↦ (let s = times_append k xs ys in let lt = also.each k (omega arith) in omega arith)
   ];
 }
+
+-- so is that of all leaves
+pub leaves_range : (n : ℕ) → AreLeaves n (range_with_len 0 n)
+leaves_range n = record { each = λ k there. let r = below k 0 n there in omega arith }
+  where
+    below : (k a n : ℕ) → 0 < times k (range_with_len a n) → k < a + n
+    below k a zero there = absurd (omega arith)
+    below k a (suc n) there = dite (ℕ_discrete a k) (λ e. omega arith)
+        (λ ne. let z = unlike a k ne in let r = below k (a + 1) n (omega arith) in omega arith)

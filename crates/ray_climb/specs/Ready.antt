@@ -1,9 +1,11 @@
 -- What private calls say of a tree that is to be refitted and of its table; no clause of a public call speaks of it.
 -- (Own.)
-use Rattle.std.specs.Prelude.{◌≡◌, ◌≢◌, ◌<◌, ◌≤◌, ◌^◌, ℕ, Bool, not, Option, Some, List, length, slice_index, slice_index_or}
+use Rattle.std.specs.Prelude.{◌≡◌, ◌≢◌, ◌<◌, ◌≤◌, ◌^◌, ℕ, Bool, not, Option, Some, List, length, slice_index, slice_index_or, slice_set}
 use Rattle.ray_geom.specs.Boxes.{BoxValue, IsBox}
+use Rattle.ray_tree.specs.declared.node.Node.{Node}
+use Rattle.ray_tree.specs.declared.node.Node.TheVariants.{Leaf, Inner}
 use Rattle.ray_tree.specs.Shapes.{node_at}
-use Rattle.ray_tree.specs.Trees.{IsShape, item_box}
+use Rattle.ray_tree.specs.Trees.{TreeValue, IsShape, item_box}
 use Rattle.ray_climb.specs.declared.refit.Up.{Up}
 use Rattle.ray_climb.specs.Halves.{low_half, high_half}
 use Rattle.ray_climb.specs.Refits.{RefitValue, HasActivity, AreBoxes, kid, parent_of, is_right, box_over}
@@ -17,19 +19,19 @@ pub record IsReady (r : RefitValue) : Type 0 where
   pub few : length r.items ≤ 2 ^ 20
 
 -- the parents of all nodes
-pub record AreParents (r : RefitValue) (parents : List ℕ) : Type 0 where
-  pub long : length parents ≡ length r.tree.nodes
-  pub each : (n : ℕ) → n < length r.tree.nodes → n ≢ 0 → slice_index parents n ≡ parent_of r.tree.nodes n
+pub record AreParents (tree : TreeValue) (parents : List ℕ) : Type 0 where
+  pub long : length parents ≡ length tree.nodes
+  pub each : (n : ℕ) → n < length tree.nodes → n ≢ 0 → slice_index parents n ≡ parent_of tree.nodes n
 
 -- the parents of those nodes whose parent is below a number
-pub record AreParentsBelow (r : RefitValue) (parents : List ℕ) (from : ℕ) : Type 0 where
-  pub long : length parents ≡ length r.tree.nodes
-  pub each : (n : ℕ) → n < length r.tree.nodes → n ≢ 0 → parent_of r.tree.nodes n < from → slice_index parents n ≡ parent_of r.tree.nodes n
+pub record AreParentsBelow (tree : TreeValue) (parents : List ℕ) (from : ℕ) : Type 0 where
+  pub long : length parents ≡ length tree.nodes
+  pub each : (n : ℕ) → n < length tree.nodes → n ≢ 0 → parent_of tree.nodes n < from → slice_index parents n ≡ parent_of tree.nodes n
 
 -- what is kept of a tree that is to be refitted
 pub record IsKept (r : RefitValue) (list : List ℕ) : Type 0 where
   pub ready : IsReady r
-  pub parents : AreParents r list
+  pub parents : AreParents r.tree list
 
 -- a table of so many words is that of a tree
 pub record IsTable (words : ℕ) (key : RefitValue) : Type 0 where
@@ -57,3 +59,13 @@ pub record AreTrue (r : RefitValue) (boxes : List BoxValue) (many : ℕ) : Type 
 -- the boxes of the first so many items are within the limits
 pub record AreBoxesBelow (items : List (Option BoxValue)) (many : ℕ) : Type 0 where
   pub each : (p : ℕ) (b : BoxValue) → p < many → item_box items p ≡ Some b → IsBox b
+
+-- the parents of the children of a node are set
+abbrev pub marked : List ℕ → Node → ℕ → List ℕ
+marked parents (Leaf first count) n = parents
+marked parents (Inner left right) n = slice_set (slice_set parents left n) right n
+
+-- the children of a node are below a number
+abbrev pub HasKidsBelow : ℕ → Node → Type 0
+HasKidsBelow many (Leaf first count) = Unit {0}
+HasKidsBelow many (Inner left right) = (left < many) × (right < many)

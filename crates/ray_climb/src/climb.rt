@@ -1,19 +1,22 @@
-ghost use Rattle.std.specs.Prelude.{◌≡◌, ◌≢◌, ◌-◌, ◌<◌, ◌≤◌, ◌^◌, ◌++◌, ◌∷◌, [], ℕ, length, IfOk, IfErr, IsOk};
+ghost use Rattle.std.specs.Prelude.{◌≡◌, ◌≢◌, ◌-◌, ◌<◌, ◌≤◌, ◌^◌, ◌++◌, ◌∷◌, [], ℕ, length, replicate, IfOk, IfErr, IsOk};
 ghost use Rattle.std.specs.List.{range_with_len};
 ghost use Rattle.ray_tree.specs.Trees.{leaves_of};
 ghost use Rattle.ray_climb.specs.Refits.{HasActivity, IsRefit, refit_value};
-ghost use Rattle.ray_climb.specs.Rule.{times};
+ghost use Rattle.ray_climb.specs.Rule.{times, words_of};
 ghost use Rattle.ray_climb.specs.Seats.{HasEachLeaf, seat_view, keeping, leaving};
 ghost use Rattle.ray_climb.specs.Steps.{without};
 
 use crate::ascent::climb;
+use crate::boxes::boxes_of;
+use crate::least::check_boxes;
+use crate::parents::parents_of;
 use crate::refit::Refit;
 use crate::rule::{Both, ClimbRule, Cut, Keep, View};
 use crate::seat::ClimbSeat;
 use atomic_table::Table;
 use ray_geom::Box3;
 use ray_tree::Tree;
-use std::alloc::{AllocError as NoMemory, Global};
+use std::alloc::{AllocError, AllocError as NoMemory, Global};
 use std::marker::{Brand, Model};
 
 /// A tree that is refitted to new items by any number of seats, and the shared words of its nodes.
@@ -43,6 +46,46 @@ impl<'a> Model for Climb<'a> {
 }
 
 impl<'a> Climb<'a> {
+    /// A climb of a tree to new items, which are at most 2^20 and have the activity of those that
+    /// the tree is over. The seat has still to climb from all leaves.
+    ///
+    /// # Errors
+    ///
+    /// For want of memory alone, with the tree.
+    pub fn new(
+        alloc: Global,
+        tree: Tree,
+        items: &'a [Option<Box3>],
+    ) -> Result<(Climb<'a>, ClimbSeat), Tree>
+        requires few { length items.now ≤ 2 ^ 20 }
+        requires activity { HasActivity tree items.now }
+        ensures refit { IfOk result (λ r. r.0.refit ≡ refit_value tree items.now) }
+        ensures leaves { IfOk result (λ r. r.0.id.leaves ≡ length (leaves_of tree)) }
+        ensures seat { IfOk result (λ r. r.1 ≡ seat_view r.0.id
+            (range_with_len 0 (length (leaves_of tree))) []) }
+        ensures back { IfErr result (λ t. t ≡ tree) }
+    {
+        let Ok(parents) = parents_of(alloc, &tree) else {
+            return Err(tree);
+        };
+        let Ok(words) = blank_words(alloc, tree.nodes()) else {
+            return Err(tree);
+        };
+        check_boxes(items);
+        tree.shape();
+        let refit = Refit {
+            tree,
+            items,
+            parents,
+        };
+        refit.ready();
+        let leaves = refit.leaves();
+        match Table::of_words(alloc, words.as_slice(), &refit) {
+            Ok((table, seat)) => Ok((Climb { table, refit }, ClimbSeat { seat, leaves })),
+            Err(AllocError) => Err(refit.tree),
+        }
+    }
+
     /// Brings the box of a leaf up the tree, as far as it is known: at each node the caller that
     /// comes second goes on with the boxes of both children, and the one that comes first ends
     /// there. It takes no memory and waits for nobody.
@@ -94,4 +137,30 @@ impl<'a> Climb<'a> {
         table.join_seat::<Both>(&mut into.seat, from.seat);
         Ok(())
     }
+
+    /// The tree that refitting gives: the old one's shape, and as each node's box the least box of
+    /// the new items from it down, whatever steps the seats took. The seat, into which the others
+    /// were joined, has climbed from each leaf once.
+    ///
+    /// # Errors
+    ///
+    /// For want of memory alone; the tree is gone then.
+    pub fn close(self, alloc: Global, seat: ClimbSeat) -> Result<Tree, NoMemory>
+        requires own { seat.id ≡ self.id }
+        requires done { HasEachLeaf self.refit.tree seat.done }
+        ensures { IfOk result (IsRefit self.entry.refit.tree self.entry.refit.items) }
+    {
+        self.refit.ready();
+        let closed = self.table.close_with(seat.seat);
+        let boxes = boxes_of(alloc, &closed, &self.refit);
+        closed.free();
+        self.refit.with_boxes(alloc, boxes?)
+    }
+}
+
+// So many words of 0, and one where there is no node.
+fn blank_words(alloc: Global, nodes: u32) -> Result<Vec<u64>, NoMemory>
+    ensures { IfOk result (λ v. v.items ≡ replicate (words_of nodes) 0) }
+{
+    vec![in alloc; 0u64; (3 * nodes as usize).max(1)]
 }

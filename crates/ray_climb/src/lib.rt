@@ -6,8 +6,11 @@
 
 mod ascent;
 mod climb;
+mod boxes;
 mod half;
 mod least;
+mod parents;
+mod rebuilt;
 mod refit;
 mod rule;
 mod seat;

@@ -2,7 +2,7 @@ use Rattle.std.proofs.Common.{◌<◌, ◌≡◌, ◌∙◌, length, sym, subst}
 use Rattle.std.proofs.lemmas.Grind.{get_or_default_zero}
 use Rattle.ray_climb.specs.Refits.{refit_value, parent_of}
 use Rattle.ray_climb.specs.Ready.{IsUp}
-use Rattle.ray_climb.proofs.Parents.{below}
+use Rattle.ray_climb.proofs.OneParent.{below}
 use Rattle.ray_climb.proofs.Boxed.{is_up}
 use Rattle.ray_climb.proofs.refit.Refit.up.Goals as goal
 
