@@ -1,23 +1,18 @@
 -- Each kind of step is allowed by the rule of the table.
-use Rattle.std.proofs.Common.{◌≡◌, ◌≢◌, ℕ, ◌+◌, ◌*◌, ◌/◌, ◌^◌, ◌<◌, ◌≤◌, ◌⊎◌, inl, inr, max, Bool, true, false, not, eqb, cond, List, [], ◌∷◌, ◌++◌, length, get_or, set, take, drop, bit_or, refl, sym, ap, ◌∙◌, subst, arith, get_or-set_same, length-set, ⊎_elim, true≢false}
+use Rattle.std.proofs.Common.{◌≡◌, ◌≢◌, ℕ, ◌+◌, ◌*◌, ◌/◌, ◌<◌, ◌⊎◌, inl, inr, Bool, true, false, not, eqb, List, length, get_or, set, take, drop, bit_or, refl, sym, ap, ◌∙◌, subst, arith, get_or-set_same, length-set, true≢false}
 use Rattle.std.proofs.lemmas.List.{set-get_or, take-append-drop}
 use mathlib.Core.Option.{none, some}
-use mathlib.Core.Logic.{dite}
-use native.Mathlib.Decide.{ℕ_discrete}
 use lib.ListN.{get_elem?}
 use Rattle.atomic_table.specs.Table.{State, Me, step, keeps, stepped, Allows, Splits, Joins}
-use Rattle.atomic_table.proofs.Lists.{at_set}
 use Rattle.ray_climb.specs.declared.rule.View.{View}
 use Rattle.ray_climb.specs.declared.rule.Half.{Half}
 use Rattle.ray_climb.specs.declared.rule.Half.TheVariants.{Below, Held, Stored}
-use Rattle.ray_climb.specs.declared.rule.Hand.{Hand}
 use Rattle.ray_climb.specs.declared.rule.Hand.TheVariants.{Empty, At}
 use Rattle.ray_climb.specs.Frames.{Frame}
 use Rattle.ray_climb.specs.Halves.{lesser_half, greater_half}
-use Rattle.ray_climb.specs.Rule.{times, has, words_of, arrivals_in, lows_in, highs_in, IsTrueAt, IsTrueHand, IsClimb, HasClimb}
-use Rattle.ray_climb.specs.Steps.{knows, with_hand, begun, ended, front, back, both, spent, bit, let_go, low_stored, high_stored, low_loaded, high_loaded, arrived, Begins, StoresLow, StoresHigh, Ends, Arrives, LoadsLow, LoadsHigh}
+use Rattle.ray_climb.specs.Rule.{times, has, arrivals_in, lows_in, highs_in, IsTrueAt, IsTrueHand, IsClimb, HasClimb}
+use Rattle.ray_climb.specs.Steps.{with_hand, begun, ended, front, back, both, spent, bit, let_go, low_stored, high_stored, low_loaded, high_loaded, arrived, Begins, StoresLow, StoresHigh, Ends, Arrives, LoadsLow, LoadsHigh}
 use Rattle.ray_climb.proofs.Trees.{IsFrame}
-use Rattle.ray_climb.proofs.Sums.{each_set}
 use Rattle.ray_climb.proofs.Passed.{same_words}
 use Rattle.ray_climb.proofs.Stores.{stays, ends}
 use Rattle.ray_climb.proofs.Begins.{begins}

@@ -1,17 +1,15 @@
 -- The bit of a child keeps the climb rule: the hand goes on where the other bit was there, and else its leaf is
 -- done.
-use Rattle.std.proofs.Common.{◌≡◌, ◌≢◌, ℕ, ◌+◌, ◌<◌, ◌≤◌, ◌⊎◌, inl, inr, Bool, true, false, not, List, [], ◌∷◌, ◌++◌, set, refl, sym, ap, ◌∙◌, subst, arith, true≢false}
+use Rattle.std.proofs.Common.{◌≡◌, ◌≢◌, ℕ, ◌+◌, ◌<◌, ◌≤◌, ◌⊎◌, inl, inr, Bool, true, false, not, List, [], ◌∷◌, set, refl, sym, ap, ◌∙◌, subst, arith, true≢false}
 use mathlib.Core.Option.{some}
 use mathlib.Core.Logic.{dite}
 use native.Mathlib.Decide.{ℕ_discrete}
 use lib.ListN.{get_elem?}
 use Rattle.ray_climb.specs.declared.rule.View.{View}
-use Rattle.ray_climb.specs.declared.rule.Half.{Half}
 use Rattle.ray_climb.specs.declared.rule.Half.TheVariants.{Below, Stored}
-use Rattle.ray_climb.specs.declared.rule.Hand.{Hand}
-use Rattle.ray_climb.specs.declared.rule.Hand.TheVariants.{Empty, At}
+use Rattle.ray_climb.specs.declared.rule.Hand.TheVariants.{At}
 use Rattle.ray_climb.specs.Frames.{Frame}
-use Rattle.ray_climb.specs.Rule.{times, holds, stands, todos, dones, held, hands, has, IsExact, IsPassed, IsTrueAt, IsTrueHand, HasArrived, IsDone, IsClimb}
+use Rattle.ray_climb.specs.Rule.{times, holds, stands, todos, held, hands, has, IsExact, IsPassed, IsTrueAt, IsTrueHand, HasArrived, IsDone, IsClimb}
 use Rattle.ray_climb.specs.Steps.{with_hand, ended}
 use Rattle.ray_climb.proofs.Trees.{IsFrame}
 use Rattle.ray_climb.proofs.Sums.{total_set, part_le, each_set, alike, unlike, times_append}

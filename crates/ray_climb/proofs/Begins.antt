@@ -1,16 +1,15 @@
 -- The first store at a leaf keeps the climb rule.
-use Rattle.std.proofs.Common.{◌≡◌, ◌≢◌, ℕ, ◌+◌, ◌<◌, ◌≤◌, ◌⊎◌, inl, inr, Bool, true, false, List, [], ◌∷◌, set, refl, sym, ap, ◌∙◌, subst, arith, true≢false}
+use Rattle.std.proofs.Common.{◌≡◌, ◌≢◌, ℕ, ◌+◌, ◌<◌, inl, inr, List, set, refl, sym, ap, ◌∙◌, subst, arith, true≢false}
 use mathlib.Core.Option.{some}
 use mathlib.Core.Logic.{dite}
 use native.Mathlib.Decide.{ℕ_discrete}
 use lib.ListN.{get_elem?}
 use Rattle.ray_climb.specs.declared.rule.View.{View}
-use Rattle.ray_climb.specs.declared.rule.Half.{Half}
 use Rattle.ray_climb.specs.declared.rule.Half.TheVariants.{Held, Stored}
 use Rattle.ray_climb.specs.declared.rule.Hand.{Hand}
 use Rattle.ray_climb.specs.declared.rule.Hand.TheVariants.{Empty, At}
 use Rattle.ray_climb.specs.Frames.{Frame}
-use Rattle.ray_climb.specs.Rule.{times, holds, stands, todos, dones, held, hands, IsExact, IsPassed, IsTrueAt, IsTrueHand, HasArrived, IsDone, IsClimb}
+use Rattle.ray_climb.specs.Rule.{times, holds, stands, todos, held, hands, IsPassed, IsTrueHand, IsClimb}
 use Rattle.ray_climb.specs.Steps.{begun}
 use Rattle.ray_climb.proofs.Trees.{IsFrame}
 use Rattle.ray_climb.proofs.Sums.{total_set, total_none, part_le, each_set, alike, unlike, times_without}

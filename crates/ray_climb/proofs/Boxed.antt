@@ -1,5 +1,5 @@
 -- Boxes of items, one after the other, and the parents of nodes.
-use Rattle.std.proofs.Common.{◌≡◌, ◌≢◌, ◌∙◌, ◌+◌, ◌<◌, ◌≤◌, ◌*◌, ◌⊎◌, inl, inr, ℕ, zero, suc, Bool, true, false, ◌||◌, not, eqb, true≢false, [], ◌∷◌, length-set, get_or-set_same, Option, Some, None, List, length, get_or, set, cond, is_some, refl, sym, ap, subst, arith}
+use Rattle.std.proofs.Common.{◌≡◌, ◌≢◌, ◌∙◌, ◌+◌, ◌<◌, ◌≤◌, ◌*◌, ◌⊎◌, inl, inr, ℕ, zero, suc, Bool, true, false, ◌||◌, not, eqb, true≢false, [], ◌∷◌, length-set, get_or-set_same, Option, Some, None, List, length, get_or, set, refl, sym, ap, subst, arith}
 use Rattle.std.proofs.lemmas.List.{get_or_past, get_or-set_other}
 use Rattle.ray_geom.specs.Boxes.{BoxValue, IsBox, box_value}
 use Rattle.ray_tree.proofs.Counting.{apart, either, has_items}

@@ -1,15 +1,13 @@
 -- Where all leaves are done, each node is exact; and what is read from a done sibling is true.
-use Rattle.std.proofs.Common.{◌≡◌, ◌≢◌, ℕ, zero, suc, ◌+◌, ◌<◌, ◌≤◌, ◌⊎◌, inl, inr, Bool, true, false, List, refl, sym, ap, ◌∙◌, subst, arith}
+use Rattle.std.proofs.Common.{◌≡◌, ℕ, zero, suc, ◌<◌, ◌⊎◌, inl, inr, Bool, true, false, List, refl, sym, subst, arith}
 use mathlib.Core.Option.{some}
-use mathlib.Core.Logic.{dite}
-use native.Mathlib.Decide.{ℕ_discrete}
 use lib.ListN.{get_elem?}
 use Rattle.ray_climb.specs.declared.rule.View.{View}
 use Rattle.ray_climb.specs.declared.rule.Hand.{Hand}
 use Rattle.ray_climb.specs.declared.rule.Hand.TheVariants.{Empty, At}
 use Rattle.ray_climb.specs.Frames.{Frame}
 use Rattle.ray_climb.specs.Rule.{times, holds, stands, todos, held, hands, has, IsExact, IsPassed, IsTrueHand, HasArrived, IsClimb}
-use Rattle.ray_climb.proofs.Trees.{IsFrame, IsKid}
+use Rattle.ray_climb.proofs.Trees.{IsFrame}
 use Rattle.ray_climb.proofs.Sums.{total_none, part_le, alike}
 use Rattle.ray_climb.proofs.Passed.{passed_inner, passed_leaf}
 

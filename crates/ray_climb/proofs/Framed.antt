@@ -1,18 +1,17 @@
 -- The frame of a tree and its new items has the facts on which the climb rule rests.
-use Rattle.std.proofs.Common.{◌≡◌, ◌≢◌, ◌∙◌, ℕ, zero, suc, ◌+◌, ◌-◌, ◌<◌, ◌≤◌, Bool, true, false, max, List, length, refl, sym, ap, subst, arith, true≢false}
+use Rattle.std.proofs.Common.{◌≡◌, ◌≢◌, ◌∙◌, ℕ, zero, suc, ◌-◌, ◌<◌, ◌≤◌, Bool, true, false, List, length, refl, sym, ap, subst, arith, true≢false}
 use Rattle.ray_tree.specs.declared.node.Node.{Node}
 use Rattle.ray_tree.specs.declared.node.Node.TheVariants.{Leaf, Inner}
-use Rattle.ray_geom.specs.LeastBoxes.{union_of}
-use Rattle.ray_tree.specs.Shapes.{node_at, shape_in, grow, levels, Fork}
+use Rattle.ray_tree.specs.Shapes.{node_at, shape_in, grow, levels}
 use Rattle.ray_tree.specs.Trees.{IsShape, shape_at}
 use Rattle.ray_tree.proofs.NodeLaws.{at_inner}
 use Rattle.ray_tree.proofs.Under.{shape_suc, shape_zero}
-use Rattle.ray_climb.specs.Halves.{low_half, high_half, half_of, lesser_half, greater_half}
+use Rattle.ray_climb.specs.Halves.{low_half, high_half, lesser_half, greater_half}
 use Rattle.ray_climb.specs.Refits.{RefitValue, HasActivity, AreBoxes, is_inner, kid, parent_of, is_right, box_over, frame_of}
 use Rattle.ray_climb.specs.Ready.{IsTable}
-use Rattle.ray_climb.proofs.Trees.{IsFrame, IsKid}
+use Rattle.ray_climb.proofs.Trees.{IsFrame}
 use Rattle.ray_climb.proofs.Packing.{lesser_packed, greater_packed}
-use Rattle.ray_climb.proofs.OneParent.{IsBelow, IsAbove, below, above}
+use Rattle.ray_climb.proofs.OneParent.{below, above}
 use Rattle.ray_climb.proofs.Leaves.{node_small, node_leaf, leaf_only, leaf_named}
 use Rattle.ray_climb.proofs.LeastOver.{is_box, over_union}
 

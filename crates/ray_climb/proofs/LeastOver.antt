@@ -1,5 +1,5 @@
 -- The least box of the new items from a node down.
-use Rattle.std.proofs.Common.{◌≡◌, ◌≢◌, ◌∙◌, ℕ, zero, suc, ◌+◌, ◌-◌, ◌<◌, ◌≤◌, ◌^◌, pos, ◌↔◌, Option, Some, None, IfSome, cond, is_some, fold, List, [], ◌∷◌, ◌++◌, length, take, drop, get_or, refl, sym, ap, subst, arith, length-drop}
+use Rattle.std.proofs.Common.{◌≡◌, ◌∙◌, ℕ, zero, suc, ◌+◌, ◌<◌, ◌≤◌, ◌^◌, pos, ◌↔◌, Option, Some, None, IfSome, cond, is_some, fold, List, [], ◌∷◌, ◌++◌, length, take, drop, get_or, refl, ap, subst, arith, length-drop}
 use Rattle.std.specs.Prelude.{unwrap_or}
 use Rattle.std.specs.List.{All}
 use Rattle.std.specs.Option.{option_to_list}
@@ -14,8 +14,8 @@ use Rattle.ray_geom.specs.LeastBoxes.{HoldsBoxes, IsLeast, union_of, joined_of, 
 use Rattle.ray_geom.proofs.LeastBoxes.{IsBox-union, IsLeastOf-boxes}
 use Rattle.ray_tree.specs.declared.node.Node.TheVariants.{Leaf, Inner}
 use Rattle.ray_tree.specs.Shapes.{Shape, Gone, Tip, Fork, node_at, inside, gone, holds, AreFew}
-use Rattle.ray_tree.specs.Trees.{TreeValue, IsShape, shape_at, item_box, boxes_of, boxes_in, boxes_below}
-use Rattle.ray_tree.specs.Local.{IsActive, HasItems}
+use Rattle.ray_tree.specs.Trees.{IsShape, shape_at, item_box, boxes_of, boxes_in, boxes_below}
+use Rattle.ray_tree.specs.Local.{IsActive}
 use Rattle.ray_tree.proofs.NodeLaws.{whole_at, at_leaf, at_inner}
 use Rattle.ray_tree.proofs.LeastLists.{least_append, same_least}
 use Rattle.ray_tree.proofs.ItemBoxes.{least_first, least_more}

@@ -1,13 +1,13 @@
 -- Each leaf of a tree has a node of its own, and each node without children is that of a leaf.
-use Rattle.std.proofs.Common.{◌≡◌, ◌≢◌, ◌∙◌, ℕ, zero, suc, ◌+◌, ◌<◌, ◌≤◌, ◌⊎◌, inl, inr, Bool, true, false, eqb, cond, List, [], ◌∷◌, length, get_or, refl, sym, ap, subst, arith, true≢false}
+use Rattle.std.proofs.Common.{◌≡◌, ◌≢◌, ◌∙◌, ℕ, zero, suc, ◌<◌, ◌≤◌, false, eqb, cond, List, [], ◌∷◌, length, get_or, refl, sym, ap, subst, arith, true≢false}
 use Rattle.std.proofs.lemmas.Bool.Decides.{nat_tests}
 use mathlib.Core.Logic.{dite}
 use native.Mathlib.Decide.{ℕ_discrete}
 use Rattle.ray_tree.specs.declared.node.Node.{Node}
 use Rattle.ray_tree.specs.declared.node.Node.TheVariants.{Leaf, Inner}
-use Rattle.ray_tree.specs.Shapes.{Shape, Gone, Tip, Fork, node_at, grow, shape_in, inside, gone, visits, tips}
+use Rattle.ray_tree.specs.Shapes.{Shape, Gone, Tip, Fork, node_at, grow, shape_in, inside, visits, tips}
 use Rattle.ray_tree.specs.Trees.{TreeValue, shape_at, leaves_of, IsShape}
-use Rattle.ray_tree.specs.Local.{IsLeaf, IsLeafAt}
+use Rattle.ray_tree.specs.Local.{IsLeaf}
 use Rattle.ray_tree.proofs.Under.{shape_suc, shape_zero}
 use Rattle.ray_tree.proofs.Tips.{leaf_at}
 use Rattle.ray_climb.specs.Rule.{times}

@@ -1,11 +1,10 @@
 -- What a hand loads of its sibling's box is true, and so is what it computes by it.
-use Rattle.std.proofs.Common.{◌≡◌, ◌≢◌, ℕ, ◌+◌, ◌<◌, ◌≤◌, Bool, true, false, not, List, refl, sym, ap, ◌∙◌, subst, arith, min, max}
+use Rattle.std.proofs.Common.{◌≡◌, ◌≢◌, ℕ, ◌<◌, Bool, true, false, not, List, refl, sym, ap, ◌∙◌, subst, arith}
 use Rattle.std.proofs.Math.Nat.{min_comm, max_comm}
 use mathlib.Core.Option.{some}
 use lib.ListN.{get_elem?}
 use Rattle.ray_climb.specs.declared.rule.View.{View}
 use Rattle.ray_climb.specs.declared.rule.Half.{Half}
-use Rattle.ray_climb.specs.declared.rule.Half.TheVariants.{Below, Held}
 use Rattle.ray_climb.specs.declared.rule.Hand.TheVariants.{At}
 use Rattle.ray_climb.specs.Frames.{Frame}
 use Rattle.ray_climb.specs.Halves.{packed, x_of, y_of, z_of, lesser_half, greater_half}

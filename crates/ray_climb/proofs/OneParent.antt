@@ -1,5 +1,5 @@
 -- Each node of a tree but the root is the child of one node.
-use Rattle.std.proofs.Common.{◌≡◌, ◌≢◌, ◌∙◌, ℕ, zero, suc, ◌+◌, ◌*◌, ◌<◌, ◌≤◌, ◌⊎◌, inl, inr, Bool, true, false, ◌||◌, eqb, cond, List, length, refl, sym, ap, subst, arith, true≢false}
+use Rattle.std.proofs.Common.{◌≡◌, ◌≢◌, ◌∙◌, ℕ, zero, suc, ◌+◌, ◌*◌, ◌<◌, ◌≤◌, inl, inr, Bool, true, false, ◌||◌, eqb, cond, List, length, refl, sym, ap, subst, arith, true≢false}
 use Rattle.std.proofs.lemmas.Bool.Decides.{nat_tests}
 use mathlib.Core.Logic.{dite}
 use native.Mathlib.Decide.{ℕ_discrete}
@@ -8,7 +8,7 @@ use Rattle.ray_tree.specs.declared.node.Node.TheVariants.{Leaf, Inner}
 use Rattle.ray_tree.specs.Shapes.{Shape, node_at, grow, shape_in, inside, gone, visits}
 use Rattle.ray_tree.specs.Trees.{TreeValue, shape_at, IsShape}
 use Rattle.ray_tree.proofs.Under.{shape_suc, shape_zero, at_itself, visits_itself}
-use Rattle.ray_tree.proofs.Counting.{total, total-sum, total-same, total-none, total-inside, apart, either}
+use Rattle.ray_tree.proofs.Counting.{total, total-sum, total-same, total-inside, apart, either}
 use Rattle.ray_tree.proofs.NodeLaws.{at_inner}
 use Rattle.ray_climb.specs.Refits.{is_inner, kid, is_kid, parent_below, parent_of, is_right}
 

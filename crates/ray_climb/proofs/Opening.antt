@@ -1,16 +1,15 @@
 -- The table at the start keeps the climb rule, and at the end it has the true boxes.
-use Rattle.std.proofs.Common.{◌≡◌, ◌≢◌, ℕ, zero, suc, ◌+◌, ◌*◌, ◌<◌, ◌≤◌, Bool, true, false, List, [], ◌∷◌, ◌++◌, length, get_or, replicate, refl, sym, ap, ◌∙◌, subst, arith, true≢false}
+use Rattle.std.proofs.Common.{◌≡◌, ℕ, zero, suc, ◌+◌, ◌*◌, ◌<◌, ◌≤◌, Bool, true, false, List, [], ◌∷◌, length, get_or, replicate, refl, sym, ap, ◌∙◌, subst, arith, true≢false}
 use Rattle.std.specs.List.{range_with_len}
 use Rattle.std.proofs.Math.ListN.{length-replicate}
 use mathlib.Core.Option.{some, some-injective, some-ne-none}
 use mathlib.Core.Logic.{dite}
-use native.Mathlib.Decide.{ℕ_discrete, dec_le}
+use native.Mathlib.Decide.{ℕ_discrete}
 use lib.ListN.{get_elem?}
 use Rattle.atomic_table.specs.Table.{State, opening, Final, Seen}
 use Rattle.ray_climb.specs.declared.rule.View.{View}
-use Rattle.ray_climb.specs.declared.rule.Hand.TheVariants.{Empty}
 use Rattle.ray_climb.specs.Frames.{Frame}
-use Rattle.ray_climb.specs.Rule.{times, todos, has, words_of, arrivals_in, lows_in, highs_in, IsExact, IsPassed, IsTrueHand, IsClimb, HasClimb}
+use Rattle.ray_climb.specs.Rule.{times, has, words_of, arrivals_in, lows_in, highs_in, IsExact, IsPassed, IsTrueHand, IsClimb, HasClimb}
 use Rattle.ray_climb.specs.Steps.{first_view}
 use Rattle.ray_tree.specs.Trees.{leaves_of}
 use Rattle.ray_climb.specs.Refits.{RefitValue, frame_of}

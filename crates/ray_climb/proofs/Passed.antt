@@ -1,5 +1,5 @@
 -- What stays of the climb rule where words and views change: lemmas for all kinds of step.
-use Rattle.std.proofs.Common.{◌≡◌, ◌≢◌, ℕ, ◌+◌, ◌<◌, ◌≤◌, ◌⊎◌, inl, inr, Bool, true, false, List, sym, ap, ◌∙◌, subst, arith}
+use Rattle.std.proofs.Common.{◌≡◌, ℕ, ◌<◌, ◌≤◌, ◌⊎◌, inl, inr, Bool, true, false, List, sym, ◌∙◌, subst, arith}
 use Rattle.ray_climb.specs.declared.rule.View.{View}
 use Rattle.ray_climb.specs.declared.rule.Half.{Half}
 use Rattle.ray_climb.specs.declared.rule.Half.TheVariants.{Below, Held, Stored}

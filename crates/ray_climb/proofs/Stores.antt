@@ -1,18 +1,16 @@
 -- A hand that stays where it is, or that ends at the root, keeps the climb rule.
-use Rattle.std.proofs.Common.{◌≡◌, ◌≢◌, ℕ, ◌+◌, ◌<◌, ◌≤◌, ◌⊎◌, inl, inr, Bool, true, false, List, [], ◌∷◌, ◌++◌, set, refl, sym, ap, ◌∙◌, subst, arith}
+use Rattle.std.proofs.Common.{◌≡◌, ◌≢◌, ℕ, ◌≤◌, inl, inr, List, [], ◌∷◌, set, sym, ap, ◌∙◌, subst, arith}
 use mathlib.Core.Option.{some}
 use mathlib.Core.Logic.{dite}
 use native.Mathlib.Decide.{ℕ_discrete}
 use lib.ListN.{get_elem?}
 use Rattle.ray_climb.specs.declared.rule.View.{View}
 use Rattle.ray_climb.specs.declared.rule.Half.{Half}
-use Rattle.ray_climb.specs.declared.rule.Half.TheVariants.{Stored}
-use Rattle.ray_climb.specs.declared.rule.Hand.TheVariants.{Empty, At}
+use Rattle.ray_climb.specs.declared.rule.Hand.TheVariants.{At}
 use Rattle.ray_climb.specs.Frames.{Frame}
-use Rattle.ray_climb.specs.Rule.{times, holds, stands, todos, dones, held, hands, IsExact, IsPassed, IsTrueAt, IsTrueHand, IsClimb}
+use Rattle.ray_climb.specs.Rule.{times, holds, stands, todos, hands, IsExact, IsTrueAt, IsTrueHand, IsClimb}
 use Rattle.ray_climb.specs.Steps.{with_hand, ended}
-use Rattle.ray_climb.proofs.Trees.{IsFrame}
-use Rattle.ray_climb.proofs.Sums.{total_set, part_le, each_set, alike, unlike, times_append}
+use Rattle.ray_climb.proofs.Sums.{total_set, each_set, unlike, times_append}
 use Rattle.ray_climb.proofs.Passed.{IsTruer, exact_stays, hand_stays, passed_stays}
 
 module _ (t : Frame) (A L H M K : ℕ → ℕ) (views : List View) (id : ℕ) (v : View) (leaf node : ℕ) (low high : Half)

@@ -1,5 +1,5 @@
 -- The facts of a tree on which the climb rule rests.
-use Rattle.std.proofs.Common.{◌≡◌, ◌≢◌, ℕ, ◌<◌, ◌≤◌, Bool, true, false}
+use Rattle.std.proofs.Common.{◌≡◌, ◌≢◌, ℕ, ◌<◌, Bool, true, false}
 use Rattle.ray_climb.specs.Frames.{Frame}
 use Rattle.ray_climb.specs.Halves.{lesser_half, greater_half}
 

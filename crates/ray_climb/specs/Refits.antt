@@ -1,6 +1,6 @@
 -- Trees that are refitted to new items: what is asked of the items, what refitting gives, and the frame that the
 -- climb rule reads of both. (Own.)
-use Rattle.std.specs.Prelude.{◌≡◌, ℕ, zero, suc, ◌+◌, ◌==◌, ◌||◌, pos, Bool, true, false, if◌then◌else◌, Option, Some, unwrap_or, List, length, slice_index}
+use Rattle.std.specs.Prelude.{◌≡◌, ℕ, zero, suc, ◌==◌, ◌||◌, pos, Bool, true, false, if◌then◌else◌, Option, Some, unwrap_or, List, length, slice_index}
 use Rattle.ray_geom.specs.Vector.{vec3}
 use Rattle.ray_geom.specs.Boxes.{BoxValue, IsBox, box_value}
 use Rattle.ray_geom.specs.LeastBoxes.{box_of_boxes}

@@ -1,4 +1,4 @@
-use Rattle.std.proofs.Common.{◌≡◌, ◌≢◌, ◌∙◌, subst}
+use Rattle.std.proofs.Common.{◌∙◌, subst}
 use Rattle.ray_tree.specs.Trees.{IsShape}
 use Rattle.ray_climb.proofs.Framed.{climbs_up}
 use Rattle.ray_climb.proofs.ascent.climb.Goals as goal

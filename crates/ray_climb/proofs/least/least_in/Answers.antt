@@ -1,4 +1,4 @@
-use Rattle.std.proofs.Common.{◌+◌, take, drop, sym, ap, ◌∙◌, subst, arith}
+use Rattle.std.proofs.Common.{◌+◌, take, drop, sym, subst, arith}
 use Rattle.ray_geom.specs.LeastBoxes.{HoldsBoxes, IsLeast}
 use Rattle.ray_tree.specs.Trees.{boxes_of}
 use Rattle.ray_climb.proofs.LeastOver.{first_place, next_place}

@@ -1,4 +1,4 @@
-use Rattle.std.proofs.Common.{◌+◌, ◌*◌, ◌<◌, length, sym, ap, ◌∙◌, subst}
+use Rattle.std.proofs.Common.{◌*◌, ◌<◌, length, sym, subst}
 use Rattle.ray_climb.proofs.Words.{arrivals_of}
 use Rattle.ray_climb.proofs.Framed.{framed}
 use Rattle.ray_climb.proofs.Allowed.{arrives_told}

@@ -1,4 +1,4 @@
-use Rattle.std.proofs.Common.{◌+◌, ◌*◌, ◌<◌, length, sym, ap, ◌∙◌, subst}
+use Rattle.std.proofs.Common.{◌+◌, ◌*◌, ◌<◌, length, sym, subst}
 use Rattle.ray_climb.proofs.Words.{low_in}
 use Rattle.ray_climb.proofs.Framed.{framed}
 use Rattle.ray_climb.proofs.Allowed.{begins_told}

@@ -1,4 +1,4 @@
-use Rattle.std.proofs.Common.{◌+◌, ◌*◌, ◌<◌, length, sym, ap, ◌∙◌, subst}
+use Rattle.std.proofs.Common.{◌+◌, ◌*◌, ◌<◌, length, sym, subst}
 use Rattle.ray_climb.proofs.Words.{high_in}
 use Rattle.ray_climb.proofs.Allowed.{ends_at}
 use Rattle.ray_climb.proofs.steps.end_at_root.Goals as goal

@@ -1,4 +1,4 @@
-use Rattle.std.proofs.Common.{◌+◌, ◌*◌, ◌<◌, length, sym, ap, ◌∙◌, subst}
+use Rattle.std.proofs.Common.{◌+◌, ◌*◌, ◌<◌, length, sym, subst}
 use Rattle.ray_climb.proofs.Words.{high_in}
 use Rattle.ray_climb.proofs.Allowed.{stores_high_at}
 use Rattle.ray_climb.proofs.steps.store_high.Goals as goal

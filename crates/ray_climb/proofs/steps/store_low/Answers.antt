@@ -1,4 +1,4 @@
-use Rattle.std.proofs.Common.{◌+◌, ◌*◌, ◌<◌, length, sym, ap, ◌∙◌, subst}
+use Rattle.std.proofs.Common.{◌+◌, ◌*◌, ◌<◌, length, sym, subst}
 use Rattle.ray_climb.proofs.Words.{low_in}
 use Rattle.ray_climb.proofs.Allowed.{stores_low_at}
 use Rattle.ray_climb.proofs.steps.store_low.Goals as goal

@@ -1,4 +1,4 @@
-use Rattle.std.proofs.Common.{◌≡◌, ◌∙◌, sym, ap, subst}
+use Rattle.std.proofs.Common.{sym, ap, subst}
 use Rattle.ray_climb.specs.Seats.{HasEachLeaf}
 use Rattle.ray_climb.proofs.Opening.{closes_at}
 use Rattle.ray_climb.proofs.climb.Climb.close.Goals as goal

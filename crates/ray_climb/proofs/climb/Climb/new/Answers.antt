@@ -1,4 +1,4 @@
-use Rattle.std.proofs.Common.{◌≡◌, ◌∙◌, [], length, replicate, refl, ap, sym, subst}
+use Rattle.std.proofs.Common.{◌≡◌, ◌∙◌, [], replicate, refl, ap, sym, subst}
 use Rattle.ray_climb.specs.declared.rule.Hand.TheVariants.{Empty}
 use Rattle.ray_climb.specs.Refits.{refit_value, frame_of}
 use Rattle.ray_climb.specs.Rule.{words_of}

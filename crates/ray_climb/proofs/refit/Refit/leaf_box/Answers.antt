@@ -1,4 +1,4 @@
-use Rattle.std.proofs.Common.{◌≡◌, ◌<◌, length, sym, ap, ◌∙◌, subst, arith}
+use Rattle.std.proofs.Common.{◌≡◌, ◌<◌, length, sym, subst, arith}
 use Rattle.ray_climb.specs.Refits.{refit_value, box_over}
 use Rattle.ray_climb.proofs.LeastOver.{leaf_is, places_few}
 use Rattle.ray_climb.proofs.refit.Refit.leaf_box.Goals as goal

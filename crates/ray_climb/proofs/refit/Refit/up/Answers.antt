@@ -1,6 +1,6 @@
-use Rattle.std.proofs.Common.{◌<◌, ◌≡◌, ◌∙◌, length, sym, subst}
+use Rattle.std.proofs.Common.{◌<◌, ◌∙◌, length, sym, subst}
 use Rattle.std.proofs.lemmas.Grind.{get_or_default_zero}
-use Rattle.ray_climb.specs.Refits.{refit_value, parent_of}
+use Rattle.ray_climb.specs.Refits.{refit_value}
 use Rattle.ray_climb.specs.Ready.{IsUp}
 use Rattle.ray_climb.proofs.OneParent.{below}
 use Rattle.ray_climb.proofs.Boxed.{is_up}

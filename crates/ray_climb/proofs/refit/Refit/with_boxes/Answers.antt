@@ -1,4 +1,4 @@
-use Rattle.std.proofs.Common.{◌≡◌, ◌∙◌, length, sym, subst}
+use Rattle.std.proofs.Common.{◌∙◌, length, sym, subst}
 use Rattle.ray_climb.specs.Refits.{IsRefit, refit_value}
 use Rattle.ray_climb.specs.Ready.{AreTrue}
 use Rattle.ray_climb.proofs.Boxed.{refit_by, parts_over, places_active}
