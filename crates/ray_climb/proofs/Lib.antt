@@ -16,3 +16,4 @@ mod LeastOver
 mod Framed
 mod Opening
 mod Boxed
+mod Ranges

@@ -1,5 +1,6 @@
 -- How contracts see a climb and its seats. (Own.)
-use Rattle.std.specs.Prelude.{◌≡◌, ◌<◌, ℕ, List, [], length, take, drop}
+use Rattle.std.specs.List.{range_with_len}
+use Rattle.std.specs.Prelude.{◌≡◌, ◌-◌, ◌<◌, ℕ, List, [], length, take, drop}
 use Rattle.atomic_table.specs.Seated.{TableId}
 use Rattle.ray_tree.specs.Trees.{TreeValue, leaves_of}
 use Rattle.ray_climb.specs.Refits.{RefitValue}
@@ -41,3 +42,11 @@ pub record AreLeaves (leaves : ℕ) (list : List ℕ) : Type 0 where
 -- a list has each leaf of a tree once
 pub record HasEachLeaf (tree : TreeValue) (done : List ℕ) : Type 0 where
   pub once : (k : ℕ) → k < length (leaves_of tree) → times k done ≡ 1
+
+-- a seat of a climb has to climb from the leaves from one number up to another, and has climbed from none
+abbrev pub HasTodo : ClimbId → ℕ → ℕ → SeatView → Type 0
+HasTodo id from to seat = seat ≡ seat_view id (range_with_len from (to - from)) []
+
+-- or it has climbed from them
+abbrev pub HasDone : ClimbId → ℕ → ℕ → SeatView → Type 0
+HasDone id from to seat = seat ≡ seat_view id [] (range_with_len from (to - from))

@@ -13,9 +13,9 @@ use atomic_table::{Seat, Shared};
 use std::marker::Brand;
 
 // Brings the box of a leaf up the tree, as far as it is known.
-pub(crate) fn climb<'a>(
-    shared: &Shared<(), View, Refit<'a>, ClimbRule>,
-    refit: &Refit<'a>,
+pub(crate) fn climb(
+    shared: &Shared<(), View, Refit, ClimbRule>,
+    refit: &Refit,
     seat: &mut Seat<(), View>,
     leaf: u32,
 )

@@ -22,7 +22,7 @@ fn box_of(low: u64, high: u64) -> Box3
 }
 
 // The box of a node.
-fn node_box<'a>(closed: &Closed<(), Global>, refit: &Refit<'a>, n: u32) -> Box3
+fn node_box(closed: &Closed<(), Global>, refit: &Refit, n: u32) -> Box3
     requires small { n < length refit.now.tree.nodes }
     requires ready { IsReady refit.now }
     requires full { IsFull closed.now.words }
@@ -36,10 +36,10 @@ fn node_box<'a>(closed: &Closed<(), Global>, refit: &Refit<'a>, n: u32) -> Box3
 }
 
 // The boxes of all nodes.
-pub(crate) fn boxes_of<'a>(
+pub(crate) fn boxes_of(
     alloc: Global,
     closed: &Closed<(), Global>,
-    refit: &Refit<'a>,
+    refit: &Refit,
 ) -> Result<Vec<Box3>, NoMemory>
     requires ready { IsReady refit.now }
     requires full { IsFull closed.now.words }

@@ -23,12 +23,12 @@ use std::marker::{Brand, Model};
 /// Contracts see the tree and the items, and which climb it is, which tells its seats from others.
 /// (Own.)
 #[derive(Drop)]
-pub struct Climb<'a> {
-    table: Table<(), View, Refit<'a>, ClimbRule, Global>,
-    refit: Refit<'a>,
+pub struct Climb {
+    table: Table<(), View, Refit, ClimbRule, Global>,
+    refit: Refit,
 }
 
-impl<'a> Model for Climb<'a> {
+impl Model for Climb {
     ghost use Rattle.std.specs.Prelude.{◌≡◌, length};
     ghost use Rattle.ray_tree.specs.Trees.{leaves_of};
     ghost use Rattle.ray_climb.specs.Rule.{words_of};
@@ -45,7 +45,7 @@ impl<'a> Model for Climb<'a> {
         × (c.table.shared.table_id.slots ≡ 0) × (c.table.shared.key ≡ c.refit) };
 }
 
-impl<'a> Climb<'a> {
+impl Climb {
     /// A climb of a tree to new items, which are at most 2^20 and have the activity of those that
     /// the tree is over. The seat has still to climb from all leaves.
     ///
@@ -55,8 +55,8 @@ impl<'a> Climb<'a> {
     pub fn new(
         alloc: Global,
         tree: Tree,
-        items: &'a [Option<Box3>],
-    ) -> Result<(Climb<'a>, ClimbSeat), Tree>
+        items: &[Option<Box3>],
+    ) -> Result<(Climb, ClimbSeat), Tree>
         requires few { length items.now ≤ 2 ^ 20 }
         requires activity { HasActivity tree items.now }
         ensures refit { IfOk result (λ r. r.0.refit ≡ refit_value tree items.now) }
@@ -71,7 +71,10 @@ impl<'a> Climb<'a> {
         let Ok(words) = blank_words(alloc, tree.nodes()) else {
             return Err(tree);
         };
-        check_boxes(items);
+        let Ok(items) = items.to_vec(alloc) else {
+            return Err(tree);
+        };
+        check_boxes(&items);
         tree.shape();
         let refit = Refit {
             tree,
@@ -97,6 +100,20 @@ impl<'a> Climb<'a> {
     {
         self.refit.ready();
         climb(&self.table.shared, &self.refit, &mut seat.seat, leaf);
+    }
+
+    /// The same from one leaf after the other, from number `from` up to `to`: all that the seat has
+    /// still to climb from. It takes no memory and waits for nobody.
+    pub fn climb_range(&self, seat: &mut ClimbSeat, from: u32, to: u32)
+        requires own { seat.old.id ≡ self.now.id }
+        requires ordered { from ≤ to }
+        requires todo { seat.old.todo ≡ range_with_len from (to - from) }
+        ensures moved { seat.new ≡ seat_view seat.old.id []
+            (seat.old.done ++ range_with_len from (to - from)) }
+    {
+        for leaf in from..to {
+            self.climb_leaf(seat, leaf);
+        }
     }
 
     /// A new seat, which has the last `take` leaves that the old one still had to climb from, and has
@@ -148,7 +165,7 @@ impl<'a> Climb<'a> {
     pub fn close(self, alloc: Global, seat: ClimbSeat) -> Result<Tree, NoMemory>
         requires own { seat.id ≡ self.id }
         requires done { HasEachLeaf self.refit.tree seat.done }
-        ensures { IfOk result (IsRefit self.entry.refit.tree self.entry.refit.items) }
+        ensures { IfOk result (IsRefit self.refit.tree self.refit.items) }
     {
         self.refit.ready();
         let closed = self.table.close_with(seat.seat);

@@ -9,15 +9,15 @@ use ray_geom::Box3;
 use ray_tree::{Node, Tree};
 use std::alloc::{AllocError as NoMemory, Global};
 
-impl<'a> Refit<'a> {
+impl Refit {
     // The tree that refitting gives, by its boxes.
     pub(crate) fn with_boxes(self, alloc: Global, boxes: Vec<Box3>) -> Result<Tree, NoMemory>
         requires { AreTrue self boxes.items (length self.tree.nodes) }
-        ensures { IfOk result (IsRefit self.entry.tree self.entry.items) }
+        ensures { IfOk result (IsRefit self.tree self.items) }
     {
         let nodes = nodes_of(alloc, &self.tree)?;
-        let order = order_of(alloc, &self.tree, active_items(self.items))?;
-        match Tree::of_parts(alloc, nodes, boxes, order, self.items) {
+        let order = order_of(alloc, &self.tree, active_items(&self.items))?;
+        match Tree::of_parts(alloc, nodes, boxes, order, &self.items) {
             Ok(tree) => Ok(tree),
             Err(fault) => Err(fault),
         }

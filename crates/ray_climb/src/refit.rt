@@ -14,21 +14,21 @@ use std::marker::Model;
 
 // A tree, its new items, and the parents of its nodes. Contracts see the tree and the items.
 #[derive(Drop)]
-pub struct Refit<'a> {
+pub struct Refit {
     pub(crate) tree: Tree,
-    pub(crate) items: &'a [Option<Box3>],
+    pub(crate) items: Vec<Option<Box3>>,
     pub(crate) parents: Vec<u32>,
 }
 
-impl<'a> Model for Refit<'a> {
+impl Model for Refit {
     ghost use Rattle.ray_climb.specs.Refits.{RefitValue, refit_value};
     ghost use Rattle.ray_climb.specs.Ready.{IsKept};
 
     ghost Value = { RefitValue };
 
-    ghost view = { λ r. refit_value r.tree r.items.now };
+    ghost view = { λ r. refit_value r.tree r.items.items };
 
-    ghost invariant = { λ r. IsKept (refit_value r.tree r.items.now) r.parents.items };
+    ghost invariant = { λ r. IsKept (refit_value r.tree r.items.items) r.parents.items };
 }
 
 // The way from a node to its parent.
@@ -51,7 +51,7 @@ pub struct Stand {
     pub high: u64,
 }
 
-impl<'a> Refit<'a> {
+impl Refit {
     // Says what is so of the tree and the items; it does nothing.
     pub(crate) fn ready(&self)
         ensures { IsReady self.now }
@@ -80,7 +80,7 @@ impl<'a> Refit<'a> {
     {
         self.ready();
         match self.tree.node(n) {
-            Node::Leaf { first, count } => least_in(&self.tree, self.items, first, count),
+            Node::Leaf { first, count } => least_in(&self.tree, &self.items, first, count),
             Node::Inner { left: _, right: _ } => Box3::of_point(Vec3 { x: 0, y: 0, z: 0 }),
         }
     }

@@ -46,7 +46,7 @@ pub struct View {
 /// The rule of the shared words, whose key is the tree and its new items. (Own.)
 pub struct ClimbRule;
 
-impl<'a> TableRule<(), View, Refit<'a>> for ClimbRule {
+impl TableRule<(), View, Refit> for ClimbRule {
     ghost use Rattle.std.specs.Prelude.{length};
     ghost use Rattle.ray_tree.specs.Trees.{leaves_of};
     ghost use Rattle.ray_climb.specs.Refits.{frame_of};

@@ -17,8 +17,8 @@ use crate::rule::{
 use atomic_table::{Seat, Shared};
 
 // The first step of a climb: the low half of the leaf's box is stored.
-pub(crate) fn begin<'a, P: Start>(
-    shared: &Shared<(), View, Refit<'a>, ClimbRule>,
+pub(crate) fn begin<P: Start>(
+    shared: &Shared<(), View, Refit, ClimbRule>,
     seat: &mut Seat<(), View>,
     at: Stand,
 )
@@ -40,8 +40,8 @@ pub(crate) fn begin<'a, P: Start>(
 }
 
 // The low half of an inner node's box is stored.
-pub(crate) fn store_low<'a>(
-    shared: &Shared<(), View, Refit<'a>, ClimbRule>,
+pub(crate) fn store_low(
+    shared: &Shared<(), View, Refit, ClimbRule>,
     seat: &mut Seat<(), View>,
     at: Stand,
 )
@@ -57,8 +57,8 @@ pub(crate) fn store_low<'a>(
 }
 
 // The high half of a node's box is stored, which isn't the root.
-pub(crate) fn store_high<'a>(
-    shared: &Shared<(), View, Refit<'a>, ClimbRule>,
+pub(crate) fn store_high(
+    shared: &Shared<(), View, Refit, ClimbRule>,
     seat: &mut Seat<(), View>,
     at: Stand,
 )
@@ -74,8 +74,8 @@ pub(crate) fn store_high<'a>(
 }
 
 // The high half of the root's box is stored, and the climb ends.
-pub(crate) fn end_at_root<'a>(
-    shared: &Shared<(), View, Refit<'a>, ClimbRule>,
+pub(crate) fn end_at_root(
+    shared: &Shared<(), View, Refit, ClimbRule>,
     seat: &mut Seat<(), View>,
     at: Stand,
 )
@@ -110,8 +110,8 @@ fn has_bit(arrivals: u64, right: bool) -> bool
 
 // A node's bit is set at its parent. Whether the other child's bit was there, in which case the
 // hand moves to the parent; else its leaf is done.
-pub(crate) fn arrive<'a>(
-    shared: &Shared<(), View, Refit<'a>, ClimbRule>,
+pub(crate) fn arrive(
+    shared: &Shared<(), View, Refit, ClimbRule>,
     seat: &mut Seat<(), View>,
     at: Stand,
     up: Up,
@@ -130,8 +130,8 @@ pub(crate) fn arrive<'a>(
 }
 
 // The halves of the sibling's box are loaded: where the hand stands then, at the parent.
-pub(crate) fn load<'a>(
-    shared: &Shared<(), View, Refit<'a>, ClimbRule>,
+pub(crate) fn load(
+    shared: &Shared<(), View, Refit, ClimbRule>,
     seat: &mut Seat<(), View>,
     at: Stand,
     up: Up,
@@ -158,8 +158,8 @@ pub(crate) fn load<'a>(
 }
 
 // The low one: the low half of the parent's box.
-fn load_low<'a>(
-    shared: &Shared<(), View, Refit<'a>, ClimbRule>,
+fn load_low(
+    shared: &Shared<(), View, Refit, ClimbRule>,
     seat: &mut Seat<(), View>,
     at: Stand,
     up: Up,
@@ -178,8 +178,8 @@ fn load_low<'a>(
 }
 
 // The high one.
-fn load_high<'a>(
-    shared: &Shared<(), View, Refit<'a>, ClimbRule>,
+fn load_high(
+    shared: &Shared<(), View, Refit, ClimbRule>,
     seat: &mut Seat<(), View>,
     at: Stand,
     up: Up,

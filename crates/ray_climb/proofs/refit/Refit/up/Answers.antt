@@ -8,7 +8,7 @@ use Rattle.ray_climb.proofs.refit.Refit.up.Goals as goal
 
 pub node-requires : goal.node-requires
 node-requires c =
-    let r = refit_value c.self.inside.tree c.self.inside.items.now in
+    let r = refit_value c.self.inside.tree c.self.inside.items.items in
     let small : c.args.n < length r.tree.nodes = subst (λ x. c.args.n < length x.tree.nodes) (sym c.self.view_is) c.requires.0 in
     let here = subst (λ x. c.args.n < x) (sym c.self.invariant.parents.long) small in
     let is = c.index-parent.ensures ∙ get_or_default_zero c.self.inside.parents.items c.args.n c.index-parent.result.now here ∙ c.self.invariant.parents.each c.args.n small c.requires.1 in
@@ -16,7 +16,7 @@ node-requires c =
 
 pub returns : goal.returns
 returns c =
-    let r = refit_value c.self.inside.tree c.self.inside.items.now in
+    let r = refit_value c.self.inside.tree c.self.inside.items.items in
     let small : c.args.n < length r.tree.nodes = subst (λ x. c.args.n < length x.tree.nodes) (sym c.self.view_is) c.requires.0 in
     let here = subst (λ x. c.args.n < x) (sym c.self.invariant.parents.long) small in
     let is = c.index-parent.ensures ∙ get_or_default_zero c.self.inside.parents.items c.args.n c.index-parent.result.now here ∙ c.self.invariant.parents.each c.args.n small c.requires.1 in
