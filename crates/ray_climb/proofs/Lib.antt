@@ -17,3 +17,4 @@ mod Framed
 mod Opening
 mod Boxed
 mod Ranges
+mod AllActive
