@@ -1,5 +1,5 @@
 -- Lists of as many items, all active, have one activity; for tests.
-use Rattle.std.proofs.Common.{◌≡◌, ◌∙◌, ℕ, zero, suc, Option, Some, None, IsSome, List, [], ◌∷◌, length, refl, sym, arith}
+use Rattle.std.proofs.Common.{◌≡◌, ◌∙◌, ℕ, zero, suc, Option, Some, None, IsSome, List, [], ◌∷◌, length, refl, sym, arith, true≢false}
 use Rattle.std.specs.List.{All}
 use Rattle.std.proofs.lemmas.List.Elements.{All-head, All-tail}
 use Rattle.ray_geom.specs.Boxes.{BoxValue}
@@ -7,8 +7,8 @@ use Rattle.ray_tree.specs.Trees.{TreeValue, TreeOver, active}
 use Rattle.ray_climb.specs.Refits.{HasActivity}
 
 both_some : (a b : Option BoxValue) (xs ys : List (Option BoxValue)) → IsSome a → IsSome b → active (a ∷ xs) 0 ≡ active (b ∷ ys) 0
-both_some None b xs ys p q = absurd p
-both_some (Some a) None xs ys p q = absurd q
+both_some None b xs ys p q = absurd (true≢false (sym p))
+both_some (Some a) None xs ys p q = absurd (true≢false (sym q))
 both_some (Some a) (Some b) xs ys p q = refl
 
 alike : (xs ys : List (Option BoxValue)) → length xs ≡ length ys → All IsSome xs → All IsSome ys → (p : ℕ) → active xs p ≡ active ys p

@@ -33,25 +33,26 @@ pub fn climb_all<R: Threads + Sync>(
     let leaves = tree.leaves();
     match Climb::new(alloc, tree, items) {
         Ok((climb, seat)) => {
-            let seat = by_seats(rt, &climb, seat, leaves, items.len() >= MANY);
+            let seat = climb_by(rt, &climb, seat, leaves, items.len() >= MANY);
             climb.close(alloc, seat)
         }
         Err(_tree) => Err(NoMemory),
     }
 }
 
-// All leaves, by four seats or by one.
-fn by_seats<R: Threads + Sync>(
+/// Climbs from all leaves, by four seats on threads of their own or by this one alone. Where a
+/// thread can't be started, the caller does its work.
+pub fn climb_by<R: Threads + Sync>(
     rt: &R,
     climb: &Climb,
     seat: ClimbSeat,
     leaves: u32,
-    many: bool,
+    by_four_seats: bool,
 ) -> ClimbSeat
     requires { HasTodo climb.now.id 0 leaves seat }
     ensures { HasDone climb.now.id 0 leaves result }
 {
-    if many {
+    if by_four_seats {
         by_four(rt, climb, seat, leaves)
     } else {
         by_one(climb, seat, 0, leaves)

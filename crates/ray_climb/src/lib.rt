@@ -32,7 +32,7 @@ mod steps;
 #[cfg(test)]
 mod tests;
 
-pub use all::climb_all;
+pub use all::{climb_all, climb_by};
 pub use climb::Climb;
 pub use seat::ClimbSeat;
 pub use std::alloc::AllocError as NoMemory;
