@@ -65,17 +65,21 @@ module _ (t : Frame) (slots id : ℕ) (me : Me (Unit {0}) View) where
       let w : View = with_hand v (At leaf node (Stored x) high) in
       let there : lows_in words node ≡ x = get_or-set_same s.words (3 * node + 1) x 0 in_words in
       let r = stays t (arrivals_in s.words) (lows_in s.words) (highs_in s.words) (lows_in words) (highs_in s.words) s.views id v leaf node (Held x) high h.rule at is
-          (lows_truer t.low s.words node x in_words hand.low_true) (same_words t.high (highs_in s.words)) (Stored x) high
-          (record {
-            leaf_small = hand.leaf_small;
-            node_small = hand.node_small;
-            own_leaf = hand.own_leaf;
-            low_true = (hand.low_true, there);
-            high_true = hand.high_true;
-            low_first = λ _. refl;
-          }) in
-      (w, keeps, tt, placed t s (3 * node + 1) x id node me.1 w hand.node_small h (lows_only t s.words node x (set s.views id w) r),
-        (λ i. (with_hand v (low_stored (sym is i)), me.1)))
+      (lows_truer t.low s.words node x in_words hand.low_true) (same_words t.high (highs_in s.words)) (Stored x) high
+      (record {
+        leaf_small = hand.leaf_small;
+        node_small = hand.node_small;
+        own_leaf = hand.own_leaf;
+        low_true = (hand.low_true, there);
+        high_true = hand.high_true;
+        low_first = λ _. refl;
+      }) in (
+        w,
+        keeps,
+        tt,
+        placed t s (3 * node + 1) x id node me.1 w hand.node_small h (lows_only t s.words node x (set s.views id w) r),
+        (λ i. (with_hand v (low_stored (sym is i)), me.1)),
+      )
 
   -- the high half of a node's box is stored
   pub stores_high_at : (leaf node low x : ℕ) → me.0.hand ≡ At leaf node (Stored low) (Held x)
@@ -88,17 +92,21 @@ module _ (t : Frame) (slots id : ℕ) (me : Me (Unit {0}) View) where
       let w : View = with_hand v (At leaf node (Stored low) (Stored x)) in
       let there : highs_in words node ≡ x = get_or-set_same s.words (3 * node + 2) x 0 in_words in
       let r = stays t (arrivals_in s.words) (lows_in s.words) (highs_in s.words) (lows_in s.words) (highs_in words) s.views id v leaf node (Stored low) (Held x) h.rule at is
-          (same_words t.low (lows_in s.words)) (highs_truer t.high s.words node x in_words hand.high_true) (Stored low) (Stored x)
-          (record {
-            leaf_small = hand.leaf_small;
-            node_small = hand.node_small;
-            own_leaf = hand.own_leaf;
-            low_true = hand.low_true;
-            high_true = (hand.high_true, there);
-            low_first = λ _. refl;
-          }) in
-      (w, keeps, tt, placed t s (3 * node + 2) x id node me.1 w hand.node_small h (highs_only t s.words node x (set s.views id w) r),
-        (λ i. (with_hand v (high_stored (sym is i)), me.1)))
+      (same_words t.low (lows_in s.words)) (highs_truer t.high s.words node x in_words hand.high_true) (Stored low) (Stored x)
+      (record {
+        leaf_small = hand.leaf_small;
+        node_small = hand.node_small;
+        own_leaf = hand.own_leaf;
+        low_true = hand.low_true;
+        high_true = (hand.high_true, there);
+        low_first = λ _. refl;
+      }) in (
+        w,
+        keeps,
+        tt,
+        placed t s (3 * node + 2) x id node me.1 w hand.node_small h (highs_only t s.words node x (set s.views id w) r),
+        (λ i. (with_hand v (high_stored (sym is i)), me.1)),
+      )
 
   -- and that of the root's
   pub ends_at : (leaf node low x : ℕ) → node ≡ 0 → me.0.hand ≡ At leaf node (Stored low) (Held x)
@@ -111,14 +119,17 @@ module _ (t : Frame) (slots id : ℕ) (me : Me (Unit {0}) View) where
       let w : View = ended v leaf in
       let there : highs_in words node ≡ x = get_or-set_same s.words (3 * node + 2) x 0 in_words in
       let r = ends t (arrivals_in s.words) (lows_in s.words) (highs_in s.words) (lows_in s.words) (highs_in words) s.views id v leaf node (Stored low) (Held x) h.rule at is
-          (same_words t.low (lows_in s.words)) (highs_truer t.high s.words node x in_words hand.high_true) root
-          (subst (λ n. (lows_in s.words n ≡ t.low n) × (highs_in words n ≡ t.high n)) root (hand.low_true.1 ∙ hand.low_true.0, there ∙ hand.high_true)) in
-      (w, keeps, tt, placed t s (3 * node + 2) x id node me.1 w hand.node_small h (highs_only t s.words node x (set s.views id w) r),
-        (λ i. (let_go v (sym is i), me.1)))
+      (same_words t.low (lows_in s.words)) (highs_truer t.high s.words node x in_words hand.high_true) root
+      (subst (λ n. (lows_in s.words n ≡ t.low n) × (highs_in words n ≡ t.high n)) root (hand.low_true.1 ∙ hand.low_true.0, there ∙ hand.high_true)) in (
+        w,
+        keeps,
+        tt,
+        placed t s (3 * node + 2) x id node me.1 w hand.node_small h (highs_only t s.words node x (set s.views id w) r),
+        (λ i. (let_go v (sym is i), me.1)),
+      )
 
 -- steps by a seat whose hand is known
 module _ (t : Frame) (ok : IsFrame t) (slots id : ℕ) (me : Me (Unit {0}) View) where
-
   -- the first store of a climb
   pub begins_at : (leaf node low high : ℕ) → node ≡ t.node_of leaf → me.0.hand ≡ Empty → leaf < t.leaves → 0 < times leaf me.0.todo
       → low ≡ t.low node → high ≡ t.high node
@@ -133,10 +144,14 @@ module _ (t : Frame) (ok : IsFrame t) (slots id : ℕ) (me : Me (Unit {0}) View)
       let r : IsClimb t (arrivals_in s.words) (lows_in words) (highs_in s.words) (set s.views id w) =
       subst (λ n. IsClimb t (arrivals_in s.words) (lows_in words) (highs_in s.words) (set s.views id (begun v leaf (At leaf n (Stored low) (Held high))))) (sym node_is)
       (begins t ok (arrivals_in s.words) (lows_in s.words) (highs_in s.words) (lows_in words) s.views id v leaf low high h.rule at free small listed
-        (lows_truer t.low s.words node low in_words low_is)
-        (subst (λ n. lows_in words n ≡ low) node_is there) (low_is ∙ ap t.low node_is) (high_is ∙ ap t.high node_is)) in
-      (w, keeps, tt, placed t s (3 * node + 1) low id node me.1 w within h (lows_only t s.words node low (set s.views id w) r),
-        (λ i. (begun v leaf (At leaf (sym (div_low node) i) (Stored low) (Held high)), me.1)))
+      (lows_truer t.low s.words node low in_words low_is)
+      (subst (λ n. lows_in words n ≡ low) node_is there) (low_is ∙ ap t.low node_is) (high_is ∙ ap t.high node_is)) in (
+        w,
+        keeps,
+        tt,
+        placed t s (3 * node + 1) low id node me.1 w within h (lows_only t s.words node low (set s.views id w) r),
+        (λ i. (begun v leaf (At leaf (sym (div_low node) i) (Stored low) (Held high)), me.1)),
+      )
 
   -- a child's bit is set at its parent
   arrives_to : (leaf node low high : ℕ) → node ≢ 0 → me.0.hand ≡ At leaf node (Stored low) (Stored high)
@@ -155,14 +170,22 @@ module _ (t : Frame) (ok : IsFrame t) (slots id : ℕ) (me : Me (Unit {0}) View)
       let other : has found (eqb (bit side) 1) ≡ has found (not side) = ap (has found) (bit_first side) in
       elim (true_or (has found (not side))) [
         | inl a ↦ (let w : View = with_hand v (At leaf p (Below node low) (Below node high)) in
-          let r = goes_on t ok (arrivals_in s.words) (lows_in s.words) (highs_in s.words) (arrivals_in words) s.views id v leaf node low high h.rule at is below raised a in
-          (w, keeps, tt, placed t s (3 * p) x id p me.1 w within h (arrivals_only t s.words p x (set s.views id w) r),
-            (λ i. (arrived v (sym (div_bits p) i) (sym (other ∙ a) i) (sym is i), me.1))))
+            let r = goes_on t ok (arrivals_in s.words) (lows_in s.words) (highs_in s.words) (arrivals_in words) s.views id v leaf node low high h.rule at is below raised a in (
+              w,
+              keeps,
+              tt,
+              placed t s (3 * p) x id p me.1 w within h (arrivals_only t s.words p x (set s.views id w) r),
+              (λ i. (arrived v (sym (div_bits p) i) (sym (other ∙ a) i) (sym is i), me.1)),
+            ))
         | inr b ↦ (let w : View = ended v leaf in
-          let r = stops t ok (arrivals_in s.words) (lows_in s.words) (highs_in s.words) (arrivals_in words) s.views id v leaf node low high h.rule at is below raised
-              (λ e. true≢false (sym e ∙ b)) in
-          (w, keeps, tt, placed t s (3 * p) x id p me.1 w within h (arrivals_only t s.words p x (set s.views id w) r),
-            (λ i. (arrived v (sym (div_bits p) i) (sym (other ∙ b) i) (sym is i), me.1))))
+            let r = stops t ok (arrivals_in s.words) (lows_in s.words) (highs_in s.words) (arrivals_in words) s.views id v leaf node low high h.rule at is below raised
+            (λ e. true≢false (sym e ∙ b)) in (
+              w,
+              keeps,
+              tt,
+              placed t s (3 * p) x id p me.1 w within h (arrivals_only t s.words p x (set s.views id w) r),
+              (λ i. (arrived v (sym (div_bits p) i) (sym (other ∙ b) i) (sym is i), me.1)),
+            ))
       ]
 
   pub arrives_at : (leaf node low high parent : ℕ) (right : Bool) → node ≢ 0 → me.0.hand ≡ At leaf node (Stored low) (Stored high)
@@ -182,17 +205,17 @@ module _ (t : Frame) (ok : IsFrame t) (slots id : ℕ) (me : Me (Unit {0}) View)
       let half : ℕ = lesser_half x found in
       let w : View = with_hand v (At leaf node (Held half) high) in
       let half_true : half ≡ t.low node = low_true t ok (arrivals_in s.words) (lows_in s.words) (highs_in s.words) s.views id v leaf node child (Below child x) high h.rule at is
-          hand.low_true.0 hand.low_true.1 hand.low_true.2 x found hand.low_true.3 (ap (lows_in s.words) other_is) in
+      hand.low_true.0 hand.low_true.1 hand.low_true.2 x found hand.low_true.3 (ap (lows_in s.words) other_is) in
       let r = stays t (arrivals_in s.words) (lows_in s.words) (highs_in s.words) (lows_in s.words) (highs_in s.words) s.views id v leaf node (Below child x) high h.rule at is
-          (same_words t.low (lows_in s.words)) (same_words t.high (highs_in s.words)) (Held half) high
-          (record {
-            leaf_small = hand.leaf_small;
-            node_small = hand.node_small;
-            own_leaf = hand.own_leaf;
-            low_true = half_true;
-            high_true = hand.high_true;
-            low_first = hand.low_first;
-          }) in
+      (same_words t.low (lows_in s.words)) (same_words t.high (highs_in s.words)) (Held half) high
+      (record {
+        leaf_small = hand.leaf_small;
+        node_small = hand.node_small;
+        own_leaf = hand.own_leaf;
+        low_true = half_true;
+        high_true = hand.high_true;
+        low_first = hand.low_first;
+      }) in
       (w, keeps, tt, loaded_again t s (3 * other + 1) id me.1 w h r, (λ i. (with_hand v (low_loaded found (sym is i)), me.1)))
 
   pub loads_high_at : (leaf node child x other : ℕ) (low : Half) → me.0.hand ≡ At leaf node low (Below child x) → other ≡ t.child node (not (t.side child))
@@ -204,17 +227,17 @@ module _ (t : Frame) (ok : IsFrame t) (slots id : ℕ) (me : Me (Unit {0}) View)
       let half : ℕ = greater_half x found in
       let w : View = with_hand v (At leaf node low (Held half)) in
       let half_true : half ≡ t.high node = high_true t ok (arrivals_in s.words) (lows_in s.words) (highs_in s.words) s.views id v leaf node child low (Below child x) h.rule at is
-          hand.high_true.0 hand.high_true.1 hand.high_true.2 x found hand.high_true.3 (ap (highs_in s.words) other_is) in
+      hand.high_true.0 hand.high_true.1 hand.high_true.2 x found hand.high_true.3 (ap (highs_in s.words) other_is) in
       let r = stays t (arrivals_in s.words) (lows_in s.words) (highs_in s.words) (lows_in s.words) (highs_in s.words) s.views id v leaf node low (Below child x) h.rule at is
-          (same_words t.low (lows_in s.words)) (same_words t.high (highs_in s.words)) low (Held half)
-          (record {
-            leaf_small = hand.leaf_small;
-            node_small = hand.node_small;
-            own_leaf = hand.own_leaf;
-            low_true = hand.low_true;
-            high_true = half_true;
-            low_first = λ e. absurd (true≢false (sym e));
-          }) in
+      (same_words t.low (lows_in s.words)) (same_words t.high (highs_in s.words)) low (Held half)
+      (record {
+        leaf_small = hand.leaf_small;
+        node_small = hand.node_small;
+        own_leaf = hand.own_leaf;
+        low_true = hand.low_true;
+        high_true = half_true;
+        low_first = λ e. absurd (true≢false (sym e));
+      }) in
       (w, keeps, tt, loaded_again t s (3 * other + 2) id me.1 w h r, (λ i. (with_hand v (high_loaded found (sym is i)), me.1)))
 
 -- a split

@@ -51,7 +51,6 @@ one_of_both a false x = x.0
 module _ (t : Frame) (ok : IsFrame t) (A L H B : ℕ → ℕ) (views : List View) (id : ℕ) (v : View) (leaf i low high : ℕ)
     (r : IsClimb t A L H views) (at : get_elem? views id ≡ some v) (is : v.hand ≡ At leaf i (Stored low) (Stored high))
     (below : i ≢ 0) (more : IsRaised A B (t.parent i) (t.side i)) where
-
   hand : IsTrueAt t L H leaf i (Stored low) (Stored high)
   hand = subst (λ h. IsTrueHand t L H h) is (r.true_hands id v at)
 
@@ -77,9 +76,9 @@ module _ (t : Frame) (ok : IsFrame t) (A L H B : ℕ → ℕ) (views : List View
   passed_by_case true inner = passed_inner t A views i inner (r.both_bits i small inner here)
   passed_by_case false inner =
       passed_leaf t A views i inner (λ k lt e.
-        let same : k ≡ leaf = ok.leaf_only k leaf lt hand.leaf_small (e ∙ sym (hand.own_leaf inner)) in
-        let none : todos leaf views ≡ 0 = let one = held_here in let old = r.each_once leaf hand.leaf_small in omega arith in
-        ap (λ x. todos x views) same ∙ none)
+      let same : k ≡ leaf = ok.leaf_only k leaf lt hand.leaf_small (e ∙ sym (hand.own_leaf inner)) in
+      let none : todos leaf views ≡ 0 = let one = held_here in let old = r.each_once leaf hand.leaf_small in omega arith in
+      ap (λ x. todos x views) same ∙ none)
 
   passed : IsPassed t A views i
   passed = passed_by_case (t.inner i) refl
@@ -92,7 +91,7 @@ module _ (t : Frame) (ok : IsFrame t) (A L H B : ℕ → ℕ) (views : List View
   no_hand : hands (t.parent i) views ≡ 0
   no_hand = dite (ℕ_discrete (hands (t.parent i) views) 0) (λ e. e)
       (λ ne. absurd (absent (one_of_both (A (t.parent i)) (t.side i)
-        (r.both_bits (t.parent i) (ok.parent_small i small below) (ok.parent_inner i small below) (let n : hands (t.parent i) views ≢ 0 = ne in omega arith)))))
+      (r.both_bits (t.parent i) (ok.parent_small i small below) (ok.parent_inner i small below) (let n : hands (t.parent i) views ≢ 0 = ne in omega arith)))))
 
   -- and the parent isn't passed
   parent_waits : IsPassed t A views (t.parent i) → ⊥
@@ -103,14 +102,17 @@ module _ (t : Frame) (ok : IsFrame t) (A L H B : ℕ → ℕ) (views : List View
 
   -- another node's bit was there if it is there now
   bit_was : (j : ℕ) → j < t.nodes → j ≢ i → HasArrived t B j → HasArrived t A j
-  bit_was j lt ne b = (b.0, dite (ℕ_discrete (t.parent j) (t.parent i))
-      (λ e. elim (either_bit (t.side i) (t.side j)) [
-        | inl s ↦ absurd (ne (sym (ok.child_is j lt b.0) ∙ (λ x. t.child (e x) (sym s x)) ∙ ok.child_is i small below))
-        | inr s ↦ subst (λ x. has (A x) (t.side j) ≡ true) (sym e)
-            (subst (λ x. has (A (t.parent i)) x ≡ true) s
-            (sym more.other ∙ subst (λ x. has (B (t.parent i)) x ≡ true) (sym s) (subst (λ x. has (B x) (t.side j) ≡ true) e b.1)))
-      ])
-      (λ other. subst (λ x. has x (t.side j) ≡ true) (more.same (t.parent j) other) b.1))
+  bit_was j lt ne b = (
+    b.0,
+    dite (ℕ_discrete (t.parent j) (t.parent i))
+        (λ e. elim (either_bit (t.side i) (t.side j)) [
+          | inl s ↦ absurd (ne (sym (ok.child_is j lt b.0) ∙ (λ x. t.child (e x) (sym s x)) ∙ ok.child_is i small below))
+          | inr s ↦ subst (λ x. has (A x) (t.side j) ≡ true) (sym e)
+              (subst (λ x. has (A (t.parent i)) x ≡ true) s
+              (sym more.other ∙ subst (λ x. has (B (t.parent i)) x ≡ true) (sym s) (subst (λ x. has (B x) (t.side j) ≡ true) e b.1)))
+        ])
+        (λ other. subst (λ x. has x (t.side j) ≡ true) (more.same (t.parent j) other) b.1),
+  )
 
   bit_kept : (j : ℕ) → HasArrived t A j → HasArrived t B j
   bit_kept j b = (b.0, bit_stays A B (t.parent i) (t.side i) more (t.parent j) (t.side j) b.1)
@@ -168,13 +170,13 @@ module _ (t : Frame) (ok : IsFrame t) (A L H B : ℕ → ℕ) (views : List View
               passed = passed_stays t B views now i (λ k _ _. let e = todo_same k in omega arith) (passed_kept i passed);
             }))
             (λ ne. let d = r.bits j lt (bit_was j lt ne b) in
-              done_stays now todo_same fewer j (λ e. parent_waits (subst (λ x. IsPassed t A views x) e d.passed)) d);
+            done_stays now todo_same fewer j (λ e. parent_waits (subst (λ x. IsPassed t A views x) e d.passed)) d);
         one_hand = λ j lt. dite (ℕ_discrete j p) (λ e. let one = at_p in let same = ap (λ x. hands x now) e in omega arith)
             (λ ne. let e = fewer j ne in let old = r.one_hand j lt in omega arith);
         both_bits = λ j lt inner there. dite (ℕ_discrete j p)
             (λ e. subst (λ x. (has (B x) false ≡ true) × (has (B x) true ≡ true)) (sym e) (both_of (B p) (t.side i) more.here (more.other ∙ other)))
             (λ ne. let b = r.both_bits j lt inner (let e = fewer j ne in omega arith) in
-              (bit_stays A B p (t.side i) more j false b.0, bit_stays A B p (t.side i) more j true b.1));
+            (bit_stays A B p (t.side i) more j false b.0, bit_stays A B p (t.side i) more j true b.1));
         true_hands = each_set (λ u. IsTrueHand t L H u.hand) views id w
             (record {
               leaf_small = hand.leaf_small;
@@ -187,10 +189,10 @@ module _ (t : Frame) (ok : IsFrame t) (A L H B : ℕ → ℕ) (views : List View
             r.true_hands;
         moves_on = λ j lt q. dite (ℕ_discrete j p) (λ e. inl (let one = at_p in let same = ap (λ x. hands x now) e in omega arith))
             (λ ne. dite (ℕ_discrete j i) (λ e. inr (inl (subst (λ x. HasArrived t B x) (sym e) arrived)))
-              (λ mine. elim (r.moves_on j lt (passed_was j ne (passed_stays t B now views j (λ k _ _. let e = todo_same k in omega arith) q))) [
-                | inl a ↦ inl (let e = others j ne mine in omega arith)
-                | inr b ↦ elim b [ inl c ↦ inr (inl (bit_kept j c)) | inr d ↦ inr (inr d) ]
-              ]));
+            (λ mine. elim (r.moves_on j lt (passed_was j ne (passed_stays t B now views j (λ k _ _. let e = todo_same k in omega arith) q))) [
+              | inl a ↦ inl (let e = others j ne mine in omega arith)
+              | inr b ↦ elim b [ inl c ↦ inr (inl (bit_kept j c)) | inr d ↦ inr (inr d) ]
+            ]));
       }
 
   -- or its leaf is done
@@ -222,7 +224,7 @@ module _ (t : Frame) (ok : IsFrame t) (A L H B : ℕ → ℕ) (views : List View
               passed = passed_stays t B views now i (λ k _ _. let e = todo_same k in omega arith) (passed_kept i passed);
             }))
             (λ ne. let d = r.bits j lt (bit_was j lt ne b) in
-              done_stays now todo_same (λ x _. fewer x) j (λ e. parent_waits (subst (λ x. IsPassed t A views x) e d.passed)) d);
+            done_stays now todo_same (λ x _. fewer x) j (λ e. parent_waits (subst (λ x. IsPassed t A views x) e d.passed)) d);
         one_hand = λ j lt. let e = fewer j in let old = r.one_hand j lt in omega arith;
         both_bits = λ j lt inner there.
             let b = r.both_bits j lt inner (let e = fewer j in omega arith) in
@@ -230,10 +232,10 @@ module _ (t : Frame) (ok : IsFrame t) (A L H B : ℕ → ℕ) (views : List View
         true_hands = each_set (λ u. IsTrueHand t L H u.hand) views id w tt r.true_hands;
         moves_on = λ j lt q. dite (ℕ_discrete j p)
             (λ e. absurd (alone (sym more.other ∙ one_of_both (B p) (not (t.side i))
-              (inner_passed t B now p (ok.parent_inner i small below) (subst (λ x. IsPassed t B now x) e q)))))
+            (inner_passed t B now p (ok.parent_inner i small below) (subst (λ x. IsPassed t B now x) e q)))))
             (λ ne. dite (ℕ_discrete j i) (λ e. inr (inl (subst (λ x. HasArrived t B x) (sym e) arrived)))
-              (λ mine. elim (r.moves_on j lt (passed_was j ne (passed_stays t B now views j (λ k _ _. let e = todo_same k in omega arith) q))) [
-                | inl a ↦ inl (let e = others j mine in omega arith)
-                | inr b ↦ elim b [ inl c ↦ inr (inl (bit_kept j c)) | inr d ↦ inr (inr d) ]
-              ]));
+            (λ mine. elim (r.moves_on j lt (passed_was j ne (passed_stays t B now views j (λ k _ _. let e = todo_same k in omega arith) q))) [
+              | inl a ↦ inl (let e = others j mine in omega arith)
+              | inr b ↦ elim b [ inl c ↦ inr (inl (bit_kept j c)) | inr d ↦ inr (inr d) ]
+            ]));
       }

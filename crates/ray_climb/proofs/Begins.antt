@@ -19,7 +19,6 @@ module _ (t : Frame) (ok : IsFrame t) (A L H M : ℕ → ℕ) (views : List View
     (r : IsClimb t A L H views) (at : get_elem? views id ≡ some v) (free : v.hand ≡ Empty)
     (small : leaf < t.leaves) (listed : 0 < times leaf v.todo)
     (lows : IsTruer t.low L M) (stored : M (t.node_of leaf) ≡ low) (low_is : low ≡ t.low (t.node_of leaf)) (high_is : high ≡ t.high (t.node_of leaf)) where
-
   -- the leaf stands in a todo list, so nowhere else
   todo_one : 0 < todos leaf views
   todo_one = let p = part_le (λ u. times leaf u.todo) views id v at in omega arith
@@ -32,8 +31,8 @@ module _ (t : Frame) (ok : IsFrame t) (A L H M : ℕ → ℕ) (views : List View
   no_hand_by j Empty not_held is = refl
   no_hand_by j (At other node a b) not_held is = dite (ℕ_discrete node (t.node_of leaf))
       (λ e. let own : t.node_of other ≡ node = is.own_leaf (ap t.inner e ∙ ok.leaf_is leaf small) in
-        let same : other ≡ leaf = ok.leaf_only other leaf is.leaf_small small (own ∙ e) in
-        let one = alike other leaf same in absurd (omega arith))
+      let same : other ≡ leaf = ok.leaf_only other leaf is.leaf_small small (own ∙ e) in
+      let one = alike other leaf same in absurd (omega arith))
       (λ ne. unlike node (t.node_of leaf) ne)
 
   no_hand : hands (t.node_of leaf) views ≡ 0

@@ -13,7 +13,6 @@ use Rattle.ray_climb.proofs.Passed.{passed_inner, passed_leaf}
 
 module _ (t : Frame) (ok : IsFrame t) (A L H : ℕ → ℕ) (views : List View) (id : ℕ) (v : View)
     (r : IsClimb t A L H views) (at : get_elem? views id ≡ some v) (all : (k : ℕ) → k < t.leaves → times k v.done ≡ 1) where
-
   none_left : (k : ℕ) → k < t.leaves → (todos k views ≡ 0) × (held k views ≡ 0)
   none_left k lt =
       let p = part_le (λ u. times k u.done) views id v at in

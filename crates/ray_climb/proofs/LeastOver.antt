@@ -111,7 +111,7 @@ module _ (r : RefitValue) (shape : IsShape r.tree) (activity : HasActivity r.tre
       let boxes = boxes_below r.items r.tree.order (shape_at r.tree n) in
       let has = has_items r.tree.order r.items activity.active_once in
       let there : 0 < length boxes = below_some r.items r.tree.order (shape_at r.tree n) has.each w.ends w.few
-          (λ x h. all_inside x (length r.tree.order) (let f = w.holds_fewer x in let o = shape.places_once x in omega arith)) in
+      (λ x h. all_inside x (length r.tree.order) (let f = w.holds_fewer x in let o = shape.places_once x in omega arith)) in
       let l = IsLeastOf-boxes boxes (box_of_boxes boxes) refl in
       least_some boxes (box_of_boxes boxes) there l.0 l.1
 

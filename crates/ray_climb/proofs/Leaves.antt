@@ -81,12 +81,12 @@ module _ (tree : TreeValue) (shape : IsShape tree) where
   pub leaf_only : (j k : ℕ) → j < length (leaves_of tree) → k < length (leaves_of tree) → get_or (leaves_of tree) j 0 ≡ get_or (leaves_of tree) k 0 → j ≡ k
   leaf_only j k sj sk e = dite (ℕ_discrete j k) (λ q. q)
       (λ ne. absurd (
-        let x = get_or (leaves_of tree) k 0 in
-        let two = times_two (leaves_of tree) j k x sj sk ne e refl in
-        let few = tips_few x (shape_at tree 0) in
-        let once = shape.nodes_once x in
-        let most = inside_most x (length tree.nodes) in
-        omega arith))
+      let x = get_or (leaves_of tree) k 0 in
+      let two = times_two (leaves_of tree) j k x sj sk ne e refl in
+      let few = tips_few x (shape_at tree 0) in
+      let once = shape.nodes_once x in
+      let most = inside_most x (length tree.nodes) in
+      omega arith))
 
   pub leaf_named : (i : ℕ) → i < length tree.nodes → is_inner (node_at tree.nodes i) ≡ false → (k : ℕ) × (k < length (leaves_of tree)) × (get_or (leaves_of tree) k 0 ≡ i)
   leaf_named i lt leaf =

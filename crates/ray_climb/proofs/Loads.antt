@@ -27,7 +27,6 @@ bit_of_both a false x = x.0
 module _ (t : Frame) (ok : IsFrame t) (A L H : ℕ → ℕ) (views : List View) (id : ℕ) (v : View) (leaf node child : ℕ) (low high : Half)
     (r : IsClimb t A L H views) (at : get_elem? views id ≡ some v) (is : v.hand ≡ At leaf node low high)
     (small : child < t.nodes) (below : child ≢ 0) (parent : t.parent child ≡ node) where
-
   hand : IsTrueAt t L H leaf node low high
   hand = subst (λ h. IsTrueHand t L H h) is (r.true_hands id v at)
 
@@ -46,7 +45,7 @@ module _ (t : Frame) (ok : IsFrame t) (A L H : ℕ → ℕ) (views : List View) 
       let kid = ok.kids node s hand.node_small inner in
       let b = bit_of_both (A node) s (r.both_bits node hand.node_small inner here) in
       (r.bits (t.child node s) kid.small
-        (kid.below, subst (λ x. has (A x) (t.side (t.child node s)) ≡ true) (sym kid.parent) (subst (λ x. has (A node) x ≡ true) (sym kid.side) b))).exact
+      (kid.below, subst (λ x. has (A x) (t.side (t.child node s)) ≡ true) (sym kid.parent) (subst (λ x. has (A node) x ≡ true) (sym kid.side) b))).exact
 
   child_here : t.child node (t.side child) ≡ child
   child_here = subst (λ n. t.child n (t.side child) ≡ child) parent (ok.child_is child small below)

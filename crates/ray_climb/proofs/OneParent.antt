@@ -59,9 +59,9 @@ module _ (nodes : List Node) (c : ℕ) where
       let one = total_one many n K small in
       let here : K n ≡ inside c l 1 + inside c r 1 = ap (kids_of c) is in
       let split =
-          total-same many (λ p. (inside p n 1 + (visits p L + visits p R)) * K p) (λ p. inside p n 1 * K p + (visits p L * K p + visits p R * K p)) (λ p lt. omega arith)
-          ∙ total-sum many (λ p. inside p n 1 * K p) (λ p. visits p L * K p + visits p R * K p)
-          ∙ ap (λ y. total many (λ p. inside p n 1 * K p) + y) (total-sum many (λ p. visits p L * K p) (λ p. visits p R * K p)) in
+      total-same many (λ p. (inside p n 1 + (visits p L + visits p R)) * K p) (λ p. inside p n 1 * K p + (visits p L * K p + visits p R * K p)) (λ p lt. omega arith)
+      ∙ total-sum many (λ p. inside p n 1 * K p) (λ p. visits p L * K p + visits p R * K p)
+      ∙ ap (λ y. total many (λ p. inside p n 1 * K p) + y) (total-sum many (λ p. visits p L * K p) (λ p. visits p R * K p)) in
       omega (arith, left, right, one, here, split)
 
   pub counted : (k n : ℕ) → n < length nodes → gone (shape_in k nodes n) ≡ 0 → ((x : ℕ) → 0 < visits x (shape_in k nodes n) → x < length nodes) → IsCounted n (shape_in k nodes n)
@@ -69,9 +69,9 @@ module _ (nodes : List Node) (c : ℕ) where
   counted (suc k) n small ends within =
       subst (IsCounted n) (sym (shape_suc k nodes n))
       (counted_case k n (node_at nodes n) refl small
-        (λ m e w. counted k m (w m (itself_seen k m e)) e w)
-        (subst (λ s. gone s ≡ 0) (shape_suc k nodes n) ends)
-        (λ x h. within x (subst (λ s. 0 < visits x s) (sym (shape_suc k nodes n)) h)))
+      (λ m e w. counted k m (w m (itself_seen k m e)) e w)
+      (subst (λ s. gone s ≡ 0) (shape_suc k nodes n) ends)
+      (λ x h. within x (subst (λ s. 0 < visits x s) (sym (shape_suc k nodes n)) h)))
     where
       itself_seen : (k m : ℕ) → gone (shape_in k nodes m) ≡ 0 → 0 < visits m (shape_in k nodes m)
       itself_seen k m e = visits_itself nodes k m e
@@ -94,13 +94,13 @@ total_two : (n p q : ℕ) (f : ℕ → ℕ) → p < n → q < n → p ≢ q → 
 total_two zero p q f small less ne = absurd (omega arith)
 total_two (suc n) p q f small less ne = elim (apart p n small) [
   | inl a ↦ elim (apart q n less) [
-      | inl b ↦ (let r = total_two n p q f a b ne in omega arith)
-      | inr b ↦ (let e = ap f b in let r = total_part n p f a in omega arith)
-    ]
+    | inl b ↦ (let r = total_two n p q f a b ne in omega arith)
+    | inr b ↦ (let e = ap f b in let r = total_part n p f a in omega arith)
+  ]
   | inr a ↦ elim (apart q n less) [
-      | inl b ↦ (let e = ap f a in let r = total_part n q f b in omega arith)
-      | inr b ↦ absurd (ne (a ∙ sym b))
-    ]
+    | inl b ↦ (let e = ap f a in let r = total_part n q f b in omega arith)
+    | inr b ↦ absurd (ne (a ∙ sym b))
+  ]
 ]
 
 total_some : (n : ℕ) (f : ℕ → ℕ) → 0 < total n f → (p : ℕ) × (p < n) × (0 < f p)

@@ -16,7 +16,6 @@ use Rattle.ray_climb.proofs.Passed.{IsTruer, exact_stays, hand_stays, passed_sta
 module _ (t : Frame) (A L H M K : ℕ → ℕ) (views : List View) (id : ℕ) (v : View) (leaf node : ℕ) (low high : Half)
     (r : IsClimb t A L H views) (at : get_elem? views id ≡ some v) (is : v.hand ≡ At leaf node low high)
     (lows : IsTruer t.low L M) (highs : IsTruer t.high H K) where
-
   -- a hand that stays, with other halves
   pub stays : (low' high' : Half) → IsTrueAt t M K leaf node low' high' → IsClimb t A M K (set views id (with_hand v (At leaf node low' high')))
   stays low' high' true_now =

@@ -69,9 +69,9 @@ pub times_without : (k j : ℕ) (xs : List ℕ) → 0 < times j xs → times k (
 times_without k j [] there = absurd (omega arith)
 times_without k j (x ∷ xs) there = dite (ℕ_discrete x j)
     (λ e. subst (λ b. times k (cond b xs (x ∷ without j xs)) + cond {A = ℕ} (eqb j k) 1 0 ≡ times k (x ∷ xs)) (sym (eq_true x j e))
-      (let same : cond {A = ℕ} (eqb x k) 1 0 ≡ cond {A = ℕ} (eqb j k) 1 0 = ap (λ z. cond {A = ℕ} (eqb z k) 1 0) e in omega arith))
+    (let same : cond {A = ℕ} (eqb x k) 1 0 ≡ cond {A = ℕ} (eqb j k) 1 0 = ap (λ z. cond {A = ℕ} (eqb z k) 1 0) e in omega arith))
     (λ ne. subst (λ b. times k (cond b xs (x ∷ without j xs)) + cond {A = ℕ} (eqb j k) 1 0 ≡ times k (x ∷ xs)) (sym (eq_false x j ne))
-      (let no = unlike x j ne in let r = times_without k j xs (omega arith) in omega arith))
+    (let no = unlike x j ne in let r = times_without k j xs (omega arith) in omega arith))
   where
     eq_true : (a b : ℕ) → a ≡ b → eqb a b ≡ true
     eq_true a b e = grind (arith, nat_tests)

@@ -31,27 +31,39 @@ module _ (t : Frame) (ws : List ℕ) (p x : ℕ) (views : List View) where
   pub lows_only : IsClimb t (arrivals_in ws) (lows_in (set ws (3 * p + 1) x)) (highs_in ws) views
       → IsClimb t (arrivals_in (set ws (3 * p + 1) x)) (lows_in (set ws (3 * p + 1) x)) (highs_in (set ws (3 * p + 1) x)) views
   lows_only r = subst of_words
-      (λ k. ((λ i. same_arrivals 1 (inl refl) i k),
-        ((λ i. lows_in (set ws (3 * p + 1) x) i),
-          (λ i. sym (get_or-set_other ws (3 * p + 1) (3 * i + 2) x 0 (λ e. omega arith)) k))))
+      (λ k. (
+        (λ i. same_arrivals 1 (inl refl) i k),
+        (
+          (λ i. lows_in (set ws (3 * p + 1) x) i),
+          (λ i. sym (get_or-set_other ws (3 * p + 1) (3 * i + 2) x 0 (λ e. omega arith)) k),
+        ),
+      ))
       r
 
   -- a high half is
   pub highs_only : IsClimb t (arrivals_in ws) (lows_in ws) (highs_in (set ws (3 * p + 2) x)) views
       → IsClimb t (arrivals_in (set ws (3 * p + 2) x)) (lows_in (set ws (3 * p + 2) x)) (highs_in (set ws (3 * p + 2) x)) views
   highs_only r = subst of_words
-      (λ k. ((λ i. same_arrivals 2 (inr refl) i k),
-        ((λ i. sym (get_or-set_other ws (3 * p + 2) (3 * i + 1) x 0 (λ e. omega arith)) k),
-          (λ i. highs_in (set ws (3 * p + 2) x) i))))
+      (λ k. (
+        (λ i. same_arrivals 2 (inr refl) i k),
+        (
+          (λ i. sym (get_or-set_other ws (3 * p + 2) (3 * i + 1) x 0 (λ e. omega arith)) k),
+          (λ i. highs_in (set ws (3 * p + 2) x) i),
+        ),
+      ))
       r
 
   -- a bit is set
   pub arrivals_only : IsClimb t (arrivals_in (set ws (3 * p) x)) (lows_in ws) (highs_in ws) views
       → IsClimb t (arrivals_in (set ws (3 * p) x)) (lows_in (set ws (3 * p) x)) (highs_in (set ws (3 * p) x)) views
   arrivals_only r = subst of_words
-      (λ k. ((λ i. arrivals_in (set ws (3 * p) x) i),
-        ((λ i. sym (get_or-set_other ws (3 * p) (3 * i + 1) x 0 (λ e. omega arith)) k),
-          (λ i. sym (get_or-set_other ws (3 * p) (3 * i + 2) x 0 (λ e. omega arith)) k))))
+      (λ k. (
+        (λ i. arrivals_in (set ws (3 * p) x) i),
+        (
+          (λ i. sym (get_or-set_other ws (3 * p) (3 * i + 1) x 0 (λ e. omega arith)) k),
+          (λ i. sym (get_or-set_other ws (3 * p) (3 * i + 2) x 0 (λ e. omega arith)) k),
+        ),
+      ))
       r
 
 -- a stored true half makes the words truer

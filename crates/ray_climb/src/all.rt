@@ -93,12 +93,7 @@ fn by_two<R: Threads + Sync>(
 }
 
 // All leaves, by four seats.
-fn by_four<R: Threads + Sync>(
-    rt: &R,
-    climb: &Climb,
-    mut seat: ClimbSeat,
-    leaves: u32,
-) -> ClimbSeat
+fn by_four<R: Threads + Sync>(rt: &R, climb: &Climb, mut seat: ClimbSeat, leaves: u32) -> ClimbSeat
     requires { HasTodo climb.now.id 0 leaves seat }
     ensures { HasDone climb.now.id 0 leaves result }
 {

@@ -26,8 +26,11 @@ pub(crate) fn climb(
     requires listed { 0 < times leaf seat.old.me.0.todo }
     requires free { seat.old.me.0.hand ≡ Empty }
     ensures same { seat.new.table_id ≡ seat.old.table_id }
-    ensures me { seat.new.me ≡ (knows (without leaf seat.old.me.0.todo)
-        (seat.old.me.0.done ++ leaf ∷ []) Empty, seat.old.me.1) }
+    ensures me { seat.new.me ≡ (
+      knows (without leaf seat.old.me.0.todo)
+          (seat.old.me.0.done ++ leaf ∷ []) Empty,
+      seat.old.me.1,
+    ) }
 {
     let mut at = refit.stand(leaf);
     begin::<Brand>(shared, seat, at);

@@ -37,8 +37,8 @@ impl Model for Climb {
     ghost Value = { ClimbView };
 
     ghost view = { λ c. record {
-        id = climb_id c.table.shared.table_id (length (leaves_of c.refit.tree));
-        refit = c.refit;
+      id = climb_id c.table.shared.table_id (length (leaves_of c.refit.tree));
+      refit = c.refit;
     } };
 
     ghost invariant = { λ c. (c.table.shared.table_id.words ≡ words_of (length c.refit.tree.nodes))

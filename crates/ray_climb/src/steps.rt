@@ -33,8 +33,11 @@ pub(crate) fn begin<P: Start>(
     requires low { at.low ≡ low_half (box_over shared.now.key at.node) }
     requires high { at.high ≡ high_half (box_over shared.now.key at.node) }
     ensures same { seat.new.table_id ≡ seat.old.table_id }
-    ensures me { seat.new.me ≡ (begun seat.old.me.0 at.leaf (At at.leaf at.node (Stored at.low)
-        (Held at.high)), seat.old.me.1) }
+    ensures me { seat.new.me ≡ (
+      begun seat.old.me.0 at.leaf (At at.leaf at.node (Stored at.low)
+          (Held at.high)),
+      seat.old.me.1,
+    ) }
 {
     shared.store::<Begin<P>>(seat, 3 * at.node as usize + 1, at.low);
 }
@@ -50,8 +53,11 @@ pub(crate) fn store_low(
     requires small { at.node < length shared.now.key.tree.nodes }
     requires hand { seat.old.me.0.hand ≡ At at.leaf at.node (Held at.low) (Held at.high) }
     ensures same { seat.new.table_id ≡ seat.old.table_id }
-    ensures me { seat.new.me ≡ (with_hand seat.old.me.0 (At at.leaf at.node (Stored at.low)
-        (Held at.high)), seat.old.me.1) }
+    ensures me { seat.new.me ≡ (
+      with_hand seat.old.me.0 (At at.leaf at.node (Stored at.low)
+          (Held at.high)),
+      seat.old.me.1,
+    ) }
 {
     shared.store::<StoreLow>(seat, 3 * at.node as usize + 1, at.low);
 }
@@ -67,8 +73,11 @@ pub(crate) fn store_high(
     requires small { at.node < length shared.now.key.tree.nodes }
     requires hand { seat.old.me.0.hand ≡ At at.leaf at.node (Stored at.low) (Held at.high) }
     ensures same { seat.new.table_id ≡ seat.old.table_id }
-    ensures me { seat.new.me ≡ (with_hand seat.old.me.0 (At at.leaf at.node (Stored at.low)
-        (Stored at.high)), seat.old.me.1) }
+    ensures me { seat.new.me ≡ (
+      with_hand seat.old.me.0 (At at.leaf at.node (Stored at.low)
+          (Stored at.high)),
+      seat.old.me.1,
+    ) }
 {
     shared.store::<StoreHigh>(seat, 3 * at.node as usize + 2, at.high);
 }
@@ -122,8 +131,10 @@ pub(crate) fn arrive(
     requires up { IsUp shared.now.key at.node up }
     requires hand { seat.old.me.0.hand ≡ At at.leaf at.node (Stored at.low) (Stored at.high) }
     ensures same { seat.new.table_id ≡ seat.old.table_id }
-    ensures me { seat.new.me ≡ (arrived seat.old.me.0 up.parent result seat.old.me.0.hand,
-        seat.old.me.1) }
+    ensures me { seat.new.me ≡ (
+      arrived seat.old.me.0 up.parent result seat.old.me.0.hand,
+      seat.old.me.1,
+    ) }
 {
     let found = shared.fetch_or::<Arrive>(seat, 3 * up.parent as usize, bit_of(up.right));
     has_bit(found, !up.right)
@@ -144,8 +155,11 @@ pub(crate) fn load(
     ensures same { seat.new.table_id ≡ seat.old.table_id }
     ensures leaf { result.leaf ≡ at.leaf }
     ensures node { result.node ≡ up.parent }
-    ensures me { seat.new.me ≡ (with_hand seat.old.me.0 (At result.leaf result.node
-        (Held result.low) (Held result.high)), seat.old.me.1) }
+    ensures me { seat.new.me ≡ (
+      with_hand seat.old.me.0 (At result.leaf result.node
+          (Held result.low) (Held result.high)),
+      seat.old.me.1,
+    ) }
 {
     let low = load_low(shared, seat, at, up);
     let high = load_high(shared, seat, at, up, low);
@@ -170,8 +184,11 @@ fn load_low(
     requires hand { seat.old.me.0.hand ≡ At at.leaf up.parent (Below at.node at.low)
         (Below at.node at.high) }
     ensures same { seat.new.table_id ≡ seat.old.table_id }
-    ensures me { seat.new.me ≡ (with_hand seat.old.me.0 (At at.leaf up.parent (Held result)
-        (Below at.node at.high)), seat.old.me.1) }
+    ensures me { seat.new.me ≡ (
+      with_hand seat.old.me.0 (At at.leaf up.parent (Held result)
+          (Below at.node at.high)),
+      seat.old.me.1,
+    ) }
 {
     let found = shared.load::<LoadLow>(seat, 3 * up.sibling as usize + 1);
     lesser(at.low, found)
@@ -191,8 +208,11 @@ fn load_high(
     requires hand { seat.old.me.0.hand ≡ At at.leaf up.parent (Held low)
         (Below at.node at.high) }
     ensures same { seat.new.table_id ≡ seat.old.table_id }
-    ensures me { seat.new.me ≡ (with_hand seat.old.me.0 (At at.leaf up.parent (Held low)
-        (Held result)), seat.old.me.1) }
+    ensures me { seat.new.me ≡ (
+      with_hand seat.old.me.0 (At at.leaf up.parent (Held low)
+          (Held result)),
+      seat.old.me.1,
+    ) }
 {
     let found = shared.load::<LoadHigh>(seat, 3 * up.sibling as usize + 2);
     greater(at.high, found)

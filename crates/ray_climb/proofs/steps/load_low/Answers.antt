@@ -9,5 +9,5 @@ load-found-requires c = (
   c.requires.own,
   subst (λ w. 3 * c.args.up.sibling + 1 < w) (sym c.requires.table.long) (low_in (length c.args.shared.now.key.tree.nodes) c.args.up.sibling c.requires.up.sibling_small),
   loads_low_told _ (framed _ _ c.requires.table) _ _ _ c.args.at.leaf c.args.up.parent c.args.at.node c.args.at.low c.args.up.sibling _ c.requires.hand
-  c.requires.up.parent c.requires.up.sibling,
+      c.requires.up.parent c.requires.up.sibling,
 )

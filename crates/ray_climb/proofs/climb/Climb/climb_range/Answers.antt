@@ -1,5 +1,4 @@
-use Rattle.std.proofs.Common.{rules, ◌≡◌, ◌∙◌, ◌-◌, ◌++◌, ◌∷◌, [], ap, arith}
-use Rattle.std.specs.List.{range_with_len}
+use Rattle.std.proofs.Common.{◌∙◌, ◌++◌, ◌∷◌, [], ap, arith}
 use Rattle.ray_climb.specs.Seats.{seat_view}
 use Rattle.ray_climb.specs.Steps.{without}
 use Rattle.ray_climb.proofs.Ranges.{next_done}

@@ -22,4 +22,4 @@ returns c =
     let is = c.index-parent.ensures ∙ get_or_default_zero c.self.inside.parents.items c.args.n c.index-parent.result.now here ∙ c.self.invariant.parents.each c.args.n small c.requires.1 in
     subst (λ x. IsUp x c.args.n c.way.result) c.self.view_is
     (is_up r c.self.invariant.ready.shape c.args.n small c.requires.1 c.way.result c.index-parent.result.now c.node.result is c.node.ensures.value
-      c.way.ensures.parent c.way.ensures.right c.way.ensures.sibling)
+    c.way.ensures.parent c.way.ensures.right c.way.ensures.sibling)
