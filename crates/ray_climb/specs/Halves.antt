@@ -1,5 +1,5 @@
--- A box in two numbers of 63 bits: its low half has its least corner and its high half its greatest,
--- three coordinates of 21 bits each, counted from the least one that there is. (Own.)
+-- A box in two numbers of 63 bits: its low half has its least corner and its high half its
+-- greatest, three coordinates of 21 bits each, counted from the least one that there is. (Own.)
 use Rattle.std.specs.Prelude.{ℕ, ℤ, pos, ◌+◌, ◌*◌, ◌/◌, ◌%◌, ◌^◌, ◌+ℤ◌, ◌-ℤ◌, min, max}
 use Rattle.ray_geom.specs.declared.vec3.Vec3.{Vec3}
 use Rattle.ray_geom.specs.Vector.{vec3}
@@ -42,6 +42,10 @@ lesser_half a b = packed (min (x_of a) (x_of b)) (min (y_of a) (y_of b)) (min (z
 unfoldable pub greater_half : ℕ → ℕ → ℕ
 greater_half a b = packed (max (x_of a) (x_of b)) (max (y_of a) (y_of b)) (max (z_of a) (z_of b))
 
+-- and again from 0
+abbrev pub lowered : ℕ → ℤ
+lowered n = pos n -ℤ pos (2 ^ 19)
+
 -- the corner again
 abbrev pub corner_of : ℕ → Vec3
-corner_of half = vec3 (pos (x_of half) -ℤ pos (2 ^ 19)) (pos (y_of half) -ℤ pos (2 ^ 19)) (pos (z_of half) -ℤ pos (2 ^ 19))
+corner_of half = vec3 (lowered (x_of half)) (lowered (y_of half)) (lowered (z_of half))

@@ -1,5 +1,5 @@
--- What private calls say of a tree that is to be refitted and of its table; no clause of a public call speaks of it.
--- (Own.)
+-- What private calls say of a tree that is to be refitted and of its table; no clause of a public
+-- call speaks of it. (Own.)
 use Rattle.std.specs.Prelude.{◌≡◌, ◌≢◌, ◌<◌, ◌≤◌, ◌^◌, ℕ, not, Option, Some, List, length, slice_index, slice_index_or, slice_set}
 use Rattle.ray_geom.specs.Boxes.{BoxValue, IsBox}
 use Rattle.ray_tree.specs.declared.node.Node.{Node}

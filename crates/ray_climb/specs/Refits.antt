@@ -1,5 +1,5 @@
--- Trees that are refitted to new items: what is asked of the items, what refitting gives, and the frame that the
--- climb rule reads of both. (Own.)
+-- Trees that are refitted to new items: what is asked of the items, what refitting gives, and the
+-- frame that the climb rule reads of both. (Own.)
 use Rattle.std.specs.Prelude.{◌≡◌, ℕ, zero, suc, ◌==◌, ◌||◌, pos, Bool, true, false, if◌then◌else◌, Option, Some, unwrap_or, List, length, slice_index}
 use Rattle.ray_geom.specs.Vector.{vec3}
 use Rattle.ray_geom.specs.Boxes.{BoxValue, IsBox, box_value}
@@ -20,12 +20,12 @@ pub record RefitValue : Type 0 where
 abbrev pub refit_value : TreeValue → List (Option BoxValue) → RefitValue
 refit_value tree items = record { tree = tree; items = items }
 
--- the items have the activity of a tree's: each active one has one place, and no other number has any
+-- the items have the activity of a tree's: each active one has one place, and no other number any
 pub record HasActivity (tree : TreeValue) (items : List (Option BoxValue)) : Type 0 where
   pub active_once : (p : ℕ) → places_of p tree.order ≡ active items p
 
--- a tree is what refitting an old one to new items gives: it has the shape of the old one, and the box of each node
--- is the least box of the new items from it down
+-- a tree is what refitting an old one to new items gives: it has the shape of the old one, and the
+-- box of each node is the least box of the new items from it down
 pub record IsRefit (old : TreeValue) (items : List (Option BoxValue)) (new : TreeValue) : Type 0 where
   pub nodes : new.nodes ≡ old.nodes
   pub order : new.order ≡ old.order

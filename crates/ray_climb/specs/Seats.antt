@@ -16,7 +16,8 @@ pub record ClimbView : Type 0 where
   pub id : ClimbId
   pub refit : RefitValue
 
--- a seat: of which climb it is, the leaves that it still has to climb from, and those from which it has climbed
+-- a seat: of which climb it is, the leaves that it still has to climb from, and those from which
+-- it has climbed
 pub record SeatView : Type 0 where
   pub id : ClimbId
   pub todo : List ℕ
@@ -28,7 +29,8 @@ climb_id table leaves = record { table = table; leaves = leaves }
 abbrev pub seat_view : ClimbId → List ℕ → List ℕ → SeatView
 seat_view id todo done = record { id = id; todo = todo; done = done }
 
--- a seat that keeps the first so many leaves that it has to climb from, and a new one that has the others
+-- a seat that keeps the first so many leaves that it has to climb from, and a new one that has
+-- the others
 abbrev pub keeping : ℕ → SeatView → SeatView
 keeping many s = seat_view s.id (take many s.todo) s.done
 
@@ -43,7 +45,8 @@ pub record AreLeaves (leaves : ℕ) (list : List ℕ) : Type 0 where
 pub record HasEachLeaf (tree : TreeValue) (done : List ℕ) : Type 0 where
   pub once : (k : ℕ) → k < length (leaves_of tree) → times k done ≡ 1
 
--- a seat of a climb has to climb from the leaves from one number up to another, and has climbed from none
+-- a seat of a climb has to climb from the leaves from one number up to another, and has climbed
+-- from none
 abbrev pub HasTodo : ClimbId → ℕ → ℕ → SeatView → Type 0
 HasTodo id from to seat = seat ≡ seat_view id (range_with_len from (to - from)) []
 

@@ -1,4 +1,5 @@
-ghost use Rattle.std.specs.Prelude.{◌≡◌, ◌≢◌, ◌-◌, ◌<◌, ◌≤◌, ◌^◌, ◌++◌, ◌∷◌, [], ℕ, length, replicate, IfOk, IfErr, IsOk};
+ghost use Rattle.std.specs.Prelude.{◌≡◌, ◌-◌, ◌<◌, ◌≤◌, ◌^◌, ◌++◌, ◌∷◌, []};
+ghost use Rattle.std.specs.Prelude.{length, replicate, IfOk, IfErr, IsOk};
 ghost use Rattle.std.specs.List.{range_with_len};
 ghost use Rattle.ray_tree.specs.Trees.{leaves_of};
 ghost use Rattle.ray_climb.specs.Refits.{HasActivity, IsRefit, refit_value};
@@ -116,8 +117,8 @@ impl Climb {
         }
     }
 
-    /// A new seat, which has the last `take` leaves that the old one still had to climb from, and has
-    /// climbed from none. The answer for want of memory never comes (`ok`): a seat takes none.
+    /// A new seat, which has the last `take` leaves that the old one still had to climb from, and
+    /// has climbed from none. The answer for want of memory never comes (`ok`): a seat takes none.
     pub fn split(&self, seat: &mut ClimbSeat, take: u32) -> Result<ClimbSeat, NoMemory>
         requires own { seat.old.id ≡ self.now.id }
         requires within { take ≤ length seat.old.todo }
@@ -140,8 +141,8 @@ impl Climb {
         ClimbSeat { seat: new, leaves }
     }
 
-    /// Puts the leaves that `from` has still to climb from behind those of `into`, and so those from
-    /// which it has climbed. The refusal, which would hand `from` back, never comes (`ok`): a join
+    /// Puts the leaves that `from` has still to climb from behind those of `into`, and so those
+    /// from which it has climbed. The refusal, which would hand `from` back, never comes (`ok`): a join
     /// takes no memory.
     pub fn join(&self, into: &mut ClimbSeat, from: ClimbSeat) -> Result<(), ClimbSeat>
         requires own { into.old.id ≡ self.now.id }

@@ -1,7 +1,8 @@
 //! A box in two halves of 63 bits.
 ghost use Rattle.std.specs.Prelude.{◌≡◌, ◌<◌, ◌^◌, ◌-ℤ◌, pos};
 ghost use Rattle.ray_geom.specs.Vector.{IsShort, IsWithin};
-ghost use Rattle.ray_climb.specs.Halves.{raised, half_of, corner_of, lesser_half, greater_half, packed, x_of, y_of, z_of};
+ghost use Rattle.ray_climb.specs.Halves.{raised, packed, x_of, y_of, z_of};
+ghost use Rattle.ray_climb.specs.Halves.{half_of, corner_of, lesser_half, greater_half};
 
 use ray_geom::Vec3;
 

@@ -17,7 +17,8 @@ impl Model for ClimbSeat {
 
     ghost Value = { SeatView };
 
-    ghost view = { λ s. seat_view (climb_id s.seat.table_id s.leaves) s.seat.me.0.todo s.seat.me.0.done };
+    ghost view = { λ s. seat_view (climb_id s.seat.table_id s.leaves) s.seat.me.0.todo
+        s.seat.me.0.done };
 
     ghost invariant = { λ s. (s.seat.me.1 ≡ []) × (s.seat.me.0.hand ≡ Empty)
         × AreLeaves s.leaves s.seat.me.0.todo };
