@@ -3,15 +3,15 @@
 //! builds ten times a bottom structure of 524,288 triangles with 32-bit indices, `ray_bench_builds
 //! tree 10` as often a tree over their cells' boxes, and `ray_bench_builds top 10` a top structure
 //! of 65,536 instances; `fast` builds trees by keys over the same boxes, and `wide` makes a wide
-//! tree of one. Each prints how often it built, of how many, and how many of them are active, or
+//! tree of one; `climb` refits one by a seat, `climb-by-four` by four, and `climb-by-none` only
+//! makes what they share. Each prints how often it built, of how many, and how many of them are active, or
 //! how many leaves or nodes there are. `ray_bench_builds open 10` serializes a bottom structure
 //! of 1,048,576 triangles, opens the form ten times, and prints of how many bytes it is and how
 //! often it opened. Without words it does a little of each. Other words give the line `bad-words`
 //! and status 3.
 //!
-//! What is timed are the public calls of ray_bottom, ray_top, ray_tree, ray_morton, ray_wide and
-//! ray_serial; what these
-//! do is their contracts' to say. It stands on them and on nothing of the program.
+//! What is timed are the public calls of ray_bottom, ray_top, ray_tree, ray_morton, ray_climb,
+//! ray_wide and ray_serial; what these do is their contracts' to say. It stands on them and on nothing of the program.
 #![tactic(auto)]
 
 mod bench_error;
@@ -22,7 +22,7 @@ mod structures;
 use crate::bench_error::BenchError;
 use crate::field::Field;
 use crate::size::Size;
-use crate::structures::{bottom, boxes, fast_tree, instances, opens, top, tree, wide};
+use crate::structures::{bottom, boxes, climbs, fast_tree, instances, opens, top, tree, wide};
 use ray_serial::serialize;
 use std::env;
 use std::process::ExitCode;
@@ -50,6 +50,8 @@ fn run<R: Env + AllocGlobal + Print + Threads + Sync>(rt: &R) -> Result<(), Benc
             report_trees(rt, Size::Little, 1)?;
             report_fast_trees(rt, Size::Little, 1)?;
             report_wide_trees(rt, Size::Little, 1)?;
+            report_climbs(rt, Size::Little, 1, 1)?;
+            report_climbs(rt, Size::Little, 1, 4)?;
             report_opens(rt, Size::Little, 1)
         }
         [work, times] => {
@@ -62,6 +64,9 @@ fn run<R: Env + AllocGlobal + Print + Threads + Sync>(rt: &R) -> Result<(), Benc
                 "tree" => report_trees(rt, Size::Large, times),
                 "fast" => report_fast_trees(rt, Size::Large, times),
                 "wide" => report_wide_trees(rt, Size::Large, times),
+                "climb" => report_climbs(rt, Size::Large, times, 1),
+                "climb-by-four" => report_climbs(rt, Size::Large, times, 4),
+                "climb-by-none" => report_climbs(rt, Size::Large, times, 0),
                 "open" => report_opens(rt, Size::Greatest, times),
                 _ => Err(BenchError::BadWords),
             }
@@ -145,6 +150,20 @@ fn report_wide_trees<R: AllocGlobal + Print>(
         nodes = wide(rt.alloc(), &binary)?.nodes();
     }
     println!(rt; "wide {times} leaves {} nodes {nodes}", binary.leaves())?;
+    Ok(())
+}
+
+// Refits a tree by so many seats, and prints how many leaves it has. What no seat does is made
+// alone.
+fn report_climbs<R: AllocGlobal + Print + Threads + Sync>(
+    rt: &R,
+    size: Size,
+    times: u32,
+    seats: u32,
+) -> Result<(), BenchError> {
+    let items = boxes(rt.alloc(), size)?;
+    let leaves = climbs(rt, items.as_slice(), times, seats)?;
+    println!(rt; "climb {times} leaves {leaves} seats {seats}")?;
     Ok(())
 }
 

@@ -1,9 +1,11 @@
-ghost use Rattle.std.specs.Prelude.{◌≤◌};
+ghost use Rattle.std.specs.Prelude.{◌≤◌, ◌^◌, length};
+ghost use Rattle.ray_climb.specs.Refits.{HasActivity};
 
 use crate::field::Field;
 use crate::size::Size;
 use ray_bottom::{Bottom, Builder, TriangleInfo};
 use ray_bytes::{Format, IndexView, InstanceView, VertexView};
+use ray_climb::{Climb, climb_by};
 use ray_flags::BuildFlags;
 use ray_geom::{Box3, Vec3};
 use ray_morton::build_fast;
@@ -109,6 +111,42 @@ pub(crate) fn fast_tree<R: AllocGlobal + Threads + Sync>(
     items: &[Option<Box3>],
 ) -> Result<Tree, AllocError> {
     build_fast(rt, rt.alloc(), &items[..items.len().min(MOST_ITEMS)])
+}
+
+/// So many climbs of a tree over the first boxes, of at most 2^20, and how many leaves it has.
+pub(crate) fn climbs<R: AllocGlobal + Threads + Sync>(
+    rt: &R,
+    items: &[Option<Box3>],
+    times: u32,
+    seats: u32,
+) -> Result<u32, AllocError> {
+    let items = &items[..items.len().min(MOST_ITEMS)];
+    let tree = build_median(rt.alloc(), items)?;
+    for _ in 0..times {
+        climb(rt, &tree, items, seats)?;
+    }
+    Ok(tree.leaves())
+}
+
+// A climb of a copy of a tree to the items that it is over, by so many seats, 4 or 1, or by none:
+// then it is only made.
+#[inline(never)]
+fn climb<R: AllocGlobal + Threads + Sync>(
+    rt: &R,
+    tree: &Tree,
+    items: &[Option<Box3>],
+    seats: u32,
+) -> Result<(), AllocError>
+    requires few { length items.now ≤ 2 ^ 20 }
+    requires activity { HasActivity tree.now items.now }
+{
+    let Ok((climb, seat)) = Climb::new(rt.alloc(), tree.copy()?, items) else {
+        return Err(AllocError);
+    };
+    if seats > 0 {
+        let _seat = climb_by(rt, &climb, seat, tree.leaves(), seats == 4);
+    }
+    Ok(())
 }
 
 /// The wide tree of a tree.

@@ -1,0 +1,11 @@
+use Rattle.std.proofs.Common.{◌+◌, ◌*◌, ◌<◌, length, sym, subst}
+use Rattle.ray_climb.proofs.Words.{high_in}
+use Rattle.ray_climb.proofs.Allowed.{stores_high_at}
+use Rattle.ray_climb.proofs.steps.store_high.Goals as goal
+
+pub store-requires : goal.store-requires
+store-requires c = (
+  c.requires.own,
+  subst (λ w. 3 * c.args.at.node + 2 < w) (sym c.requires.table.long) (high_in (length c.args.shared.now.key.tree.nodes) c.args.at.node c.requires.small),
+  stores_high_at _ _ _ _ c.args.at.leaf c.args.at.node c.args.at.low c.args.at.high c.requires.hand,
+)
