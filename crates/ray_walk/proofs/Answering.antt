@@ -1,11 +1,10 @@
 -- What a walk of all that a ray is traced through answers is the answer of the trace.
-use Rattle.std.proofs.Common.{ℕ, zero, suc, ◌≡◌, ◌+◌, ◌++◌, ◌<◌, ◌≤◌, Option, Some, None, List, [], ◌∷◌, length, map, get_or, option_map, refl, sym, ap, subst, ◌∙◌, arith}
-use Rattle.std.specs.Prelude.{All, IfSome, slice_get, option_and_then}
-use Rattle.std.specs.List.{flat_map, sum_by}
+use Rattle.std.proofs.Common.{ℕ, zero, suc, ◌≡◌, ◌<◌, Option, Some, None, List, [], ◌∷◌, length, get_or, option_map, refl, sym, ap, subst, ◌∙◌, arith}
+use Rattle.std.specs.Prelude.{IfOk, IfSome, Result, Ok, Err, slice_get, option_and_then}
+use Rattle.std.specs.List.{flat_map}
 use Rattle.std.specs.List.Sorted.{IsPermutation}
 use Rattle.std.proofs.lemmas.List.{get_or-map, length-map}
 use Rattle.std.proofs.lemmas.List.Sorted.{IsPermutation-trans, IsPermutation-sym, sum_by-IsPermutation, Contains-permutation}
-use Rattle.ray_geom.specs.Boxes.{BoxValue}
 use Rattle.ray_tree.specs.declared.node.Node.{Node}
 use Rattle.ray_tree.specs.Trees.{shape_at, item_box}
 use Rattle.ray_morton.specs.KeyOrder.{items_below}
@@ -17,7 +16,6 @@ use Rattle.ray_top.specs.InstanceReading.{bounds_in}
 use Rattle.ray_top.specs.Trees as tops
 use Rattle.ray_query.specs.declared.candidate.Candidate.{Candidate}
 use Rattle.ray_query.specs.declared.decision.Decision.{Decision}
-use Rattle.ray_query.specs.declared.found.Found.{Found}
 use Rattle.ray_query.specs.Play.{play, start}
 use Rattle.ray_nearest.specs.Parts.{scene_of}
 use Rattle.ray_nearest.specs.Answer.{answer_in}
@@ -140,3 +138,15 @@ module _ (s : Traced) (w : IsWalkable s) where
       → answer_in meaning number s.flags (traced_scene s) ≡ trace_answer meaning s.top.contents (structures_in s.bottoms) s.ray number s.flags s.mask
   unfolding traced_scene candidates
   walk-answer meaning number = ap (λ fs. (play meaning number s.flags start fs).committed) same-order
+
+-- the same of a scene that is told by its parts
+pub trace-answer : (s t : Traced) → IsWalkable s → s ≡ t → (meaning : Candidate → Decision) (number : ℕ)
+    → answer_in meaning number t.flags (traced_scene s) ≡ trace_answer meaning t.top.contents (structures_in t.bottoms) t.ray number t.flags t.mask
+trace-answer s t w same meaning number =
+    subst (λ (u : Traced). answer_in meaning number u.flags (traced_scene s) ≡ trace_answer meaning u.top.contents (structures_in u.bottoms) u.ray number u.flags u.mask) same
+    (walk-answer s w meaning number)
+
+-- what is answered, where it is answered
+pub other-answer : {A E : Type 0} (r : Result A E) (x y : A) → x ≡ y → IfOk r (λ a. a ≡ x) → IfOk r (λ a. a ≡ y)
+other-answer (Ok a) x y same is = is ∙ same
+other-answer (Err e) x y same is = is

@@ -1,13 +1,13 @@
 -- What is found from a node of a tree down, as what is found of the items there from the left.
-use Rattle.std.proofs.Common.{ℕ, zero, suc, ◌≡◌, ◌+◌, ◌++◌, ◌<◌, Option, Some, None, List, [], ◌∷◌, length, take, drop, refl, sym, ap, subst, ◌∙◌, arith}
+use Rattle.std.proofs.Common.{ℕ, zero, suc, ◌≡◌, ◌+◌, ◌++◌, ◌<◌, Some, List, [], ◌∷◌, length, refl, sym, ap, ◌∙◌, arith}
 use Rattle.std.specs.List.{flat_map}
 use Rattle.std.proofs.lemmas.List.{append-nil}
 use Rattle.std.proofs.lemmas.List.Concat.{flat_map-cons}
 use Rattle.std.proofs.lemmas.Grind.{flat_map-append}
 use Rattle.ray_tree.specs.declared.node.Node.{Node}
 use Rattle.ray_tree.specs.declared.node.Node.TheVariants as nodes
-use Rattle.ray_tree.specs.Shapes.{Shape, Tip, Fork, node_at}
-use Rattle.ray_tree.specs.Trees.{TreeValue, IsShape, shape_at}
+use Rattle.ray_tree.specs.Shapes.{node_at}
+use Rattle.ray_tree.specs.Trees.{IsShape, shape_at}
 use Rattle.ray_tree.specs.Waits.{weight}
 use Rattle.ray_tree.proofs.NodeLaws.{at_leaf, at_inner}
 use Rattle.ray_morton.specs.KeyOrder.{items_below}

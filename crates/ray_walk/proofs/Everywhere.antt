@@ -1,46 +1,42 @@
 -- What a walk finds is what the ray finds, in another order.
-use Rattle.std.proofs.Common.{ℕ, zero, suc, ◌≡◌, ◌+◌, ◌++◌, ◌<◌, ◌≤◌, Bool, true, false, Option, Some, None, List, [], ◌∷◌, length, map, get_or, option_map, refl, sym, ap, subst, ◌∙◌, inl, inr, arith}
-use Rattle.std.specs.Prelude.{◌⊎◌, All, IfSome, IsSome, slice_get, option_and_then, is_some, if◌then◌else◌}
+use Rattle.std.proofs.Common.{ℕ, zero, suc, ◌≡◌, ◌<◌, ◌≤◌, Bool, true, false, Option, Some, None, List, [], ◌∷◌, length, get_or, option_map, refl, sym, ap, subst, ◌∙◌, inl, inr, arith}
+use Rattle.std.specs.Prelude.{◌⊎◌, All, IsSome, slice_get, option_and_then, is_some, if◌then◌else◌}
 use Rattle.std.specs.List.{flat_map}
 use Rattle.std.specs.List.Sorted.{IsPermutation}
-use Rattle.std.proofs.lemmas.List.{append-nil, get_or-map, length-map}
+use Rattle.std.proofs.lemmas.List.{append-nil}
 use Rattle.std.proofs.lemmas.List.Concat.{flat_map-cons}
 use Rattle.std.proofs.lemmas.List.Elements.{All-nil}
-use Rattle.std.proofs.lemmas.List.Sorted.{IsPermutation-refl, IsPermutation-trans}
+use Rattle.std.proofs.lemmas.List.Sorted.{IsPermutation-refl}
 use Rattle.ray_geom.specs.Boxes.{BoxValue, corners_of}
 use Rattle.ray_geom.specs.Transform.{MatrixValue}
 use Rattle.ray_geom.proofs.LeastBoxes.{IsLeastOf-boxes}
 use Rattle.ray_prune.specs.Pruning.{box_of_images}
 use Rattle.ray_prune.proofs.Corners.{IsImageBox-fold}
 use Rattle.ray_tree.specs.declared.node.Node.{Node}
-use Rattle.ray_tree.specs.Shapes.{Shape, shape_in}
-use Rattle.ray_tree.specs.Trees.{TreeValue, TreeOver, shape_at, times, active, active_of, item_box}
+use Rattle.ray_tree.specs.Shapes.{shape_in}
+use Rattle.ray_tree.specs.Trees.{TreeValue, TreeOver, shape_at, times, active, item_box}
 use Rattle.ray_tree.specs.Local.{IsActive}
 use Rattle.ray_tree.proofs.Counting.{has_items, active-below}
 use Rattle.ray_tree.proofs.Rooted.{has_root}
 use Rattle.ray_tree.proofs.Under.{shape_zero}
 use Rattle.ray_morton.specs.KeyOrder.{items_below}
 use Rattle.ray_bottom.specs.declared.geometry.Geometry.{Geometry}
-use Rattle.ray_bottom.specs.Contents.{ContentsValue, active_boxes, bounds_of, count_of}
-use Rattle.ray_bottom.specs.Slots.{structure_at, contents_at}
+use Rattle.ray_bottom.specs.Contents.{active_boxes, bounds_of, count_of}
+use Rattle.ray_bottom.specs.Slots.{structure_at}
 use Rattle.ray_bottom.specs.Trees as bottoms
 use Rattle.ray_top.specs.Instances.{InstanceValue}
-use Rattle.ray_top.specs.InstanceReading.{bounds_in}
 use Rattle.ray_top.specs.Trees as tops
-use Rattle.ray_query.specs.declared.found.Found.{Found}
-use Rattle.ray_nearest.specs.Parts.{AreParts, scene_of}
-use Rattle.ray_nearest.specs.Scene.{found_in as found_in_scene}
-use Rattle.ray_walk.specs.Candidates.{active_instance, found_in, found_in_geometry, found_in_instance, found_in_structure, is_seen, joined, placed}
-use Rattle.ray_walk.specs.Standing.{IsStanding, structures_in}
-use Rattle.ray_walk.specs.Sound.{IsWalkable, prim_box}
-use Rattle.ray_walk.specs.Traced.{Traced, Placement, IsNode, found_at_place, found_in_placed, found_of_item, parts_of, placement_at, placement_of, ref, root_in, root_of_placement, roots_by, roots_of, top_ref}
-use Rattle.ray_walk.proofs.Placing.{All-at}
+use Rattle.ray_nearest.specs.Parts.{AreParts}
+use Rattle.ray_walk.specs.Candidates.{active_instance, found_in_geometry, found_in_instance, found_in_structure, is_seen, joined}
+use Rattle.ray_walk.specs.Standing.{structures_in}
+use Rattle.ray_walk.specs.Sound.{IsWalkable}
+use Rattle.ray_walk.specs.Traced.{Traced, Placement, IsNode, found_at_place, found_in_placed, found_of_item, parts_of, placement_at, placement_of, ref, root_in, roots_by}
 use Rattle.ray_walk.proofs.WellPlaced.{is_placement}
-use Rattle.ray_walk.proofs.Spread.{IsSpread, joined-spread, joined-permuted}
+use Rattle.ray_walk.proofs.Spread.{IsSpread, joined-spread}
 use Rattle.ray_walk.proofs.Leaves.{items-once}
 use Rattle.ray_walk.proofs.Aligned.{item-aligned, joined-places}
 use Rattle.ray_walk.proofs.Missing.{inactive-none, prim-active}
-use Rattle.ray_walk.proofs.Every.{all, of_instance, bottom-every, top-every}
+use Rattle.ray_walk.proofs.Every.{all, of_instance, bottom-every}
 
 -- ---- items
 

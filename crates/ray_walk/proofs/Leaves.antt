@@ -1,5 +1,5 @@
 -- What is found from a node of a tree down is what is found of the items there, from the leftmost leaf on.
-use Rattle.std.proofs.Common.{ℕ, zero, suc, ◌≡◌, ◌+◌, ◌++◌, ◌<◌, ◌≤◌, Option, List, [], ◌∷◌, length, take, drop, refl, sym, ap, subst, ◌∙◌, inl, inr, arith}
+use Rattle.std.proofs.Common.{ℕ, ◌≡◌, ◌+◌, Option, List, refl, ◌∙◌}
 use Rattle.ray_geom.specs.Boxes.{BoxValue}
 use Rattle.ray_tree.specs.Shapes.{Shape, Gone, Tip, Fork}
 use Rattle.ray_tree.specs.Trees.{TreeValue, TreeOver, shape_at, times, active}

@@ -31,3 +31,4 @@ pub mod InBounds
 pub mod Seam
 pub mod InnerNests
 pub mod NodesHold
+pub mod Pushing

@@ -1,8 +1,6 @@
 -- Of a primitive that is inactive nothing is found, and a structure without active primitives has no root.
-use Rattle.std.proofs.Common.{ℕ, ◌≡◌, ◌<◌, ◌≤◌, Option, Some, None, List, [], ◌∷◌, length, get_or, option_map, refl, sym, ap, subst, ◌∙◌, arith}
-use Rattle.std.specs.Prelude.{All, IfSome, slice_get, option_and_then, is_some}
-use Rattle.std.specs.List.{filter_map}
-use Rattle.std.proofs.lemmas.List.Elements.{All-nil}
+use Rattle.std.proofs.Common.{ℕ, ◌≡◌, Option, Some, None, List, [], option_map, refl, ap, subst}
+use Rattle.std.specs.Prelude.{All, IfSome, slice_get, option_and_then}
 use Rattle.ray_geom.specs.Scene.{RayValue, TriValue}
 use Rattle.ray_geom.specs.Boxes.{BoxValue}
 use Rattle.ray_geom.specs.LeastBoxes.{box_of_tri}
@@ -14,9 +12,8 @@ use Rattle.ray_bottom.specs.declared.shapes.Shapes.{Shapes}
 use Rattle.ray_bottom.specs.declared.shapes.Shapes.TheVariants.{Triangles, Boxes}
 use Rattle.ray_bottom.specs.declared.prim_place.PrimPlace.{PrimPlace}
 use Rattle.ray_bottom.specs.Contents.{active_boxes, boxes_of, boxes_of_shapes}
-use Rattle.ray_bottom.specs.Meeting.{MeetValue, meet_of, shape_meet, triangle_meet, box_meet, hit_in_world}
+use Rattle.ray_bottom.specs.Meeting.{meet_of, shape_meet, triangle_meet, box_meet, hit_in_world}
 use Rattle.ray_bottom.proofs.Held.{All-flat_map, IfSome-filter_map}
-use Rattle.ray_query.specs.declared.found.Found.{Found}
 use Rattle.ray_walk.specs.Candidates.{Placed, admitted, found_at, placed}
 use Rattle.ray_walk.specs.Traced.{Traced, Placement, found_at_place, found_in_placed}
 use Rattle.ray_walk.specs.Sound.{shape_box, prim_box}

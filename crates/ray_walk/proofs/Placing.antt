@@ -48,7 +48,7 @@ placeable_here top bottoms i active standing = record {
   agrees = forces i.flags active.not_both;
 }
 
-placeable_at : (top : TopValue) (bottoms : Structures) (n : ℕ) (i : InstanceValue) → IsTop top → AreStanding top bottoms
+pub placeable_at : (top : TopValue) (bottoms : Structures) (n : ℕ) (i : InstanceValue) → IsTop top → AreStanding top bottoms
     → slice_get top.contents.instances n ≡ Some (Some i) → IsPlaceable bottoms i
 placeable_at top bottoms n i limits standing at =
     let is : IsInstance top.used (Some i) = All-at (IsInstance top.used) top.contents.instances n (Some i) limits.each at in

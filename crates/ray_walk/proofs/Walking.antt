@@ -1,41 +1,25 @@
 -- The walk of what a ray is traced through: its parts keep the laws of parts, and what it answers is the answer of the trace.
-use Rattle.std.proofs.Common.{ℕ, zero, suc, ◌≡◌, ◌+◌, ◌*◌, ◌^◌, ◌++◌, ◌<◌, ◌≤◌, Option, Some, None, List, [], ◌∷◌, length, map, get_or, option_map, refl, sym, ap, subst, ◌∙◌, arith}
-use Rattle.std.specs.Prelude.{All, IfSome, slice_get, option_and_then}
-use Rattle.std.specs.List.{flat_map, sum_by}
-use Rattle.std.specs.List.Sorted.{IsPermutation}
-use Rattle.std.proofs.lemmas.List.{get_or-map, length-map}
+use Rattle.std.proofs.Common.{ℕ, ◌≡◌, ◌+◌, ◌^◌, ◌++◌, ◌<◌, ◌≤◌, Option, Some, None, List, [], ◌∷◌, length, refl, sym, ap, subst, arith}
+use Rattle.std.specs.Prelude.{All}
+use Rattle.std.specs.List.{flat_map}
 use Rattle.std.proofs.lemmas.List.Elements.{All-nil, All-cons, All-tail}
 use Rattle.std.proofs.lemmas.List.Concat.{flat_map-cons}
-use Rattle.std.proofs.lemmas.List.Sorted.{IsPermutation-trans, IsPermutation-sym, Contains-permutation, sum_by-IsPermutation}
-use Rattle.ray_geom.specs.Boxes.{BoxValue}
 use Rattle.ray_tree.specs.declared.node.Node.{Node}
 use Rattle.ray_tree.specs.declared.node.Node.TheVariants as nodes
 use Rattle.ray_tree.specs.Shapes.{Shape, Gone, Tip, Fork, gone, node_at}
-use Rattle.ray_tree.specs.Trees.{TreeValue, TreeOver, IsShape, shape_at, item_box}
+use Rattle.ray_tree.specs.Trees.{TreeOver, shape_at}
 use Rattle.ray_tree.specs.Waits.{weight}
 use Rattle.ray_tree.proofs.NodeLaws.{at_inner}
 use Rattle.ray_tree.proofs.Sizes.{over-few, size-is, size_of}
-use Rattle.ray_morton.specs.KeyOrder.{items_below}
-use Rattle.ray_bottom.specs.Contents.{ContentsValue, bounds_of, total_of}
-use Rattle.ray_bottom.specs.Slots.{structure_at}
+use Rattle.ray_bottom.specs.Contents.{total_of}
 use Rattle.ray_bottom.specs.Trees as bottoms
 use Rattle.ray_bottom.proofs.Places.{items-few}
-use Rattle.ray_top.specs.Instances.{InstanceValue}
-use Rattle.ray_top.specs.InstanceReading.{bounds_in}
-use Rattle.ray_top.specs.Trees as tops
-use Rattle.ray_query.specs.declared.found.Found.{Found}
 use Rattle.ray_nearest.specs.declared.node.WalkNode.{WalkNode}
 use Rattle.ray_nearest.specs.declared.node.WalkNode.TheVariants.{TopInner, TopLeaf, Inner, Leaf}
 use Rattle.ray_nearest.specs.Parts.{AreParts, IsBelow, Nests}
-use Rattle.ray_walk.specs.Candidates.{active_instance, found_in, found_in_instance}
-use Rattle.ray_walk.specs.Standing.{IsStanding, structures_in}
 use Rattle.ray_walk.specs.Sound.{IsWalkable}
-use Rattle.ray_walk.specs.Traced.{Traced, Placement, IsNode, IsTopNode, IsBottomNode, below, children, children_of, entry, items_at, items_by, parts_of, placement_at, placement_of, rank, rank_of_placement, ref, ref_by, root_in, roots_by, roots_of, top_children, top_ref, top_ref_by}
-use Rattle.ray_walk.proofs.Members.{Member}
-use Rattle.ray_walk.proofs.Placing.{All-at}
+use Rattle.ray_walk.specs.Traced.{Traced, Placement, IsNode, below, children, children_of, entry, items_at, parts_of, placement_at, rank, rank_of_placement, ref, ref_by, root_in, roots_by, roots_of, top_children, top_ref, top_ref_by}
 use Rattle.ray_walk.proofs.WellPlaced.{is_placement}
-use Rattle.ray_walk.proofs.Spread.{joined-spread, joined-permuted}
-use Rattle.ray_walk.proofs.Every.{all, of_instance, top-every}
 use Rattle.ray_walk.proofs.NodesHold.{holds_at, in_order_at, nests_below}
 
 -- ---- ranks

@@ -10,9 +10,9 @@ use Rattle.ray_bottom.specs.declared.geometry.Geometry.{Geometry}
 use Rattle.ray_bottom.specs.declared.shapes.Shapes.{Shapes}
 use Rattle.ray_bottom.specs.declared.shapes.Shapes.TheVariants.{Triangles, Boxes}
 use Rattle.ray_bottom.specs.declared.prim_place.PrimPlace.{PrimPlace}
-use Rattle.ray_bottom.specs.Contents.{IsContents, bounds_of}
+use Rattle.ray_bottom.specs.Contents.{bounds_of}
 use Rattle.ray_bottom.specs.Slots.{AreSound, IsSound}
-use Rattle.ray_bottom.specs.Trees.{BottomWithTree, without_tree, items_of, place_at}
+use Rattle.ray_bottom.specs.Trees.{items_of, place_at}
 use Rattle.ray_top.specs.Contents.{IsTop}
 use Rattle.ray_top.specs.Trees.{without_tree as top_without_tree, items_of as top_items}
 use Rattle.ray_walk.specs.Standing.{AreStanding, structures_in}

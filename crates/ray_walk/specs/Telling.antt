@@ -1,5 +1,5 @@
 -- Words of private calls alone, which a reader of the public contracts needs not.
-use Rattle.std.specs.Prelude.{ℕ, ◌≡◌, ◌≤◌, cond, Some, List}
+use Rattle.std.specs.Prelude.{◌≡◌, Some}
 use Rattle.ray_contents.specs.Bounds.{KeepsBounds}
 use Rattle.ray_flags.specs.Admission.{ForcesBoth}
 use Rattle.ray_bottom.specs.Contents.{ContentsValue as BottomContents, bounds_of}

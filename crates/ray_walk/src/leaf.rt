@@ -3,11 +3,11 @@ ghost use Rattle.std.specs.Prelude.{◌≡◌, ◌+◌, ◌<◌, ◌≤◌, OnOk
 ghost use Rattle.std.specs.Option.{option_to_list};
 ghost use Rattle.ray_contents.specs.Bounds.{KeepsBounds};
 ghost use Rattle.ray_bottom.specs.Contents.{bounds_of};
+ghost use Rattle.ray_bottom.specs.Trees.{places_below};
 ghost use Rattle.ray_flags.specs.Admission.{AsksBoth, ForcesBoth};
-ghost use Rattle.ray_nearest.specs.Adding.{Adds, AddsFound, IsOpened};
-ghost use Rattle.ray_nearest.specs.declared.node.WalkNode.TheVariants.{Leaf};
-ghost use Rattle.ray_walk.specs.Scenes.{found_by_place, placement_value};
-ghost use Rattle.ray_walk.specs.Traced.{found_at_place, placement_at, tests, traced_scene};
+ghost use Rattle.ray_nearest.specs.Adding.{Adds, AddsFound};
+ghost use Rattle.ray_walk.specs.Scenes.{AddsFoundAt, found_by_place, placement_value};
+ghost use Rattle.ray_walk.specs.Traced.{found_at_place, placement_at};
 
 use crate::finding::find;
 use crate::looked::Looked;
@@ -32,9 +32,9 @@ pub(crate) fn open_leaf<L: Ledger>(
 ) -> Result<(), NoMemory>
     requires is_it { placement_at scene.now i ≡ Some (placement_value looked.now) }
     requires within { n < length looked.now.bottom.now.tree.nodes }
-    ensures opened { OnOk result
-        (IsOpened limit (traced_scene scene.now) (Leaf i n) turns.old turns.new) }
-    ensures steps { OnOk result (steps.new ≡ steps.old + tests scene.now (Leaf i n)) }
+    ensures found { OnOk result (AddsFoundAt limit scene.now i (placement_value looked.now)
+        (places_below looked.now.bottom.now n) turns.old turns.new) }
+    ensures steps { OnOk result (steps.new ≡ steps.old + length (places_below looked.now.bottom.now n)) }
     ensures rising { steps.old ≤ steps.new }
 {
     for place in looked.bottom.items_of(n) {
@@ -57,6 +57,7 @@ fn find_at<L: Ledger>(
         ≡ found_at_place scene.now i (placement_value looked.now) place }
     ensures step { steps.new ≡ steps.old + 1 }
 {
+    scene.known();
     find_in(looked, i, place, scene.ray(), scene.flags(), steps)
 }
 

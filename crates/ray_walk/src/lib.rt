@@ -24,7 +24,10 @@ mod plain;
 mod ray_scene;
 #[cfg(test)]
 mod tests;
+mod tracing;
 
 pub use laws::{agreeing_law, candidates_law, numbers_law, standing_law};
 pub use plain::trace_plain;
+pub use ray_nearest::Turns;
 pub use std::alloc::AllocError as NoMemory;
+pub use tracing::trace_ray;

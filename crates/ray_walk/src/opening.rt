@@ -3,7 +3,7 @@ ghost use Rattle.std.specs.Prelude.{◌≡◌, ◌+◌, ◌<◌, ◌≤◌, OnOk
 ghost use Rattle.ray_geom.specs.ObjectRay.{object_of};
 ghost use Rattle.ray_nearest.specs.Adding.{AddsNode, AddsNodes, AddsOne, IsOpened};
 ghost use Rattle.ray_tree.specs.Shapes.{node_at};
-ghost use Rattle.ray_walk.specs.Scenes.{placement_value};
+ghost use Rattle.ray_walk.specs.Scenes.{AddsNodeOf, AddsNodesOf, placement_value};
 ghost use Rattle.ray_walk.specs.Telling.{instance_of};
 ghost use Rattle.ray_walk.specs.Traced.{IsNode, IsBottomNode, children_of, entry, entry_in};
 ghost use Rattle.ray_walk.specs.Traced.{entry_of_placement, items_at, placement_at, placement_of, ref};

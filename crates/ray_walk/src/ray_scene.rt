@@ -115,7 +115,9 @@ impl<'a> RayScene<'a> {
     /// What is known of all that is looked at.
     pub(crate) fn known(&self)
         ensures { IsWalkable self.now }
-    {}
+    {
+        let _flags = self.flags;
+    }
 }
 
 impl<'a> Scene for RayScene<'a> {

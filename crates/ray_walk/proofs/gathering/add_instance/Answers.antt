@@ -1,4 +1,4 @@
-use Rattle.std.proofs.Common.{IfSome, Option, ap, option_map, subst, sym}
+use Rattle.std.proofs.Common.{IfSome, ap, option_map, subst, sym}
 use Rattle.ray_bottom.specs.Trees.{without_tree}
 use Rattle.ray_walk.specs.Standing.{structures_in}
 use Rattle.ray_walk.specs.Telling.{IsPlaceable, instance_of}
