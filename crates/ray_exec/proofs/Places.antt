@@ -78,10 +78,36 @@ module _ (rec : List Command) (m : Memory) where
       subst (λ k. AreGiven rec m (take k (piece ∷ pieces)) ((out ∷ outs) ++ given ∷ [])) (let e : suc (n + 1) ≡ suc n + 1 = omega arith in e)
       (are.0, given_more pieces outs n d given are.1 (omega (arith, less)) is)
 
+  -- so much is given, and the places from there on are left
+  pub record AreGivenTo (pieces : List Piece) (n : ℕ) (outs : List Given) (places : List (Option Given)) : Type 0 where
+    pub given : AreGiven rec m (take n pieces) outs
+    pub left : AreFilled rec m (drop n pieces) places
+
+  pub next_is : (pieces : List Piece) (n : ℕ) (d : Piece) (outs : List Given) (all : List (Option Given)) (place : Option Given) (places : List (Option Given))
+      → AreGivenTo pieces n outs all → all ≡ place ∷ places → IsNext pieces n d place places
+  next_is pieces n d outs all place places to split = filled_next pieces n d place places (subst (AreFilled rec m (drop n pieces)) split to.left)
+
+  pub given_to_next : (pieces : List Piece) (n k more : ℕ) (d : Piece) (outs new : List Given) (all : List (Option Given)) (place : Option Given) (places : List (Option Given)) (given : Given)
+      → AreGivenTo pieces n outs all → all ≡ place ∷ places → k ≡ n → IsGivenBy rec m (get_or pieces k d) given → more ≡ n + 1 → new ≡ outs ++ given ∷ []
+      → AreGivenTo pieces more new places
+  given_to_next pieces n k more d outs new all place places given to split at is one same =
+      let next = next_is pieces n d outs all place places to split in
+      subst (λ j. AreGivenTo pieces j new places) (sym one)
+      (subst (λ gs. AreGivenTo pieces (n + 1) gs places) (sym same)
+      (record {
+        given = given_more pieces outs n d given to.given next.within (subst (λ j. IsGivenBy rec m (get_or pieces j d) given) at is);
+        left = next.later;
+      }))
+
   -- all are given
-  pub all_given : (pieces : List Piece) (outs : List Given) (n : ℕ) → AreGiven rec m (take n pieces) outs → AreFilled rec m (drop n pieces) [] → AreGiven rec m pieces outs
+  all_given : (pieces : List Piece) (outs : List Given) (n : ℕ) → AreGiven rec m (take n pieces) outs → AreFilled rec m (drop n pieces) [] → AreGiven rec m pieces outs
   all_given [] outs zero are none = are
   all_given [] outs (suc n) are none = are
   all_given (piece ∷ pieces) outs zero are none = absurd none
   all_given (piece ∷ pieces) [] (suc n) are none = absurd are
   all_given (piece ∷ pieces) (out ∷ outs) (suc n) are none = (are.0, all_given pieces outs n are.1 none)
+
+  pub given_to_all : (pieces : List Piece) (n k : ℕ) (outs : List Given) (places : List (Option Given)) → AreGivenTo pieces n outs places → k ≡ 0 → k ≡ length places
+      → AreGiven rec m pieces outs
+  given_to_all pieces n k outs places to none many =
+      all_given pieces outs n to.given (subst (AreFilled rec m (drop n pieces)) (no_items places k none many) to.left)

@@ -9,15 +9,16 @@ ghost use Rattle.ray_exec.specs.Waves.{IsPart};
 use crate::drawing::{Drawn, Worked, fork};
 use crate::gate::Gate;
 use crate::given::{Given, given_now};
+use crate::host::is_host;
 use ray_claim::{ClaimSeat, Claims};
-use ray_cmd::Recording;
+use ray_cmd::{Command, Recording};
 use ray_device::Piece;
 use ray_memory::State;
 use std::alloc::{AllocError as NoMemory, Global};
 use std::thread::Threads;
 
 // What each piece of a wave gives, all of the memory as it is, in order. So many workers fetch them,
-// or this thread alone where there is one piece or one worker.
+// or this thread alone where there are less than two to fetch.
 pub(crate) fn fetch_wave<R: Threads + Sync, G: Gate + Sync>(
     rt: &R,
     alloc: Global,
@@ -49,25 +50,38 @@ fn places<R: Threads + Sync, G: Gate + Sync>(
     requires ready { AreReady rec.now (memory_of state.now) pieces.now }
     ensures { IfOk result (λ v. AreFilled rec.now (memory_of state.now) pieces.now v.items) }
 {
+    let workers = worth(rec, pieces, workers);
     match count_of(pieces) {
         Some(count) => {
-            if workers.min(count) < 2 {
+            if workers < 2 {
                 empty(alloc, pieces)
             } else {
-                draw_wave(
-                    rt,
-                    alloc,
-                    state,
-                    rec,
-                    pieces,
-                    count,
-                    workers.min(count),
-                    gate,
-                )
+                draw_wave(rt, alloc, state, rec, pieces, count, workers, gate)
             }
         }
         None => empty(alloc, pieces),
     }
+}
+
+// How many workers, of so many, have a piece to fetch: no command of the host, and no barrier.
+fn worth(rec: &Recording, pieces: &[Piece], workers: u32) -> u32
+    ensures { result ≤ workers }
+{
+    let mut worth = 0;
+    for piece in pieces {
+        if worth == workers {
+            break;
+        }
+        if piece.command < rec.len() && reads(rec.command(piece.command)) {
+            worth += 1;
+        }
+    }
+    worth
+}
+
+// Whether the fetch of a command's piece may do anything.
+fn reads(command: &Command) -> bool {
+    !is_host(command) && !matches!(command, Command::Barrier { .. })
 }
 
 // How many pieces there are, where numbers of 32 bits tell it.
