@@ -14,6 +14,7 @@ const TURNS: u64 = 1_000_000_000;
 
 // Waits in the first fetch that begins, of the pieces of the commands from one number to another,
 // until so many others of these have begun.
+#[derive(Drop)]
 struct Meeting {
     from: u32,
     to: u32,
