@@ -43,7 +43,7 @@ impl Gate for Meeting {
 }
 
 // A meeting of these commands, before anything has begun.
-fn meeting(from: u32, to: u32, others: u64) -> Meeting {
+fn gate_of(from: u32, to: u32, others: u64) -> Meeting {
     Meeting {
         from,
         to,
@@ -73,7 +73,7 @@ fn answer<R: Threads + Sync>(
 
 #[test]
 fn both_parts_of_a_trace_begin(rt: HostRuntime) -> Result<(), Fail> {
-    let gate = meeting(11, 11, 1);
+    let gate = gate_of(11, 11, 1);
     let words = "selfrun 1 1 128 --workers 2";
     let (status, _sink) = answer(&rt, rt.alloc(), words, "", &gate)?;
     assert_eq!(rt; status, Status::Done);
@@ -93,7 +93,7 @@ const FILLS: &str = concat!(
 
 #[test]
 fn two_fills_begin_together(rt: HostRuntime) -> Result<(), Fail> {
-    let gate = meeting(2, 3, 1);
+    let gate = gate_of(2, 3, 1);
     let (status, sink) = answer(&rt, rt.alloc(), "run --workers 2", FILLS, &gate)?;
     assert_eq!(rt; status, Status::Done);
     assert_eq!(rt; sink.bytes(), b"0100000002000000\n".as_slice());
@@ -103,7 +103,7 @@ fn two_fills_begin_together(rt: HostRuntime) -> Result<(), Fail> {
 
 #[test]
 fn one_worker_draws_what_the_other_leaves(rt: HostRuntime) -> Result<(), Fail> {
-    let gate = meeting(11, 11, 3);
+    let gate = gate_of(11, 11, 3);
     let words = "selfrun 1 1 256 --workers 2";
     let (status, _sink) = answer(&rt, rt.alloc(), words, "", &gate)?;
     assert_eq!(rt; status, Status::Done);
