@@ -1,4 +1,15 @@
+pub mod Cutting
+pub mod Ends
+pub mod Filling
+pub mod GoingOn
 pub mod Hosting
+pub mod Lists
+pub mod Numbering
+pub mod OneWave
+pub mod Places
 pub mod Progress
 pub mod Silent
 pub mod Stepping
+pub mod Telling
+pub mod UnderWay
+pub mod WaveTexts

@@ -1,2 +1,7 @@
 pub mod Runs
 pub mod Steps
+pub mod Waves
+pub mod Given
+pub mod Drawn
+pub mod Settled
+pub mod Progress

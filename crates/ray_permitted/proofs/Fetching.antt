@@ -126,17 +126,22 @@ sources_first all us among p first less sources = record {
   gave = λ q before_it member. gave_first all us q first (omega (arith, before_it, less)) (sources.gave q before_it member);
 }
 
-pub fetches_ready_by_sources : FetchesAreReadyBySources
-fetches_ready_by_sources rec n es i p e among rules permitted at fetches member sources =
+-- an action is ready in recording order where its sources gave outputs
+pub ready_by_sources : (rec : List Command) (n p : ℕ) (among : ℕ → Bool) → BreakNoRule rec n → p < length (first_actions rec n)
+    → among p ≡ true → AreSources (first_actions rec n) among p → IsReady (action_at (first_actions rec n) p) (memory_before (first_actions rec n) p)
+ready_by_sources rec n p among rules less member sources =
     let us : List Numbered = first_actions rec n in
-    let less = below_count rec n es i p e permitted at fetches in
     let u = item_at us p less in
     let first = are_first rec n in
     let piece = piece_at rec n p u.0 u.1 in
-    ready_there rec n es i p e rules permitted at fetches
-    (ready_first (actions rec) us p u.0 first less u.1
+    ready_first (actions rec) us p u.0 first less u.1
     (sources_enough rec n p u.0 among rules.accepted (first.item p u.0 u.1) piece.1.below member
-    (sources_first (actions rec) us among p first less sources)))
+    (sources_first (actions rec) us among p first less sources))
+
+pub fetches_ready_by_sources : FetchesAreReadyBySources
+fetches_ready_by_sources rec n es i p e among rules permitted at fetches member sources =
+    ready_there rec n es i p e rules permitted at fetches
+    (ready_by_sources rec n p among rules (below_count rec n es i p e permitted at fetches) member sources)
 
 pub at_each_fetch : AtEachFetch
 at_each_fetch = record { reads = fetches_read; ready = fetches_ready; sources = fetches_ready_by_sources }

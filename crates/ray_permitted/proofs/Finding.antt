@@ -1,6 +1,7 @@
 -- What each store along a permitted schedule finds, and what the actions of a wave read.
-use Rattle.std.proofs.Common.{◌≡◌, ◌<◌, ◌≤◌, ℕ, Bool, true, List, inl, inr, sym, ◌∙◌, ap, subst, arith, length, take}
-use Rattle.std.proofs.lemmas.Bool.{cases_eq}
+use Rattle.std.proofs.Common.{◌≡◌, ◌<◌, ◌≤◌, ℕ, Bool, true, false, List, inl, inr, refl, sym, ◌∙◌, ap, subst, arith, length, take}
+use Rattle.std.specs.Prelude.{◌==◌, ◌||◌, nat_lt}
+use Rattle.std.proofs.lemmas.Bool.{cases_eq, eq-eqb, eqb-true, lt-ltb, ltb-true, or_cases, or_left, or_right}
 use Rattle.std.proofs.lemmas.Option.{slice_get_within}
 use Rattle.ray_schedule.specs.Units.{Device, Memory, Work, memory_before}
 use Rattle.ray_schedule.specs.Conflicts.{AreOrdered, IsLocal, ReadAfterWrite, WriteAfterRead}
@@ -10,13 +11,17 @@ use Rattle.ray_schedule.specs.Schedules.{IsPermitted, StandsAt}
 use Rattle.ray_schedule.proofs.Course.{MayFetch, reads_in_order}
 use Rattle.ray_schedule.proofs.Permitted.{may_store, on_course, storing, unit-stores, unit_below}
 use Rattle.ray_schedule.proofs.Places.{StoredBefore}
+use Rattle.ray_cmd.specs.declared.command.Command.{Command}
+use Rattle.ray_action.specs.Memory as actions
+use Rattle.ray_action.specs.Outcomes.{Outcome, Gives, Breaks, Undefined, outcome_of}
+use Rattle.ray_action.specs.Pieces.{Numbered}
 use Rattle.ray_action.specs.Running.{action_at}
 use Rattle.ray_action.specs.Running as running
-use Rattle.ray_ready.specs.Laws.{first_actions}
+use Rattle.ray_ready.specs.Laws.{AreSources, IsGiven, first_actions}
 use Rattle.ray_ready.proofs.Local.{ready_local}
-use Rattle.ray_permitted.specs.Laws.{AtEachStore, StoresAreReady, StoresFindTheSame, WavesReadTheSame}
-use Rattle.ray_permitted.specs.Work.{work_of}
-use Rattle.ray_permitted.proofs.Fetching.{orderly}
+use Rattle.ray_permitted.specs.Laws.{AtEachStore, StoresAreReady, StoresFindTheSame, WavesAreReady, WavesReadTheSame}
+use Rattle.ray_permitted.specs.Work.{stores_nothing, work_of}
+use Rattle.ray_permitted.proofs.Fetching.{orderly, ready_by_sources}
 use Rattle.ray_permitted.proofs.Runs.{memory_is}
 
 -- ---- any device
@@ -126,3 +131,42 @@ pub waves_read_the_same : WavesReadTheSame
 waves_read_the_same rec n number v bound p memory rising done below is = λ l reads.
     waves_read (work_of rec n) number v bound p memory rising done below is l reads
     ∙ (λ j. memory_is rec (first_actions rec n) p j l)
+
+-- ---- readiness in a wave
+
+given_from : (x : Outcome) → stores_nothing x ≡ false → IsGiven x
+given_from (Gives output) e = tt
+given_from (Breaks fault) e = absurd cc
+given_from Undefined e = absurd cc
+
+wave_sources : (rec : List Command) (n : ℕ) (number : ℕ → ℕ) (v bound p : ℕ) (memory : actions.Memory)
+    → AreRising (work_of rec n).device number (work_of rec n).count → IsDoneTo (work_of rec n) number v bound memory → p < bound → number p ≡ v
+    → AreSources (first_actions rec n) (λ q. nat_lt (number q) v || q == p) p
+wave_sources rec n number v bound p memory rising done below is =
+    let us : List Numbered = first_actions rec n in
+    let within : bound ≤ length us = done.within in
+    record {
+      closed = λ q r l before upto member w reads.
+          let rises : number q < number r = rising q r l before (omega arith) (ReadAfterWrite w reads) in
+          or_left (nat_lt (number q) v) (q == p) (lt-ltb (number q) v
+          (elim (or_cases (nat_lt (number r) v) (r == p) member) [
+            | inl s ↦ (let less : number r < v = ltb-true (number r) v s in omega arith)
+            | inr s ↦ (let same : number r ≡ number p = ap number (eqb-true r p s) in omega arith)
+          ]));
+      gave = λ q before member.
+          let earlier : number q < v = elim (or_cases (nat_lt (number q) v) (q == p) member) [
+            | inl s ↦ ltb-true (number q) v s
+            | inr s ↦ (let same : q ≡ p = eqb-true q p s in absurd (omega arith))
+          ] in
+          given_from (outcome_of (action_at us q) (running.memory_before us q))
+          (ap (λ m. stores_nothing (outcome_of (action_at us q) m)) (sym (memory_is rec us q)) ∙ done.none_below q (omega arith) earlier);
+    }
+
+pub waves_are_ready : WavesAreReady
+waves_are_ready rec n number v bound p memory rules rising done below is =
+    let us : List Numbered = first_actions rec n in
+    let within : bound ≤ length us = done.within in
+    ready_local (action_at us p) (running.memory_before us p) memory
+    (λ l reads. sym (waves_read_the_same rec n number v bound p memory rising done below is l reads))
+    (ready_by_sources rec n p (λ q. nat_lt (number q) v || q == p) rules (omega (arith, below, within))
+    (or_right (nat_lt (number p) v) (p == p) (eq-eqb p p refl)) (wave_sources rec n number v bound p memory rising done below is))

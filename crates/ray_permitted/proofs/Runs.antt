@@ -26,7 +26,7 @@ either_way true x = refl
 either_way false x = refl
 
 -- what a store leaves is the same in both
-left_same : (a : Action) (x : Outcome) (l : Location) (old : Held l)
+pub left_same : (a : Action) (x : Outcome) (l : Location) (old : Held l)
     → (if not (stores_nothing x) && writes a l then left a x l old else old) ≡ (if writes a l then left a x l old else old)
 left_same a (Gives output) l old = refl
 left_same a (Breaks fault) l old = either_way (writes a l) old

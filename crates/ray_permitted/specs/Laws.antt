@@ -143,6 +143,14 @@ WavesReadTheSame =
     → IsDoneTo (work_of rec n) number v bound memory → p < bound → number p ≡ v
     → AgreeOn (areas_read (action_at (first_actions rec n) p)) memory (memory_before (first_actions rec n) p)
 
+-- and are ready there, whatever of the other commands break a data rule
+abbrev pub WavesAreReady : Type 0
+WavesAreReady =
+    (rec : List Command) (n : ℕ) (number : ℕ → ℕ) (v bound p : ℕ) (memory : Memory) → BreakNoRule rec n
+    → AreRising (work_of rec n).device number (work_of rec n).count
+    → IsDoneTo (work_of rec n) number v bound memory → p < bound → number p ≡ v
+    → IsReady (action_at (first_actions rec n) p) memory
+
 -- the outcomes of recording order, up to the first one that stores nothing, tell the run
 abbrev pub OutcomesTellTheRun : Type 0
 OutcomesTellTheRun =

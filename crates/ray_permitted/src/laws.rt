@@ -2,7 +2,8 @@ ghost use Rattle.ray_permitted.specs.Laws.{RulesGiveOrder, UnrefusedBreakNoRule}
 ghost use Rattle.ray_permitted.specs.Laws.{SchedulesComeToTheRun, RecordingsComeToTheirRun};
 ghost use Rattle.ray_permitted.specs.Laws.{SchedulesLeaveTheSame, RecordingOrderIsTheRun};
 ghost use Rattle.ray_permitted.specs.Laws.{SomeArePermitted, LongestChainsRise};
-ghost use Rattle.ray_permitted.specs.Laws.{WavesOfCommandsRun, WavesReadTheSame, OutcomesTellTheRun};
+ghost use Rattle.ray_permitted.specs.Laws.{WavesOfCommandsRun, WavesReadTheSame, WavesAreReady};
+ghost use Rattle.ray_permitted.specs.Laws.{OutcomesTellTheRun};
 ghost use Rattle.ray_permitted.specs.Laws.{AtEachFetch, AtEachStore};
 
 /// A law: of commands that break no rule, outcomes are told by what is read, conflicting actions
@@ -28,11 +29,12 @@ pub fn some_are_permitted()
     ensures chains { LongestChainsRise }
 {}
 
-/// A law: a run of commands in waves goes as in recording order, up to the first fault, and its
-/// outcomes tell the run. It does nothing. Own.
+/// A law: a run of commands in waves goes as in recording order, up to the first fault, each action
+/// of a wave below that is ready there, and its outcomes tell the run. It does nothing. Own.
 pub fn commands_run_in_waves()
     ensures waves { WavesOfCommandsRun }
     ensures reads { WavesReadTheSame }
+    ensures ready { WavesAreReady }
     ensures outcomes { OutcomesTellTheRun }
 {}
 

@@ -1,7 +1,8 @@
 //! Tests that cross crates and that no conformance case can say: of the program's one call with
 //! sources and sinks that fail, give or take a few bytes a call, and what holds of each of many
-//! inputs; of traces with a script as their client; and of builds from narrow and flat vertices. No
-//! other crate depends on it.
+//! inputs; with gates that wait for other pieces, so that workers are seen beside each other; of
+//! traces with a script as their client; and of builds from narrow and flat vertices. No other crate
+//! depends on it.
 #![tactic(auto)]
 
 #[cfg(test)]
@@ -10,6 +11,8 @@ mod answer;
 mod built;
 #[cfg(test)]
 mod failing;
+#[cfg(test)]
+mod meeting;
 #[cfg(test)]
 mod reading;
 #[cfg(test)]

@@ -9,4 +9,4 @@ pub returns-clause-every_order : goal.returns-clause-every_order
 returns-clause-every_order g c es may =
     let rec = c.args.rec.now in
     let n = c.args.until in
-    subst (λ (r : Run). IsRun r c.run_in_order.result) (sym (comes_to_the_run rec n es (orderly rec n c.requires.rules) may)) c.run_in_order.ensures.run
+    subst (λ (r : Run). IsRun r c.run.result) (sym (comes_to_the_run rec n es (orderly rec n c.requires.rules) may)) c.run.ensures.run

@@ -5,16 +5,16 @@ use Rattle.ray_action.specs.Storing.{put}
 use Rattle.ray_device.specs.Pieces.{piece_action}
 use Rattle.ray_memory.specs.State.{memory_of}
 use Rattle.ray_exec.proofs.Hosting.{can_be_stored}
-use Rattle.ray_exec.proofs.running.run_piece.Goals as goal
+use Rattle.ray_exec.proofs.in_order.run_piece.Goals as goal
 
 pub store-requires-clause-storable : goal.store-requires-clause-storable
 store-requires-clause-storable g c =
-    let given = c.in-Ok.ensures.value in
+    let given = c.in-Ok.ensures in
     can_be_stored c.args.rec.now c.args.piece c.in-Ok.out.piece c.in-Ok.out.output (memory_of c.args.state.now) given.0 c.requires.ready given.1
 
 pub returns-in-Ok-clause-ok : goal.returns-in-Ok-clause-ok
 returns-in-Ok-clause-ok g c =
-    let given = c.in-Ok.ensures.value in
+    let given = c.in-Ok.ensures in
     record {
       output = c.in-Ok.out.output;
       gives = given.1;

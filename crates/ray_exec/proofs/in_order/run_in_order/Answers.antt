@@ -5,9 +5,9 @@ use Rattle.ray_device.specs.Pieces.{is_device, piece_count}
 use Rattle.ray_device.proofs.Commands.{command_is}
 use Rattle.ray_memory.specs.State.{memory_of}
 use Rattle.ray_exec.proofs.Progress.{IsLeft, all_left, commands_close, commands_left, course_below, last_memory, none_left}
-use Rattle.ray_exec.proofs.Stepping.{host_done, moved, host_ready, host_stops, part_done, part_ready, part_stops, parts_begin, parts_end}
-use Rattle.ray_exec.proofs.running.run_in_order.Goals.{then-is_host+in_default, else-is_host+else-loop-part-test}
-use Rattle.ray_exec.proofs.running.run_in_order.Goals as goal
+use Rattle.ray_exec.proofs.Stepping.{host_done, moved, host_ready, part_done, part_ready, part_stops, parts_begin, parts_end}
+use Rattle.ray_exec.proofs.in_order.run_in_order.Goals.{then-is_host+in_default, else-is_host+else-loop-part-test}
+use Rattle.ray_exec.proofs.in_order.run_in_order.Goals as goal
 
 pub loop-command-init : goal.loop-command-init
 loop-command-init g c =
@@ -20,14 +20,6 @@ act-requires-clause-ready g c =
     let host : not (is_device (command_at rec i)) ≡ true =
     ap (λ x. not (is_device x)) (command_is rec i c.command.result.now c.command.ensures) ∙ (sym c.is_host.ensures ∙ c.if-is_host.true) in
     host_ready rec c.args.until i (course_below rec c.args.until) (memory_of c.loop-command.state) c.loop-command.text.items c.loop-command-test.true c.requires.within host c.loop-command.invariant
-
-pub returns-in-Err-clause-run : goal.returns-in-Err-clause-run
-returns-in-Err-clause-run g c =
-    let rec = c.args.rec.now in
-    let i = c.loop-command.command in
-    let host : not (is_device (command_at rec i)) ≡ true =
-    ap (λ x. not (is_device x)) (command_is rec i c.command.result.now c.command.ensures) ∙ (sym c.is_host.ensures ∙ c.if-is_host.true) in
-    host_stops rec c.args.until i (course_below rec c.args.until) (memory_of c.loop-command.state) c.loop-command.text.items c.in-Err.fault c.loop-command-test.true c.requires.within host c.loop-command.invariant c.in-Err.ensures.err
 
 pub loop-part-init : goal.loop-part-init
 loop-part-init g c =
@@ -75,7 +67,7 @@ loop-command-preserved g c =
           let host : not (is_device (command_at rec i)) ≡ true = is ∙ (sym c.is_host.ensures ∙ w.if-is_host.true) in
           moved n (course_below rec n) (commands_left rec n (i + 1)) w.act.new.state c.if-is_host.state w.act.new.text c.if-is_host.text (sym w.state-is) (sym w.text-is)
           (host_done rec n i (course_below rec n) (memory_of c.loop-command.state) (memory_of w.act.new.state) c.loop-command.text.items w.act.new.text.items
-          c.loop-command-test.true c.requires.within host c.loop-command.invariant w.in_default.ensures.ok))
+          c.loop-command-test.true c.requires.within host c.loop-command.invariant w.in_default.ensures))
       | else-is_host+else-loop-part-test w ↦ (
           let device : not (is_device (command_at rec i)) ≡ false = is ∙ (sym c.is_host.ensures ∙ w.if-is_host.false) in
           let past : piece_count (command_at rec i) ≤ w.loop-part.part = (let t = w.loop-part-test.false in let e = w.pieces-part-end.ensures in omega arith) in

@@ -1,6 +1,6 @@
 use Rattle.ray_memory.specs.State.{memory_of}
 use Rattle.ray_exec.proofs.Progress.{IsLeft, commands_left, course_below, parts_left}
-use Rattle.ray_exec.proofs.running.run_in_order.Given as goal
+use Rattle.ray_exec.proofs.in_order.run_in_order.Given as goal
 
 -- with the text so far, the commands that are left come to the whole
 abbrev pub invariant-loop-command : goal.invariant-loop-command

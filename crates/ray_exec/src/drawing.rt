@@ -1,0 +1,122 @@
+ghost use Rattle.std.specs.Prelude.{◌≡◌, ◌<◌, ◌≤◌, All, length, IfOk};
+ghost use Rattle.std.specs.Thread.{IsSync};
+ghost use Rattle.ray_memory.specs.State.{memory_of};
+ghost use Rattle.ray_exec.specs.Drawn.{IsDrawn, IsWorked};
+ghost use Rattle.ray_exec.specs.Given.{AreReady};
+
+use crate::gate::Gate;
+use crate::given::{Given, given_now};
+use ray_claim::{ClaimSeat, Claims};
+use ray_cmd::Recording;
+use ray_device::Piece;
+use ray_memory::State;
+use std::alloc::{AllocError as NoMemory, Global};
+use std::thread;
+use std::thread::Threads;
+
+// What a piece gives, with its number among those of its wave. (Own.)
+#[derive(Drop)]
+pub(crate) struct Drawn {
+    pub(crate) number: u32,
+    pub(crate) given: Given,
+}
+
+// What a worker comes back with: its seat, also where memory ran out. (Own.)
+#[derive(Drop)]
+pub(crate) struct Worked {
+    pub(crate) seat: ClaimSeat,
+    pub(crate) outs: Result<Vec<Drawn>, NoMemory>,
+}
+
+// Lets workers draw, one for each seat.
+pub(crate) fn fork<R: Threads + Sync, G: Gate + Sync>(
+    rt: &R,
+    alloc: Global,
+    claims: &Claims,
+    state: &State,
+    rec: &Recording,
+    pieces: &[Piece],
+    gate: &G,
+    seats: Vec<ClaimSeat>,
+) -> Result<Vec<Worked>, NoMemory>
+    requires count { claims.now.n ≡ length pieces.now }
+    requires ready { AreReady rec.now (memory_of state.now) pieces.now }
+    requires own { All (λ s. s.table ≡ claims.now.table) seats.items }
+    ensures { IfOk result (λ v. All (IsWorked claims.now rec.now (memory_of state.now)
+        pieces.now) v.items) }
+{
+    let worker = |seat: ClaimSeat| -> Worked
+        requires { IsSync R.row × (claims.now.n ≡ length pieces.now)
+            × AreReady rec.now (memory_of state.now) pieces.now × (seat.table ≡ claims.now.table) }
+        ensures { IsWorked claims.entry.now rec.entry.now (memory_of state.entry.now)
+            pieces.entry.now result }
+    { work(rt, alloc, claims, state, rec, pieces, gate, seat) };
+    thread::map_vec(rt, seats, &worker)
+}
+
+// One worker: it draws until no number is left.
+fn work<R: Threads + Sync, G: Gate>(
+    rt: &R,
+    alloc: Global,
+    claims: &Claims,
+    state: &State,
+    rec: &Recording,
+    pieces: &[Piece],
+    gate: &G,
+    seat: ClaimSeat,
+) -> Worked
+    requires count { claims.now.n ≡ length pieces.now }
+    requires ready { AreReady rec.now (memory_of state.now) pieces.now }
+    requires own { seat.table ≡ claims.now.table }
+    ensures { IsWorked claims.now rec.now (memory_of state.now) pieces.now result }
+{
+    let mut seat = seat;
+    let outs = draw_all(rt, alloc, claims, state, rec, pieces, gate, &mut seat);
+    Worked { seat, outs }
+}
+
+// Fetches each piece whose number is drawn, one after the other.
+fn draw_all<R: Threads + Sync, G: Gate>(
+    rt: &R,
+    alloc: Global,
+    claims: &Claims,
+    state: &State,
+    rec: &Recording,
+    pieces: &[Piece],
+    gate: &G,
+    seat: &mut ClaimSeat,
+) -> Result<Vec<Drawn>, NoMemory>
+    requires count { claims.now.n ≡ length pieces.now }
+    requires ready { AreReady rec.now (memory_of state.now) pieces.now }
+    requires own { seat.old.table ≡ claims.now.table }
+    ensures same { seat.new.table ≡ seat.old.table }
+    ensures outs { IfOk result (λ v. All (IsDrawn rec.now (memory_of state.now) pieces.now) v.items) }
+{
+    let mut outs = Vec::new(alloc);
+    while let Some(number) = claims.draw(seat) {
+        let drawn = fetch_drawn(rt, alloc, state, rec, pieces, gate, number)?;
+        outs.push(drawn)?;
+    }
+    Ok(outs)
+}
+
+// What the piece of a number gives.
+fn fetch_drawn<R: Threads + Sync, G: Gate>(
+    rt: &R,
+    alloc: Global,
+    state: &State,
+    rec: &Recording,
+    pieces: &[Piece],
+    gate: &G,
+    number: u32,
+) -> Result<Drawn, NoMemory>
+    requires within { number < length pieces.now }
+    requires ready { AreReady rec.now (memory_of state.now) pieces.now }
+    ensures { IfOk result (IsDrawn rec.now (memory_of state.now) pieces.now) }
+{
+    let piece = pieces[number as usize];
+    match given_now(rt, alloc, state, rec, piece, gate) {
+        Ok(given) => Ok(Drawn { number, given }),
+        Err(_) => Err(NoMemory),
+    }
+}

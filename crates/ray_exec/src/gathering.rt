@@ -1,0 +1,284 @@
+ghost use Rattle.std.specs.Prelude.{◌≡◌, ◌≤◌, All, length, map, None, IfOk, IfSome, OnOk};
+ghost use Rattle.ray_action.specs.Readiness.{IsReady};
+ghost use Rattle.ray_device.specs.Pieces.{piece_action};
+ghost use Rattle.ray_memory.specs.State.{memory_of};
+ghost use Rattle.ray_exec.specs.Drawn.{IsDrawn, IsWorked};
+ghost use Rattle.ray_exec.specs.Given.{AreFilled, AreGiven, AreReady, IsFilledBy, IsGivenBy};
+ghost use Rattle.ray_exec.specs.Waves.{IsPart};
+
+use crate::drawing::{Drawn, Worked, fork};
+use crate::gate::Gate;
+use crate::given::{Given, given_now};
+use crate::host::is_host;
+use ray_claim::{ClaimSeat, Claims};
+use ray_cmd::{Command, Recording};
+use ray_device::Piece;
+use ray_memory::State;
+use std::alloc::{AllocError as NoMemory, Global};
+use std::thread::Threads;
+
+// What each piece of a wave gives, all of the memory as it is, in order. So many workers fetch them,
+// or this thread alone where there are less than two to fetch.
+pub(crate) fn fetch_wave<R: Threads + Sync, G: Gate + Sync>(
+    rt: &R,
+    alloc: Global,
+    state: &State,
+    rec: &Recording,
+    pieces: &[Piece],
+    workers: u32,
+    gate: &G,
+) -> Result<Vec<Given>, NoMemory>
+    requires workers { workers ≤ 64 }
+    requires ready { AreReady rec.now (memory_of state.now) pieces.now }
+    ensures { IfOk result (λ v. AreGiven rec.now (memory_of state.now) pieces.now v.items) }
+{
+    let places = places(rt, alloc, state, rec, pieces, workers, gate)?;
+    complete(rt, alloc, state, rec, pieces, gate, places)
+}
+
+// What workers fetched of a wave, each at its place: nothing where none is wanted.
+fn places<R: Threads + Sync, G: Gate + Sync>(
+    rt: &R,
+    alloc: Global,
+    state: &State,
+    rec: &Recording,
+    pieces: &[Piece],
+    workers: u32,
+    gate: &G,
+) -> Result<Vec<Option<Given>>, NoMemory>
+    requires workers { workers ≤ 64 }
+    requires ready { AreReady rec.now (memory_of state.now) pieces.now }
+    ensures { IfOk result (λ v. AreFilled rec.now (memory_of state.now) pieces.now v.items) }
+{
+    let workers = worth(rec, pieces, workers);
+    match count_of(pieces) {
+        Some(count) => {
+            if workers < 2 {
+                empty(alloc, pieces)
+            } else {
+                draw_wave(rt, alloc, state, rec, pieces, count, workers, gate)
+            }
+        }
+        None => empty(alloc, pieces),
+    }
+}
+
+// How many workers, of so many, have a piece to fetch: no command of the host, and no barrier.
+fn worth(rec: &Recording, pieces: &[Piece], workers: u32) -> u32
+    ensures { result ≤ workers }
+{
+    let mut worth = 0;
+    for piece in pieces {
+        if worth == workers {
+            break;
+        }
+        if piece.command < rec.len() && reads(rec.command(piece.command)) {
+            worth += 1;
+        }
+    }
+    worth
+}
+
+// Whether the fetch of a command's piece may do anything.
+fn reads(command: &Command) -> bool {
+    !is_host(command) && !matches!(command, Command::Barrier { .. })
+}
+
+// How many pieces there are, where numbers of 32 bits tell it.
+fn count_of(pieces: &[Piece]) -> Option<u32>
+    ensures { IfSome result (λ n. n ≡ length pieces.now) }
+{
+    match u32::try_from(pieces.len()) {
+        Ok(count) => Some(count),
+        Err(_) => None,
+    }
+}
+
+// A place for each piece, with nothing in it.
+fn empty(alloc: Global, pieces: &[Piece]) -> Result<Vec<Option<Given>>, NoMemory>
+    ensures { IfOk result (λ v. v.items ≡ map (λ piece. None) pieces.now) }
+{
+    pieces.iter().map(|_| None).collect(alloc)
+}
+
+// What so many workers draw and fetch.
+fn draw_wave<R: Threads + Sync, G: Gate + Sync>(
+    rt: &R,
+    alloc: Global,
+    state: &State,
+    rec: &Recording,
+    pieces: &[Piece],
+    count: u32,
+    workers: u32,
+    gate: &G,
+) -> Result<Vec<Option<Given>>, NoMemory>
+    requires count { count ≡ length pieces.now }
+    requires workers { workers ≤ 64 }
+    requires ready { AreReady rec.now (memory_of state.now) pieces.now }
+    ensures { IfOk result (λ v. AreFilled rec.now (memory_of state.now) pieces.now v.items) }
+{
+    let (claims, first) = Claims::new(alloc, count)?;
+    let mut seat = first;
+    let seats = seats(alloc, &claims, &mut seat, workers)?;
+    let all = fork(rt, alloc, &claims, state, rec, pieces, gate, seats)?;
+    let mut places = empty(alloc, pieces)?;
+    gather_all(state, rec, pieces, &claims, &mut seat, all, &mut places)?;
+    claims.close(seat);
+    Ok(places)
+}
+
+// A seat for each worker, split from the first.
+fn seats(
+    alloc: Global,
+    claims: &Claims,
+    seat: &mut ClaimSeat,
+    workers: u32,
+) -> Result<Vec<ClaimSeat>, NoMemory>
+    requires own { seat.old.table ≡ claims.now.table }
+    requires left { workers ≤ seat.old.splits }
+    ensures same { seat.new.table ≡ seat.old.table }
+    ensures own { IfOk result (λ v. All (λ s. s.table ≡ claims.now.table) v.items) }
+{
+    let mut seats = Vec::new(alloc);
+    for _k in 0..workers {
+        let new = claims.split(seat)?;
+        seats.push(new)?;
+    }
+    Ok(seats)
+}
+
+// Joins the seats of all workers, and puts what they drew in its places.
+fn gather_all(
+    state: &State,
+    rec: &Recording,
+    pieces: &[Piece],
+    claims: &Claims,
+    seat: &mut ClaimSeat,
+    all: Vec<Worked>,
+    places: &mut Vec<Option<Given>>,
+) -> Result<(), NoMemory>
+    requires own { seat.old.table ≡ claims.now.table }
+    requires worked { All (IsWorked claims.now rec.now (memory_of state.now) pieces.now) all.items }
+    requires filled { AreFilled rec.now (memory_of state.now) pieces.now places.old.items }
+    ensures same { seat.new.table ≡ seat.old.table }
+    ensures filled { OnOk result (AreFilled rec.now (memory_of state.now) pieces.now
+        places.new.items) }
+{
+    for worked in all {
+        gather(state, rec, pieces, claims, seat, worked, places)?;
+    }
+    Ok(())
+}
+
+// Joins a worker's seat, and puts what it drew in its places. The memory and the pieces are those of
+// the fetches.
+fn gather(
+    state: &State,
+    rec: &Recording,
+    pieces: &[Piece],
+    claims: &Claims,
+    seat: &mut ClaimSeat,
+    worked: Worked,
+    places: &mut Vec<Option<Given>>,
+) -> Result<(), NoMemory>
+    requires own { seat.old.table ≡ claims.now.table }
+    requires worked { IsWorked claims.now rec.now (memory_of state.now) pieces.now worked }
+    requires filled { AreFilled rec.now (memory_of state.now) pieces.now places.old.items }
+    ensures same { seat.new.table ≡ seat.old.table }
+    ensures filled { OnOk result (AreFilled rec.now (memory_of state.now) pieces.now
+        places.new.items) }
+{
+    join(claims, seat, worked.seat);
+    match worked.outs {
+        Ok(outs) => {
+            put_all(state, rec, pieces, outs, places);
+            Ok(())
+        }
+        Err(_) => Err(NoMemory),
+    }
+}
+
+// Joins a seat into another, which is never refused.
+fn join(claims: &Claims, seat: &mut ClaimSeat, from: ClaimSeat)
+    requires own { seat.old.table ≡ claims.now.table }
+    requires from { from.table ≡ claims.now.table }
+    ensures same { seat.new.table ≡ seat.old.table }
+{
+    let _joined = claims.join(seat, from);
+}
+
+// Puts what was drawn in its places.
+fn put_all(
+    state: &State,
+    rec: &Recording,
+    pieces: &[Piece],
+    outs: Vec<Drawn>,
+    places: &mut Vec<Option<Given>>,
+)
+    requires drawn { All (IsDrawn rec.now (memory_of state.now) pieces.now) outs.items }
+    requires filled { AreFilled rec.now (memory_of state.now) pieces.now places.old.items }
+    ensures { AreFilled rec.now (memory_of state.now) pieces.now places.new.items }
+{
+    for drawn in outs {
+        put(state, rec, pieces, drawn, places);
+    }
+}
+
+// Puts what was drawn in its place.
+fn put(
+    state: &State,
+    rec: &Recording,
+    pieces: &[Piece],
+    drawn: Drawn,
+    places: &mut Vec<Option<Given>>,
+)
+    requires drawn { IsDrawn rec.now (memory_of state.now) pieces.now drawn }
+    requires filled { AreFilled rec.now (memory_of state.now) pieces.now places.old.items }
+    ensures { AreFilled rec.now (memory_of state.now) pieces.now places.new.items }
+{
+    places[drawn.number as usize] = Some(drawn.given);
+}
+
+// What each piece gives: where a place is empty, this thread fetches it.
+fn complete<R: Threads + Sync, G: Gate>(
+    rt: &R,
+    alloc: Global,
+    state: &State,
+    rec: &Recording,
+    pieces: &[Piece],
+    gate: &G,
+    places: Vec<Option<Given>>,
+) -> Result<Vec<Given>, NoMemory>
+    requires ready { AreReady rec.now (memory_of state.now) pieces.now }
+    requires filled { AreFilled rec.now (memory_of state.now) pieces.now places.items }
+    ensures { IfOk result (λ v. AreGiven rec.now (memory_of state.now) pieces.now v.items) }
+{
+    let mut outs = Vec::new(alloc);
+    for place in places {
+        let piece = pieces[outs.len()];
+        let given = filled(rt, alloc, state, rec, piece, gate, place)?;
+        outs.push(given)?;
+    }
+    Ok(outs)
+}
+
+// What a piece gives: what stands in its place, or else what is fetched now.
+fn filled<R: Threads + Sync, G: Gate>(
+    rt: &R,
+    alloc: Global,
+    state: &State,
+    rec: &Recording,
+    piece: Piece,
+    gate: &G,
+    place: Option<Given>,
+) -> Result<Given, NoMemory>
+    requires part { IsPart rec.now piece }
+    requires ready { IsReady (piece_action rec.now piece) (memory_of state.now) }
+    requires filled { IsFilledBy rec.now (memory_of state.now) piece place }
+    ensures { IfOk result (IsGivenBy rec.now (memory_of state.now) piece) }
+{
+    match place {
+        Some(given) => Ok(given),
+        None => given_now(rt, alloc, state, rec, piece, gate),
+    }
+}
