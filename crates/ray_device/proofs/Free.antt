@@ -40,6 +40,8 @@ use Rattle.ray_device.specs.declared.piece.Piece.{Piece}
 use Rattle.ray_device.specs.Fetching.{IsFetched, IsPieceFetched}
 use Rattle.ray_device.specs.Bottoms.{AreOneKind, OfTriangles, OfBoxes, CanAdd, IsThereNow, inputs_now, seen_now, size_now}
 use Rattle.ray_device.specs.Infos.{CanBuild, CanBuildBottom, CanBuildForm, CanBuildKind, CanBuildTop, CanBuildOneTop, bottom_now, form_now, info_now, kind_now, one_top_now, top_now}
+use Rattle.ray_memory.specs.State.{StateValue}
+use Rattle.ray_device.specs.Bounds.{most_tested, most_traced}
 use Rattle.ray_device.specs.Parts.{CanBuildInfo, CanFetch, CanReadRegion, info_given, part_given, rays_range, region_given}
 use Rattle.ray_device.specs.Pieces.{IsPiece, part_action, piece_action, piece_count}
 use Rattle.ray_device.specs.Ranges.{ranges_with}
@@ -263,6 +265,11 @@ pub trace_is : (m : Memory) (top : ℕ) (rays : Spot) (count : ℕ) (hits : Spot
     → traced m top (rays_range rays count k) (64 * k) (rays_of_piece count k) flags (cull_mask mask) script ≡ part_given m (commands.Trace top rays count hits flags mask script) k
 unfolding part_given
 trace_is m top rays count hits flags mask script k = refl
+
+pub most_is : (s : StateValue) (top : ℕ) (rays : Spot) (count : ℕ) (hits : Spot) (flags : RayFlags) (mask : ℕ) (script : List RawRule) (k : ℕ)
+    → most_traced s top (rays_range rays count k) (64 * k) (rays_of_piece count k) flags (cull_mask mask) script ≡ most_tested s (commands.Trace top rays count hits flags mask script) k
+unfolding most_tested
+most_is s top rays count hits flags mask script k = refl
 
 -- the fault of what a part gives is that of its piece
 pub fails : (piece : Piece) (x y : Outcome) (fault : FetchFault) → x ≡ y → IsFetched y (Err fault) → IsPieceFetched piece x (Err fault)

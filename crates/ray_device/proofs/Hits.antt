@@ -1,5 +1,5 @@
 -- The hits of rays, one after the other.
-use Rattle.std.proofs.Common.{ℕ, ◌≡◌, ◌+◌, ◌<◌, ◌++◌, List, [], Option, Some, None, Result, Ok, Err, refl, ap, sym, ◌∙◌}
+use Rattle.std.proofs.Common.{arith, ℕ, suc, ◌≡◌, ◌+◌, ◌≤◌, ◌<◌, ◌++◌, List, [], Option, Some, None, Result, Ok, Err, refl, ap, sym, ◌∙◌}
 use Rattle.std.specs.Prelude.{SomeIff}
 use Rattle.std.specs.List.{flat_map}
 use Rattle.std.proofs.lemmas.List.{flat_map_more}
@@ -14,6 +14,7 @@ use Rattle.ray_walk.specs.Candidates.{Structures}
 use Rattle.ray_action.specs.Outcomes.{Fault, Gives, Breaks, Bytes, hits_outcome, recorded_ray, ray_within}
 use Rattle.ray_device.specs.declared.fetch_fault.FetchFault.{FetchFault}
 use Rattle.ray_device.specs.declared.fetch_fault.FetchFault.TheVariants.{Data, NoMemory}
+use Rattle.ray_device.specs.Bounds.{summed}
 use Rattle.ray_device.specs.Fetching.{IsFetched}
 use Rattle.ray_device.specs.Tracing.{hit_in, rays_outcome, IsHit}
 
@@ -66,3 +67,16 @@ module _ (top : TopValue) (bottoms : Structures) (rules : List RawRule) (flags :
       → IsHit (hit_in top bottoms rules flags mask rays first n) (Err e) → n < count → IsFetched (rays_outcome top bottoms rules flags mask rays first count) (Err e)
   rays_told n count bytes (Data rule place) e at within = rays_fault n count bytes (record { rule = rule; place = place }) e at within
   rays_told n count bytes NoMemory e at within = tt
+
+-- ---- steps
+
+summed-next : (f : ℕ → ℕ) (k : ℕ) → summed f (suc k) ≡ summed f k + f k
+unfolding summed
+summed-next f k = refl
+
+-- the bound of one ray more
+pub summed_more : (f : ℕ → ℕ) (k before steps later : ℕ) → steps ≤ before + summed f k → later ≤ steps + f k → later ≤ before + summed f (k + 1)
+summed_more f k before steps later one other =
+    let next : k + 1 ≡ suc k = omega arith in
+    let same : summed f (k + 1) ≡ summed f k + f k = ap (summed f) next ∙ summed-next f k in
+    omega (arith, one, other, same)

@@ -1,4 +1,5 @@
 pub mod Bottoms
+pub mod Bounds
 pub mod Fetched
 pub mod Fetching
 pub mod Infos

@@ -49,10 +49,11 @@ IsHit found (Ok hit) = found ≡ Ok (hit_bytes hit)
 IsHit found (Err (Data rule place)) = found ≡ Err (record { rule = rule; place = place })
 IsHit found (Err NoMemory) = Unit {0}
 
--- the hits of some rays so far, and no fewer steps than before
-pub record AreSoFar (outcome : Outcome) (bytes : List ℕ) (before steps : ℕ) : Type 0 where
+-- the hits of some rays so far, in no fewer steps than before, and so many more at most
+pub record AreSoFar (outcome : Outcome) (bytes : List ℕ) (before steps most : ℕ) : Type 0 where
   pub given : outcome ≡ Gives (Bytes bytes)
   pub rising : before ≤ steps
+  pub bound : steps ≤ before + most
 
 -- ---- of the memory as it is
 

@@ -5,6 +5,7 @@ ghost use Rattle.ray_flags.specs.Admission.{AsksBoth};
 ghost use Rattle.ray_top.specs.Trees.{without_tree};
 ghost use Rattle.ray_walk.specs.Standing.{AreStanding, structures_in};
 ghost use Rattle.ray_action.specs.Outcomes.{ray_within};
+ghost use Rattle.ray_device.specs.Bounds.{most_by, most_of_rays, most_traced};
 ghost use Rattle.ray_device.specs.Fetching.{IsFetched};
 ghost use Rattle.ray_memory.specs.State.{memory_of};
 ghost use Rattle.ray_device.specs.Tracing.{ray_in, hit_by, rays_outcome, IsHit, IsTraceable, traced};
@@ -21,7 +22,7 @@ use ray_query::record_of;
 use ray_rules::ByteRange;
 use ray_script::{BadScript, RawRule, Script, script_of};
 use ray_top::Top;
-use ray_walk::trace_plain;
+use ray_walk::{Turns, trace_ray};
 use std::alloc::{AllocError as NoMemory, Global};
 use std::sync::ledger::Ledger;
 
@@ -44,13 +45,15 @@ fn hits<L: Ledger>(
     requires numbers { first + count < 2 ^ 32 }
     ensures value { IsFetched (rays_outcome (without_tree top.now) (structures_in bottoms.now) script.now flags mask
         rays.now first count) result }
+    ensures bound { OnOk result (steps.new ≤ steps.old + most_of_rays top.now bottoms.now script.now
+        flags mask rays.now first count) }
     ensures rising { steps.old ≤ steps.new }
 {
     let mut out = Vec::new(alloc);
+    let mut turns = Turns::new(alloc);
     for k in 0..count {
         let ray = ray(rays, k);
         match hit(
-            alloc,
             top,
             bottoms,
             script,
@@ -58,6 +61,7 @@ fn hits<L: Ledger>(
             mask,
             first + k,
             ray,
+            &mut turns,
             steps,
         ) {
             Ok(hit) => push(&mut out, &hit)?,
@@ -72,7 +76,9 @@ fn hits<L: Ledger>(
 /// the structures of its active instances as they were when it was built or last updated; the rules
 /// are a script; and `flags` doesn't ask that everything counts as opaque and that nothing does.
 /// `Data` comes exactly where a ray is beyond the limits (X11), and tells the first: its number in
-/// the trace. Each primitive is tested, a step each. (OpRayQueryInitializeKHR and the steps after it)
+/// the trace. A step is taken for each primitive that is tested: for each ray no more than those of
+/// the leaves that it opens, in a walk through the trees. (OpRayQueryInitializeKHR and the steps
+/// after it)
 pub fn traced_rays<L: Ledger>(
     alloc: Global,
     state: &State,
@@ -89,6 +95,8 @@ pub fn traced_rays<L: Ledger>(
     requires numbers { first + count < 2 ^ 32 }
     ensures value { IsFetched (traced (memory_of state.now) top from first count flags mask rules.now)
         result }
+    ensures bound { OnOk result (steps.new ≤ steps.old + most_traced state.now top from first count
+        flags mask rules.now) }
     ensures rising { steps.old ≤ steps.new }
 {
     match script_of(alloc, rules) {
@@ -117,6 +125,8 @@ fn by_script<L: Ledger>(
     requires numbers { first + count < 2 ^ 32 }
     ensures value { IsFetched (traced (memory_of state.now) top from first count flags mask
         script.now) result }
+    ensures bound { OnOk result (steps.new ≤ steps.old + most_traced state.now top from first count
+        flags mask script.now) }
     ensures rising { steps.old ≤ steps.new }
 {
     match (state.bytes(from), state.top(top)) {
@@ -132,7 +142,6 @@ fn by_script<L: Ledger>(
 
 // The hit of a ray of a number, which is within the limits if it is there.
 fn hit<L: Ledger>(
-    alloc: Global,
     top: &Top,
     bottoms: &Bottoms,
     script: &Script,
@@ -140,17 +149,20 @@ fn hit<L: Ledger>(
     mask: u8,
     number: u32,
     ray: Option<Ray>,
+    turns: &mut Turns,
     steps: &mut Steps<L>,
 ) -> Result<HitRecord, FetchFault>
     requires standing { AreStanding (without_tree top.now) (structures_in bottoms.now) }
     requires flags_agree { ¬ AsksBoth flags }
     ensures value { IsHit (hit_by (without_tree top.now) (structures_in bottoms.now) script.now flags mask number
         ray) result }
+    ensures bound { OnOk result (steps.new ≤ steps.old + most_by top.now bottoms.now script.now flags
+        mask number ray) }
     ensures rising { steps.old ≤ steps.new }
 {
     match ray {
-        Some(ray) => Ok(record_of(trace_plain(
-            alloc, top, bottoms, &ray, number, flags, mask, script, steps,
+        Some(ray) => Ok(record_of(trace_ray(
+            top, bottoms, &ray, number, flags, mask, script, turns, steps,
         )?)),
         None => Err(FetchFault::Data(DataRule::X11, Place::Part(number))),
     }

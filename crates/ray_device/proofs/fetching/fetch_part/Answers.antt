@@ -1,4 +1,4 @@
-use Rattle.std.proofs.Common.{◌<◌, ◌*◌, ◌∙◌, length, map, ap, subst, sym}
+use Rattle.std.proofs.Common.{ℕ, OnOk, ◌+◌, ◌≤◌, ◌<◌, ◌*◌, ◌∙◌, length, map, ap, subst, sym}
 use Rattle.ray_cmd.specs.declared.command.Command.{Command}
 use Rattle.ray_cmd.specs.declared.command.Command.TheVariants as commands
 use Rattle.ray_action.specs.Memory.{ContentsAt, StructureAt, bytes_at}
@@ -11,7 +11,8 @@ use Rattle.ray_device.specs.Parts.{part_given}
 use Rattle.ray_device.specs.Pieces.{piece_count}
 use Rattle.ray_device.specs.Tops.{used_now}
 use Rattle.ray_device.specs.Tracing.{traced}
-use Rattle.ray_device.proofs.Free.{copy_is, deserialize_is, info_is, region_is, serialize_is, trace_is}
+use Rattle.ray_device.specs.Bounds.{most_tested, most_traced}
+use Rattle.ray_device.proofs.Free.{copy_is, deserialize_is, info_is, most_is, region_is, serialize_is, trace_is}
 use Rattle.ray_device.proofs.fetching.fetch_part.Goals as goal
 
 pub returns-in-Copy-clause-value : goal.returns-in-Copy-clause-value
@@ -74,3 +75,13 @@ returns-in-Trace-clause-value g c =
     ((λ i. traced m t.top (c.rays_of_part.ensures i) (64 * k) (c.rays_in_part.ensures i) t.flags (cull_mask t.mask) (c.as_slice-in-Trace.ensures.items i))
     ∙ (trace_is m t.top t.rays t.count t.hits t.flags t.mask t.script k ∙ ap (λ x. part_given m x k) (sym t.is)))
     c.traced_rays.ensures.value
+
+pub returns-in-Trace-clause-bound : goal.returns-in-Trace-clause-bound
+returns-in-Trace-clause-bound g c =
+    let s = c.args.state.now in
+    let k = c.args.part in
+    let t = c.in-Trace in
+    subst (λ (most : ℕ). OnOk c.traced_rays.result (c.traced_rays.new.steps ≤ c.args.steps.now + most))
+    ((λ i. most_traced s t.top (c.rays_of_part.ensures i) (64 * k) (c.rays_in_part.ensures i) t.flags (cull_mask t.mask) (c.as_slice-in-Trace.ensures.items i))
+    ∙ (most_is s t.top t.rays t.count t.hits t.flags t.mask t.script k ∙ ap (λ x. most_tested s x k) (sym t.is)))
+    c.traced_rays.ensures.bound

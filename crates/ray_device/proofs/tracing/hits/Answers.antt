@@ -1,10 +1,13 @@
-use Rattle.std.proofs.Common.{◌<◌, ◌+◌, Option, Err, subst, arith}
+use Rattle.std.proofs.Common.{◌≤◌, ◌<◌, ◌+◌, ◌∙◌, List, ℕ, Option, Ok, Err, ap, subst, sym, arith}
 use Rattle.std.proofs.lemmas.Bool.Decides.{nat_tests}
 use Rattle.ray_geom.specs.Scene.{RayValue}
 use Rattle.ray_top.specs.Trees.{without_tree}
 use Rattle.ray_walk.specs.Standing.{structures_in}
 use Rattle.ray_device.specs.Tracing.{hit_by, IsHit}
-use Rattle.ray_device.proofs.Hits.{rays_told}
+use Rattle.ray_bytes.specs.Hits.{hit_bytes}
+use Rattle.ray_action.specs.Outcomes.{Gives, Bytes}
+use Rattle.ray_device.specs.Bounds.{most_by, most_in}
+use Rattle.ray_device.proofs.Hits.{rays_more, rays_told, summed_more}
 use Rattle.ray_device.proofs.tracing.hits.Goals as goal
 
 pub returns-in-Err-clause-value : goal.returns-in-Err-clause-value
@@ -16,3 +19,25 @@ returns-in-Err-clause-value g c =
     (subst (λ (r : Option RayValue). IsHit (hit_by (without_tree c.args.top.now) (structures_in c.args.bottoms.now) c.args.script.now c.args.flags c.args.mask (c.args.first + k) r) (Err c.in-Err.fault))
     c.ray-ray.ensures c.in-Err.ensures.value)
     within
+
+pub loop-k-preserved : goal.loop-k-preserved
+loop-k-preserved g c =
+    let top = c.args.top.now in
+    let bottoms = c.args.bottoms.now in
+    let rules = c.args.script.now in
+    let flags = c.args.flags in
+    let mask = c.args.mask in
+    let first = c.args.first in
+    let k = c.loop-k.k in
+    let so_far = c.loop-k.invariant in
+    record {
+      given =
+          rays_more (without_tree top) (structures_in bottoms) rules flags mask c.args.rays.now first k c.loop-k.out.items (hit_bytes c.in-Ok.hit) so_far.given
+          (subst (λ (r : Option RayValue). IsHit (hit_by (without_tree top) (structures_in bottoms) rules flags mask (first + k) r) (Ok c.in-Ok.hit)) c.ray-ray.ensures
+          c.in-Ok.ensures.value)
+          ∙ ap (λ (b : List ℕ). Gives (Bytes b)) (sym c.in_ok-push-in-Ok.ensures);
+      rising = (let before = so_far.rising in let now = c.hit.ensures.rising in omega (arith, before, now));
+      bound =
+          summed_more (most_in top bottoms rules flags mask c.args.rays.now first) k c.args.steps.now c.loop-k.steps c.hit.new.steps so_far.bound
+          (subst (λ (r : Option RayValue). c.hit.new.steps ≤ c.loop-k.steps + most_by top bottoms rules flags mask (first + k) r) c.ray-ray.ensures c.in-Ok.ensures.bound);
+    }

@@ -1,5 +1,6 @@
 use Rattle.ray_top.specs.Trees.{without_tree}
 use Rattle.ray_walk.specs.Standing.{structures_in}
+use Rattle.ray_device.specs.Bounds.{most_of_rays}
 use Rattle.ray_device.specs.Tracing.{AreSoFar, rays_outcome}
 use Rattle.ray_device.proofs.tracing.hits.Given as goal
 
@@ -7,4 +8,4 @@ use Rattle.ray_device.proofs.tracing.hits.Given as goal
 abbrev pub invariant-loop-k : goal.invariant-loop-k
 invariant-loop-k g l =
     AreSoFar (rays_outcome (without_tree l.fn.top) (structures_in l.fn.bottoms) l.fn.script l.fn.flags l.fn.mask l.fn.rays l.fn.first l.k)
-    l.out.items l.initial.steps l.steps
+    l.out.items l.initial.steps l.steps (most_of_rays l.fn.top l.fn.bottoms l.fn.script l.fn.flags l.fn.mask l.fn.rays l.fn.first l.k)
