@@ -25,7 +25,7 @@ pub(crate) fn restored<R: Threads + Sync>(
     requires limits { CanRestore n row.now }
     ensures { IfOk result (λ bottom.
         option_map (with_flags flags) (geometries_in n row.now)
-            ≡ Some (without_tree bottom)) }
+        ≡ Some (without_tree bottom)) }
 {
     let mut builder = Builder::new(alloc, flags);
     append_all(&mut builder, n, row)?;

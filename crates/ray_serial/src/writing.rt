@@ -21,7 +21,7 @@ pub fn serialize(alloc: Global, bottom: &Bottom) -> Result<Vec<u8>, NoMemory>
     ensures form { bottom.now.flags.0 < 32 → IfOk result (λ bytes. IsForm bytes.items) }
     ensures stands { bottom.now.flags.0 < 32
         → IfOk result (λ bytes. bottom_in bytes.items
-            ≡ Some (without_tree bottom.now)) }
+        ≡ Some (without_tree bottom.now)) }
 {
     // The contents are within the limits.
     let _geometries = bottom.geometries();
