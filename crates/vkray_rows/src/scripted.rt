@@ -1,5 +1,7 @@
 ghost use Rattle.std.specs.Prelude.{◌≡◌, IfOk, Some};
 ghost use Rattle.ray_bottom.specs.Slots.{contents_at};
+ghost use Rattle.ray_bottom.specs.Trees as bottom_trees;
+ghost use Rattle.ray_top.specs.Trees.{without_tree};
 ghost use Rattle.ray_walk.specs.Standing.{AreStanding, structures_in};
 
 use bitflags::Flags;
@@ -62,7 +64,8 @@ fn triangles<R: AllocGlobal + Threads + Sync>(rt: &R) -> Result<Bottom, BuildFau
 
 // This structure alone, under the id 3.
 fn alone(alloc: Global, bottom: Bottom) -> Result<Bottoms, AllocError>
-    ensures { IfOk result (λ bottoms. contents_at 3 bottoms ≡ Some bottom) }
+    ensures { IfOk result (λ bottoms. contents_at 3 bottoms
+        ≡ Some (bottom_trees.without_tree bottom)) }
 {
     let mut bottoms = Bottoms::new(alloc);
     bottoms.make_room(3)?;
@@ -81,7 +84,7 @@ fn top_of<R: AllocGlobal + Threads + Sync>(rt: &R, used: &[Used]) -> Result<Top,
 
 // The instance of the triangles.
 fn scene<R: AllocGlobal + Threads + Sync>(rt: &R) -> Result<(Top, Bottoms), BuildFault>
-    ensures { IfOk result (λ scene. AreStanding scene.0 (structures_in scene.1)) }
+    ensures { IfOk result (λ scene. AreStanding (without_tree scene.0) (structures_in scene.1)) }
 {
     let bottom = triangles(rt)?;
     let used = [Used {
@@ -102,7 +105,7 @@ fn traced<R: AllocGlobal>(
     flags: RayFlags,
     rules: &[RawRule],
 ) -> Result<Option<(u32, (u64, u64))>, AllocError>
-    requires { AreStanding scene.now.0 (structures_in scene.now.1) }
+    requires { AreStanding (without_tree scene.now.0) (structures_in scene.now.1) }
 {
     let Ok(script) = script_of(rt.alloc(), rules) else {
         return Ok(None);
