@@ -1,6 +1,6 @@
 -- How the box tree of a structure is built, and how it is updated. (Own; which builder is taken says
 -- VK_BUILD_ACCELERATION_STRUCTURE_PREFER_FAST_BUILD_BIT_KHR.)
-use Rattle.std.specs.Prelude.{◌≡◌, ◌≤◌, ◌^◌, ℕ, true, false, Option, List, length}
+use Rattle.std.specs.Prelude.{◌≡◌, ◌≤◌, ◌^◌, ℕ, true, false, Option, Some, None, List, length}
 use Rattle.ray_geom.specs.Boxes.{BoxValue}
 use Rattle.ray_flags.specs.declared.build_flags.BuildFlags.{BuildFlags}
 use Rattle.ray_flags.specs.Flags.{build_has, PreferFastBuild}
@@ -29,6 +29,11 @@ pub record IsUpdated (flags : BuildFlags) (old : TreeValue) (items : List (Optio
   pub over : TreeOver tree items
   pub refit : HasActivity old items → IsRefit old items tree
   pub anew : ¬ HasActivity old items → IsBuilt flags items tree
+
+-- the tree of a build with these flags, or, where there is an old tree, that of an update of it
+abbrev pub IsTreeOf : Option TreeValue → BuildFlags → List (Option BoxValue) → TreeValue → Type 0
+IsTreeOf None flags items tree = IsBuilt flags items tree
+IsTreeOf (Some old) flags items tree = IsUpdated flags old items tree
 
 -- ---- words of private types alone
 
