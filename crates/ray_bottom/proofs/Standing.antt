@@ -1,6 +1,6 @@
 -- Where a sound structure is put, all that stand there are sound.
-use Rattle.std.proofs.Common.{ℕ, ◌≡◌, ◌∙◌, Option, Some, None, option_map, refl, sym, ap, subst, inl, inr}
-use Rattle.std.specs.Prelude.{◌==◌, if◌then◌else◌, option_and_then, Result, Ok, Err, OnOk, OnErr}
+use Rattle.std.proofs.Common.{ℕ, ◌≡◌, ◌∙◌, Option, Some, sym, ap, subst, inl, inr}
+use Rattle.std.specs.Prelude.{◌==◌, option_and_then, Result, Ok, Err, OnOk, OnErr}
 use Rattle.std.proofs.lemmas.Bool.{cases_eq, cond-true, cond-false, eq-eqb, ne_eqb}
 use Rattle.ray_bottom.specs.Slots.{AreSound, Changes, IsSound, Slots, slot_at, structure_at}
 use Rattle.ray_bottom.specs.Trees.{BottomWithTree}

@@ -1,5 +1,5 @@
 -- A bottom structure as contracts see it, the boxes over which its tree stands, and what a leaf holds. (Own.)
-use Rattle.std.specs.Prelude.{ℕ, ◌≡◌, ◌+◌, ◌++◌, Option, Some, None, List, [], ◌∷◌, map, take, drop, slice_index_or, IfSome}
+use Rattle.std.specs.Prelude.{ℕ, ◌≡◌, ◌+◌, ◌++◌, Option, List, [], ◌∷◌, map, take, drop, slice_index_or}
 use Rattle.std.specs.List.{flat_map, range_with_len}
 use Rattle.ray_geom.specs.Boxes.{BoxValue}
 use Rattle.ray_flags.specs.declared.build_flags.BuildFlags.{BuildFlags}
@@ -7,7 +7,6 @@ use Rattle.ray_tree.specs.declared.node.Node.{Node}
 use Rattle.ray_tree.specs.declared.node.Node.TheVariants.{Leaf, Inner}
 use Rattle.ray_tree.specs.Shapes.{node_at}
 use Rattle.ray_tree.specs.Trees.{TreeValue, TreeOver}
-use Rattle.ray_hierarchy.specs.Hierarchies.{IsBuilt}
 use Rattle.ray_primitives.specs.Primitives.{box_of_triangle}
 use Rattle.ray_bottom.specs.declared.geometry.Geometry.{Geometry}
 use Rattle.ray_bottom.specs.declared.shapes.Shapes.{Shapes}

@@ -1,4 +1,4 @@
-ghost use Rattle.std.specs.Prelude.{◌≡◌, None, Some, [], IfOk, IsSome, option_copied, option_and_then, length, slice_get, false};
+ghost use Rattle.std.specs.Prelude.{◌≡◌, ◌≤◌, ◌^◌, None, Some, [], IfOk, IsSome, option_copied, option_and_then, option_map, length, slice_get, false};
 ghost use Rattle.ray_flags.specs.declared.kind.Kind.TheVariants.{Triangle, Aabb};
 ghost use Rattle.ray_bottom.specs.Contents.{has_both_fast, HasRoom, IsContents};
 ghost use Rattle.ray_bottom.specs.Builders.{bare, with_triangles, with_boxes, IsAdded};
@@ -6,7 +6,8 @@ ghost use Rattle.ray_bottom.specs.Builders.{IsNew, size_of_indices};
 ghost use Rattle.ray_bottom.specs.Builders.{triangles_in, boxes_in, IsRestored};
 ghost use Rattle.ray_bottom.specs.Storing.{stored_shapes};
 ghost use Rattle.ray_bottom.specs.Trees.{items_of, without_tree};
-ghost use Rattle.ray_hierarchy.specs.Hierarchies.{IsBuilt};
+ghost use Rattle.ray_hierarchy.specs.Hierarchies.{IsTreeOf};
+ghost use Rattle.ray_tree.specs.Trees.{TreeOver};
 
 use crate::bottom::Bottom;
 use crate::contents::Contents;
@@ -16,6 +17,7 @@ use crate::shapes::Shapes;
 use crate::stored::Stored;
 use ray_bytes::{BoxView, IndexView, TransformView, VertexView};
 use ray_flags::BuildFlags;
+use ray_geom::Box3;
 use ray_hierarchy::Hierarchy;
 use ray_primitives::{
     BoxInfo, BuildFault, KeptBox, KeptTriangle, TriangleInfo, read_boxes, read_triangles,
@@ -62,8 +64,9 @@ impl<'a> Builder<'a> {
         }
     }
 
-    /// A builder of an update of a structure, with its flags. What is updated isn't kept: the
-    /// contents are those that are read, which are compared with the old ones by X9 and X10.
+    /// A builder of an update of a structure, with its flags. Of what is updated the tree alone is
+    /// kept: the contents are those that are read, which are compared with the old ones by X9 and
+    /// X10.
     /// (VK_BUILD_ACCELERATION_STRUCTURE_MODE_UPDATE_KHR)
     pub fn for_update(alloc: Global, replaced: &'a Bottom) -> Builder<'a>
         ensures { result ≡ record {
@@ -157,23 +160,47 @@ impl<'a> Builder<'a> {
     }
 
     /// The structure with the contents. Its tree is that of its build (`IsBuilt`): by keys where the
-    /// flags prefer fast builds, else by halves. `rt` lends the threads for it.
+    /// flags prefer fast builds, else by halves. An update refits the old tree to the boxes of the
+    /// primitives that are read (`IsUpdated`): it has the same nodes and the same order, and as each
+    /// node's box the least box of the primitives below it; where other primitives are active than
+    /// in the old structure its tree is built anew. `rt` lends the threads for it.
     pub fn finish<R: Threads + Sync>(self, rt: &R) -> Result<Bottom, NoMemory>
         ensures contents { IfOk result (λ b. without_tree b ≡ self.entry.contents) }
         ensures tree { let c = self.entry.contents in
-            IfOk result (λ b. IsBuilt c.flags (items_of c.geometries) b.tree) }
+            let old = option_map (λ b. b.tree) self.entry.replaced in
+            IfOk result (λ b. IsTreeOf old c.flags (items_of c.geometries) b.tree) }
     {
         let geometries = self.contents.as_slice();
         let total = self.contents.total();
         let _limits = self.contents.geometries();
         let items = items_of(self.alloc, geometries, total)?;
-        let hierarchy = Hierarchy::build(rt, self.alloc, self.contents.flags(), &items)?;
+        let flags = self.contents.flags();
+        let hierarchy = hierarchy_of(rt, self.alloc, self.replaced, flags, &items)?;
         let places = places_of(self.alloc, geometries, total, hierarchy.order())?;
         Ok(Bottom {
             contents: self.contents,
             hierarchy,
             places,
         })
+    }
+}
+
+// The trees over items: of a build, or of an update where a structure is replaced.
+fn hierarchy_of<R: Threads + Sync>(
+    rt: &R,
+    alloc: Global,
+    replaced: Option<&Bottom>,
+    flags: BuildFlags,
+    items: &[Option<Box3>],
+) -> Result<Hierarchy, NoMemory>
+    requires { length items.now ≤ 2 ^ 20 }
+    ensures tree { let old = option_map (λ b. b.tree) (option_copied replaced.entry) in
+        IfOk result (IsTreeOf old flags items.now) }
+    ensures over { IfOk result (λ h. TreeOver h items.now) }
+{
+    match replaced {
+        Some(old) => old.hierarchy.updated(rt, alloc, flags, items),
+        None => Hierarchy::build(rt, alloc, flags, items),
     }
 }
 

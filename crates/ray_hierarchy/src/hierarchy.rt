@@ -1,9 +1,12 @@
-ghost use Rattle.std.specs.Prelude.{◌≡◌, ◌≤◌, ◌^◌, IfOk, length};
+ghost use Rattle.std.specs.Prelude.{◌≡◌, ◌≤◌, ◌^◌, ◌↔◌, IfOk, IsTrue, length};
 ghost use Rattle.ray_tree.specs.Trees.{active_of};
 ghost use Rattle.ray_wide.specs.Wides.{WideOver};
-ghost use Rattle.ray_hierarchy.specs.Hierarchies.{IsBuilt};
+ghost use Rattle.ray_climb.specs.Refits.{HasActivity, IsRefit};
+ghost use Rattle.ray_hierarchy.specs.Hierarchies.{IsBuilt, IsUpdated};
 
+use crate::activity::{count_active, has_activity};
 use bitflags::Flags;
+use ray_climb::climb_all;
 use ray_flags::BuildFlags;
 use ray_geom::Box3;
 use ray_morton::build_fast;
@@ -53,6 +56,58 @@ impl Hierarchy {
         let tree = built(rt, alloc, flags, items)?;
         let places = count_active(items);
         Hierarchy::of(alloc, tree, places)
+    }
+
+    /// The trees of an update: where the items, which are at most 2^20, have the activity of this
+    /// tree's, these trees refit to them, and else those of a build with the flags.
+    /// (VK_BUILD_ACCELERATION_STRUCTURE_MODE_UPDATE_KHR)
+    ///
+    /// # Errors
+    ///
+    /// For want of memory alone.
+    pub fn updated<R: Threads + Sync>(
+        &self,
+        rt: &R,
+        alloc: Global,
+        flags: BuildFlags,
+        items: &[Option<Box3>],
+    ) -> Result<Hierarchy, NoMemory>
+        requires { length items.now ≤ 2 ^ 20 }
+        ensures { IfOk result (IsUpdated flags self.now items.now) }
+    {
+        if self.has_activity(items) {
+            self.refitted(rt, alloc, items)
+        } else {
+            Hierarchy::build(rt, alloc, flags, items)
+        }
+    }
+
+    /// These trees refit to other items, which are at most 2^20 and have the activity of this
+    /// tree's: the same nodes and the same order, and as each node's box the least box of the items
+    /// below it. From 1,024 items on four seats do it, on threads that `rt` lends.
+    ///
+    /// # Errors
+    ///
+    /// For want of memory alone.
+    pub fn refitted<R: Threads + Sync>(
+        &self,
+        rt: &R,
+        alloc: Global,
+        items: &[Option<Box3>],
+    ) -> Result<Hierarchy, NoMemory>
+        requires few { length items.now ≤ 2 ^ 20 }
+        requires activity { HasActivity self.now items.now }
+        ensures { IfOk result (IsRefit self.now items.now) }
+    {
+        let tree = climb_all(rt, alloc, self.tree.copy()?, items)?;
+        Hierarchy::of(alloc, tree, self.order.len())
+    }
+
+    /// Whether items have the activity of this tree's, so that it can be refit to them.
+    pub fn has_activity(&self, items: &[Option<Box3>]) -> bool
+        ensures { IsTrue result ↔ HasActivity self.now items.now }
+    {
+        has_activity(&self.tree, &self.order, items)
     }
 
     // The trees of a binary tree with so many places.
@@ -115,13 +170,6 @@ fn built<R: Threads + Sync>(
     } else {
         build_median(alloc, items)
     }
-}
-
-// How many items are active.
-fn count_active(items: &[Option<Box3>]) -> usize
-    ensures { result ≡ active_of items.now }
-{
-    items.iter().filter(|item| item.is_some()).count()
 }
 
 // The items' numbers by their places, of which there are so many.

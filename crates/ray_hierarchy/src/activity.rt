@@ -1,0 +1,49 @@
+//! Which items are active, and whether they are those of a tree.
+ghost use Rattle.std.specs.Prelude.{◌≡◌, ◌↔◌, IsTrue};
+ghost use Rattle.std.specs.List.{All};
+ghost use Rattle.ray_tree.specs.Trees.{active_of};
+ghost use Rattle.ray_tree.specs.Local.{IsActive, HasItems};
+ghost use Rattle.ray_climb.specs.Refits.{HasActivity};
+
+use ray_geom::Box3;
+use ray_tree::Tree;
+
+// Whether items have the activity of a tree's, whose order this is.
+pub(crate) fn has_activity(tree: &Tree, order: &[u32], items: &[Option<Box3>]) -> bool
+    requires { order.now ≡ tree.now.order }
+    ensures { IsTrue result ↔ HasActivity tree.now items.now }
+{
+    tree.shape();
+    has_items(order, items)
+}
+
+// Whether there are as many numbers as active items, all of such items.
+fn has_items(order: &[u32], items: &[Option<Box3>]) -> bool
+    ensures { IsTrue result ↔ HasItems order.now items.now }
+{
+    order.len() == count_active(items) && are_active(order, items)
+}
+
+// How many items are active.
+pub(crate) fn count_active(items: &[Option<Box3>]) -> usize
+    ensures { result ≡ active_of items.now }
+{
+    items.iter().filter(|item| item.is_some()).count()
+}
+
+// Whether all of these numbers are those of active items.
+fn are_active(order: &[u32], items: &[Option<Box3>]) -> bool
+    ensures { IsTrue result ↔ All (IsActive items.now) order.now }
+{
+    order.iter().all(|p| is_active(items, *p))
+}
+
+// Whether a number is that of an active item.
+fn is_active(items: &[Option<Box3>], p: u32) -> bool
+    ensures { IsTrue result ↔ IsActive items.now p }
+{
+    match items.get(p as usize) {
+        Some(item) => item.is_some(),
+        None => false,
+    }
+}
