@@ -1,16 +1,17 @@
 -- A top structure as contracts see it, and the boxes over which its tree stands. (Own.)
-use Rattle.std.specs.Prelude.{ℕ, ◌≡◌, Result, Ok, Err, Option, Some, None, option_and_then, List, [], map, take, drop}
+use Rattle.std.specs.Prelude.{ℕ, ◌≡◌, ◌+◌, Result, Ok, Err, Option, Some, None, option_and_then, List, [], map, take, drop}
 use Rattle.ray_geom.specs.Boxes.{BoxValue, corners_of}
 use Rattle.ray_geom.specs.Transform.{MatrixValue}
 use Rattle.ray_prune.specs.Pruning.{box_of_images}
 use Rattle.ray_bytes.specs.declared.data_fault.DataFault.{DataFault}
+use Rattle.ray_flags.specs.declared.build_flags.BuildFlags.{BuildFlags}
 use Rattle.ray_primitives.specs.declared.build_fault.BuildFault.{BuildFault}
 use Rattle.ray_primitives.specs.declared.build_fault.BuildFault.TheVariants.{Data, NoMemory}
 use Rattle.ray_tree.specs.declared.node.Node.{Node}
 use Rattle.ray_tree.specs.declared.node.Node.TheVariants.{Leaf, Inner}
 use Rattle.ray_tree.specs.Shapes.{node_at}
 use Rattle.ray_tree.specs.Trees.{TreeValue, TreeOver}
-use Rattle.ray_hierarchy.specs.Hierarchies.{IsBuilt, IsUpdated, IsTreeOf}
+use Rattle.ray_hierarchy.specs.Hierarchies.{IsBuilt}
 use Rattle.ray_top.specs.declared.used.Used.{Used}
 use Rattle.ray_top.specs.Instances.{InstanceValue}
 use Rattle.ray_top.specs.InstanceReading.{bounds_in}
@@ -56,10 +57,6 @@ items_of top = map (item_of top.used) top.contents.instances
 abbrev pub IsTreeBuilt : TopWithTree → Type 0
 IsTreeBuilt top = IsBuilt top.contents.flags (items_of (without_tree top)) top.tree
 
--- the tree is that of an update, with the flags, of a structure with this tree
-abbrev pub IsTreeUpdated : TreeValue → TopWithTree → Type 0
-IsTreeUpdated old top = IsUpdated top.contents.flags old (items_of (without_tree top)) top.tree
-
 -- ---- what stands at its leaves
 
 -- the numbers of the instances of a leaf
@@ -70,11 +67,7 @@ instances_by order (Inner left right) = []
 abbrev pub instances_below : TopWithTree → ℕ → List ℕ
 instances_below top n = instances_by top.tree.order (node_at top.tree.nodes n)
 
--- ---- words of private types and functions alone
-
--- the tree is that of a build, or, where there is an old tree, that of an update of it
-abbrev pub IsTreeFrom : Option TreeValue → TopWithTree → Type 0
-IsTreeFrom old top = IsTreeOf old top.contents.flags (items_of (without_tree top)) top.tree
+-- ---- words of private types alone
 
 -- a top structure that is counted, with a tree over its items
 pub record IsCountedOver (top : TopWithTree) (active : ℕ) : Type 0 where

@@ -3,10 +3,8 @@ ghost use Rattle.ray_top.specs.Instances.{told_instance};
 ghost use Rattle.ray_top.specs.InstanceReading.{instances_read};
 ghost use Rattle.ray_top.specs.Contents.{top_value, top_with, top_built, top_updated};
 ghost use Rattle.ray_top.specs.Contents.{active_of, has_both_fast, IsTop};
-ghost use Rattle.ray_top.specs.Trees.{GivesTop, IsTreeBuilt, IsTreeUpdated, IsTreeFrom};
-ghost use Rattle.ray_top.specs.Trees.{instances_below, items_of};
+ghost use Rattle.ray_top.specs.Trees.{GivesTop, IsTreeBuilt, instances_below, items_of};
 ghost use Rattle.ray_top.specs.Trees.{with_tree, without_tree};
-ghost use Rattle.ray_hierarchy.specs.Hierarchies.{IsTreeOf};
 ghost use Rattle.ray_tree.specs.Trees.{TreeOver};
 ghost use Rattle.ray_wide.specs.Wides.{WideOver};
 
@@ -20,7 +18,6 @@ use crate::used_index::UsedIndex;
 use ray_bytes::InstanceView;
 use ray_contents::Elements;
 use ray_flags::BuildFlags;
-use ray_geom::Box3;
 use ray_hierarchy::Hierarchy;
 use ray_primitives::BuildFault;
 use ray_tree::{Node, Tree};
@@ -75,15 +72,12 @@ impl Top {
         ensures count { IfOk result (λ t. length t.contents.instances ≡ count) }
         ensures tree { IfOk result IsTreeBuilt }
     {
-        read_top(rt, alloc, flags, &view, count, used, None, None)
+        read_top(rt, alloc, flags, &view, count, used, None)
     }
 
     /// An update of this structure: one of its flags, with the instances that the view holds, which
     /// are as many, and are compared with the old ones by X9. Data comes exactly where one of X5 to
-    /// X9 is broken, and is the first. Its tree is the old one refit to the boxes of the instances
-    /// (`IsUpdated`): it has the same nodes and the same order; where other instances have a box
-    /// than in this structure the tree is built anew. `rt` lends the threads for it.
-    /// (VK_BUILD_ACCELERATION_STRUCTURE_MODE_UPDATE_KHR)
+    /// X9 is broken, and is the first. Its tree is built anew. (VK_BUILD_ACCELERATION_STRUCTURE_MODE_UPDATE_KHR)
     pub fn update<R: Threads + Sync>(
         &self,
         rt: &R,
@@ -96,20 +90,10 @@ impl Top {
         ensures value { GivesTop (top_updated (without_tree self.now) used.now view.entry count)
             result }
         ensures count { IfOk result (λ t. length t.contents.instances ≡ count) }
-        ensures tree { IfOk result (IsTreeUpdated self.now.tree) }
+        ensures tree { IfOk result IsTreeBuilt }
     {
         let olds = self.instances.as_slice();
-        let tree = &self.hierarchy;
-        read_top(
-            rt,
-            alloc,
-            self.flags,
-            &view,
-            count,
-            used,
-            Some(olds),
-            Some(tree),
-        )
+        read_top(rt, alloc, self.flags, &view, count, used, Some(olds))
     }
 
     /// A structure with the same contents, the same structures in use beside them, and the same
@@ -193,8 +177,7 @@ impl Top {
     }
 }
 
-// The structure of the first instances of a view, as an update of old ones, and of an old tree, where
-// there are some.
+// The structure of the first instances of a view, as an update of old ones where there are some.
 fn read_top<R: Threads + Sync>(
     rt: &R,
     alloc: Global,
@@ -203,39 +186,20 @@ fn read_top<R: Threads + Sync>(
     count: u32,
     used: &[Used],
     olds: Option<&[Option<Placed>]>,
-    tree: Option<&Hierarchy>,
 ) -> Result<Top, BuildFault>
     requires speed { has_both_fast flags ≡ false }
     requires count { count ≤ 2 ^ 16 }
     ensures value { GivesTop (top_with flags used.now (instances_read used.now view.now
         (option_copied olds.entry) count)) result }
     ensures count { IfOk result (λ t. length t.contents.instances ≡ count) }
-    ensures tree { IfOk result (IsTreeFrom (option_copied tree.entry)) }
+    ensures tree { IfOk result IsTreeBuilt }
 {
     let index = UsedIndex::new(alloc, used)?;
     let instances = read_instances(alloc, &index, view, olds, count)?;
     let items = items_of(alloc, &index, instances.as_slice())?;
     let used = copy_used(alloc, used)?;
-    let hierarchy = hierarchy_of(rt, alloc, tree, flags, &items)?;
+    let hierarchy = Hierarchy::build(rt, alloc, flags, &items)?;
     Ok(counted(flags, used, instances, hierarchy))
-}
-
-// The trees over items: of a build, or of an update where there are old ones.
-fn hierarchy_of<R: Threads + Sync>(
-    rt: &R,
-    alloc: Global,
-    old: Option<&Hierarchy>,
-    flags: BuildFlags,
-    items: &[Option<Box3>],
-) -> Result<Hierarchy, NoMemory>
-    requires { length items.now ≤ 2 ^ 20 }
-    ensures tree { IfOk result (IsTreeOf (option_copied old.entry) flags items.now) }
-    ensures over { IfOk result (λ h. TreeOver h items.now) }
-{
-    match old {
-        Some(old) => old.updated(rt, alloc, flags, items),
-        None => Hierarchy::build(rt, alloc, flags, items),
-    }
 }
 
 // The structure of these parts.

@@ -1,7 +1,7 @@
-use Rattle.std.proofs.Common.{◌∙◌, option_copied, sym, subst, map}
-use Rattle.ray_hierarchy.specs.Hierarchies.{IsTreeOf}
+use Rattle.std.proofs.Common.{◌∙◌, sym, subst, map}
+use Rattle.ray_hierarchy.specs.Hierarchies.{IsBuilt}
 use Rattle.ray_tree.specs.Trees.{TreeOver}
-use Rattle.ray_top.specs.Trees.{IsTreeFrom, item_of}
+use Rattle.ray_top.specs.Trees.{TopWithTree, item_of, items_of, without_tree}
 use Rattle.ray_top.proofs.top.read_top.Goals as goal
 
 pub counted-requires-clause-over : goal.counted-requires-clause-over
@@ -14,5 +14,5 @@ pub returns-clause-tree : goal.returns-clause-tree
 returns-clause-tree g c =
     let used = c.in_ok-index.ensures ∙ sym c.in_ok-used.ensures in
     let items = c.deref.ensures.value ∙ (c.in_ok-items.ensures ∙ (λ i. map (item_of (used i)) (c.as_slice.ensures i))) in
-    subst (IsTreeFrom (option_copied c.args.tree)) (sym c.counted.ensures)
-    (subst (λ xs. IsTreeOf (option_copied c.args.tree) c.args.flags xs c.in_ok-hierarchy.hierarchy) items c.in_ok-hierarchy.ensures.tree)
+    subst (λ (t : TopWithTree). IsBuilt t.contents.flags (items_of (without_tree t)) t.tree) (sym c.counted.ensures)
+    (subst (λ xs. IsBuilt c.args.flags xs c.in_ok-hierarchy.hierarchy) items c.in_ok-hierarchy.ensures)
