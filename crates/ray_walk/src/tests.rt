@@ -5,7 +5,10 @@ ghost use Rattle.ray_top.specs.Trees.{without_tree};
 ghost use Rattle.ray_query.specs.declared.decision.Decision.TheVariants.{Confirm, Ignore};
 ghost use Rattle.ray_walk.specs.Standing.{AreStanding, structures_in};
 
-use crate::{NoMemory, agreeing_law, candidates_law, numbers_law, standing_law, trace_plain};
+use crate::{
+    NoMemory, Turns, agreeing_law, candidates_law, numbers_law, standing_law, trace_plain,
+    trace_ray,
+};
 use bitflags::Flags;
 use ray_bottom::{Bottom, Bottoms, BoxInfo, Builder, PrimPlace, TriangleInfo};
 use ray_bytes::{BoxView, Format, InstanceView, VertexView};
@@ -13,7 +16,7 @@ use ray_contents::keeps_bounds;
 use ray_flags::{BuildFlags, RayFlags};
 use ray_geom::{Frac, Matrix, Ray, Steps, Vec3};
 use ray_primitives::BuildFault;
-use ray_query::{ByFn, Candidate, Client, Decision, Function};
+use ray_query::{ByFn, Candidate, Client, Commit, Decision, Function};
 use ray_top::{Top, Used};
 use std::alloc::{AllocError, Global};
 use std::marker::Brand;
@@ -164,15 +167,48 @@ fn traced<R: AllocGlobal, C: Client>(
         client,
         &mut steps,
     )?;
-    Ok(match commit {
-        Some(c) => Some((
-            c.found.instance,
-            c.found.primitive,
-            c.found.front,
-            c.t.lowest(),
-        )),
-        None => None,
-    })
+    Ok(told(commit))
+}
+
+// What is told of a commit.
+fn told(commit: Option<Commit>) -> Told {
+    let c = commit?;
+    Some((
+        c.found.instance,
+        c.found.primitive,
+        c.found.front,
+        c.t.lowest(),
+    ))
+}
+
+// What a walk through the trees commits, for a ray from a point along (0,0,-1) with no flags.
+fn walked<R: AllocGlobal, C: Client>(
+    rt: &R,
+    scene: &(Top, Bottoms),
+    origin: Vec3,
+    client: &C,
+) -> Result<Told, NoMemory>
+    requires { AreStanding (without_tree scene.now.0) (structures_in scene.now.1) }
+{
+    let mut steps: Steps<Brand> = Steps::zero();
+    let mut turns = Turns::new(rt.alloc());
+    let down = Vec3 { x: 0, y: 0, z: -1 };
+    let Some(ray) = Ray::new(origin, down, 0, 1 << 30) else {
+        return Ok(None);
+    };
+    let (top, bottoms) = scene;
+    let commit = trace_ray(
+        top,
+        bottoms,
+        &ray,
+        0,
+        RayFlags(0),
+        1,
+        client,
+        &mut turns,
+        &mut steps,
+    )?;
+    Ok(told(commit))
 }
 
 // The triangle (0,0,0), (4,0,0), (0,4,0).
@@ -336,7 +372,8 @@ fn a_made_up_cell(rt: HostRuntime) -> Result<(), Fail> {
         };
         let origin = Vec3 { x, y, z: 4096 };
         assert!(rt;
-            traced(&rt, &placed, origin, RayFlags(0), 1, &CONFIRM)? == want,
+            traced(&rt, &placed, origin, RayFlags(0), 1, &CONFIRM)? == want
+                && walked(&rt, &placed, origin, &CONFIRM)? == want,
             "{name}"
         );
     }
