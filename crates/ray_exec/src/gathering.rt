@@ -17,14 +17,26 @@ use ray_memory::State;
 use std::alloc::{AllocError as NoMemory, Global};
 use std::thread::Threads;
 
-// What each piece of a wave gives, all of the memory as it is, in order. So many workers fetch them,
-// or this thread alone where there are less than two to fetch.
+// So many waves of a run are fetched by as many workers as there are, however little there is to
+// fetch; in a later one that has only few and short pieces a thread would take longer to start than
+// they take.
+const FREE_WAVES: usize = 256;
+
+// So many pieces are worth threads, however short they are.
+const MANY_PIECES: usize = 512;
+
+// So many rays of a trace are worth a thread.
+const LONG_TRACE: u32 = 16;
+
+// What each piece of the wave of a number gives, all of the memory as it is, in order. So many
+// workers fetch them, or this thread alone where that isn't worth a thread.
 pub(crate) fn fetch_wave<R: Threads + Sync, G: Gate + Sync>(
     rt: &R,
     alloc: Global,
     state: &State,
     rec: &Recording,
     pieces: &[Piece],
+    wave: usize,
     workers: u32,
     gate: &G,
 ) -> Result<Vec<Given>, NoMemory>
@@ -32,6 +44,7 @@ pub(crate) fn fetch_wave<R: Threads + Sync, G: Gate + Sync>(
     requires ready { AreReady rec.now (memory_of state.now) pieces.now }
     ensures { IfOk result (λ v. AreGiven rec.now (memory_of state.now) pieces.now v.items) }
 {
+    let workers = worth(rec, pieces, wave, workers);
     let places = places(rt, alloc, state, rec, pieces, workers, gate)?;
     complete(rt, alloc, state, rec, pieces, gate, places)
 }
@@ -50,7 +63,6 @@ fn places<R: Threads + Sync, G: Gate + Sync>(
     requires ready { AreReady rec.now (memory_of state.now) pieces.now }
     ensures { IfOk result (λ v. AreFilled rec.now (memory_of state.now) pieces.now v.items) }
 {
-    let workers = worth(rec, pieces, workers);
     match count_of(pieces) {
         Some(count) => {
             if workers < 2 {
@@ -63,20 +75,52 @@ fn places<R: Threads + Sync, G: Gate + Sync>(
     }
 }
 
-// How many workers, of so many, have a piece to fetch: no command of the host, and no barrier.
-fn worth(rec: &Recording, pieces: &[Piece], workers: u32) -> u32
+// How many workers, of so many, are worth a thread each in the wave of a number.
+fn worth(rec: &Recording, pieces: &[Piece], wave: usize, workers: u32) -> u32
     ensures { result ≤ workers }
 {
-    let mut worth = 0;
+    if wave < FREE_WAVES || pieces.len() >= MANY_PIECES || has_long(rec, pieces) {
+        fetching(rec, pieces, workers)
+    } else {
+        0
+    }
+}
+
+// How many workers, of so many, have a piece to fetch: no command of the host, and no barrier.
+fn fetching(rec: &Recording, pieces: &[Piece], workers: u32) -> u32
+    ensures { result ≤ workers }
+{
+    let mut fetching = 0;
     for piece in pieces {
-        if worth == workers {
+        if fetching == workers {
             break;
         }
         if piece.command < rec.len() && reads(rec.command(piece.command)) {
-            worth += 1;
+            fetching += 1;
         }
     }
-    worth
+    fetching
+}
+
+// Whether one of the pieces is long.
+fn has_long(rec: &Recording, pieces: &[Piece]) -> bool {
+    for piece in pieces {
+        if piece.command < rec.len() && is_long(rec.command(piece.command)) {
+            return true;
+        }
+    }
+    false
+}
+
+// Whether a piece of a command takes longer than a thread takes to start, as far as the command
+// alone tells it.
+fn is_long(command: &Command) -> bool {
+    match command {
+        Command::Build { .. } | Command::CopyStructure { .. } => true,
+        Command::Serialize { .. } | Command::Deserialize { .. } => true,
+        Command::Trace { count, .. } => *count >= LONG_TRACE,
+        _ => false,
+    }
 }
 
 // Whether the fetch of a command's piece may do anything.

@@ -89,7 +89,16 @@ fn run_wave<R: Threads + Sync, G: Gate + Sync>(
 {
     let commands = commands_of(waves, order, until, wave);
     let pieces = pieces_below(alloc, rec, commands, bound_by(until, stop))?;
-    let outs = fetch_wave(rt, alloc, state, rec, pieces.as_slice(), workers, gate)?;
+    let outs = fetch_wave(
+        rt,
+        alloc,
+        state,
+        rec,
+        pieces.as_slice(),
+        wave,
+        workers,
+        gate,
+    )?;
     let met = settle(state, rec, pieces.as_slice(), outs, text)?;
     Ok(least(met, stop))
 }
