@@ -4,14 +4,15 @@
 //! tree 10` as often a tree over their cells' boxes, and `ray_bench_builds top 10` a top structure
 //! of 65,536 instances; `fast` builds trees by keys over the same boxes, and `wide` makes a wide
 //! tree of one; `climb` refits one by a seat, `climb-by-four` by four, and `climb-by-none` only
-//! makes what they share. Each prints how often it built, of how many, and how many of them are active, or
-//! how many leaves or nodes there are. `ray_bench_builds open 10` serializes a bottom structure
+//! makes what they share. Each prints how often it built, of how many, and how many of them are
+//! active, or how many leaves or nodes there are. `ray_bench_builds open 10` serializes a bottom structure
 //! of 1,048,576 triangles, opens the form ten times, and prints of how many bytes it is and how
 //! often it opened. Without words it does a little of each. Other words give the line `bad-words`
 //! and status 3.
 //!
 //! What is timed are the public calls of ray_bottom, ray_top, ray_tree, ray_morton, ray_climb,
-//! ray_wide and ray_serial; what these do is their contracts' to say. It stands on them and on nothing of the program.
+//! ray_wide and ray_serial; what these do is their contracts' to say. It stands on them and on
+//! nothing of the program.
 #![tactic(auto)]
 
 mod bench_error;

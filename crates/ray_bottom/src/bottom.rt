@@ -40,7 +40,8 @@ impl Model for Bottom {
 }
 
 impl Bottom {
-    /// A structure with the same contents and the same tree. (VK_COPY_ACCELERATION_STRUCTURE_MODE_CLONE_KHR)
+    /// A structure with the same contents and the same tree.
+    /// (VK_COPY_ACCELERATION_STRUCTURE_MODE_CLONE_KHR)
     pub fn copy(&self, alloc: Global) -> Result<Bottom, NoMemory>
         ensures { IfOk result (λ copy. copy ≡ self.now) }
     {
@@ -87,7 +88,8 @@ impl Bottom {
         self.hierarchy.wide()
     }
 
-    /// The places of the primitives of a leaf, by its node in the binary tree; none for another node.
+    /// The places of the primitives of a leaf, by its node in the binary tree; none for another
+    /// node.
     pub fn items_of(&self, leaf: u32) -> &[PrimPlace]
         requires { leaf < length self.now.tree.nodes }
         ensures { result.now ≡ places_below self.now leaf }

@@ -49,8 +49,8 @@ impl Bottoms {
         let _len = self.slots.len();
     }
 
-    /// Makes room for an id, where there is none yet. What stands there stays. Without memory all is
-    /// as before.
+    /// Makes room for an id, where there is none yet. What stands there stays. Without memory all
+    /// is as before.
     pub fn make_room(&mut self, id: u32) -> Result<(), NoMemory>
         ensures ok { OnOk result (Changes id (Some (structure_at id self.old)) self.old self.new) }
         ensures err { OnErr result (self.new ≡ self.old) }

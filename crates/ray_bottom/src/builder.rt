@@ -159,11 +159,11 @@ impl<'a> Builder<'a> {
         Ok(())
     }
 
-    /// The structure with the contents. Its tree is that of its build (`IsBuilt`): by keys where the
-    /// flags prefer fast builds, else by halves. An update refits the old tree to the boxes of the
-    /// primitives that are read (`IsUpdated`): it has the same nodes and the same order, and as each
-    /// node's box the least box of the primitives below it; where other primitives are active than
-    /// in the old structure its tree is built anew. `rt` lends the threads for it.
+    /// The structure with the contents. Its tree is that of its build (`IsBuilt`): by keys where
+    /// the flags prefer fast builds, else by halves. An update refits the old tree to the boxes of
+    /// the primitives that are read (`IsUpdated`): it has the same nodes and the same order, and as
+    /// each node's box the least box of the primitives below it; where other primitives are active
+    /// than in the old structure its tree is built anew. `rt` lends the threads for it.
     pub fn finish<R: Threads + Sync>(self, rt: &R) -> Result<Bottom, NoMemory>
         ensures contents { IfOk result (λ b. without_tree b ≡ self.entry.contents) }
         ensures tree { let c = self.entry.contents in

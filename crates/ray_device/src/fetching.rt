@@ -28,9 +28,9 @@ use std::sync::ledger::Ledger;
 use std::thread::Threads;
 
 /// What a piece gives of the memory as it is, or the first data rule that what it reads breaks,
-/// with its place. The piece's action is ready there. A piece of a trace takes a step for each primitive
-/// that it tests, no more than those of the leaves that its rays open; every other piece takes none. (The operations of each device command of
-/// Vulkan.)
+/// with its place. The piece's action is ready there. A piece of a trace takes a step for each
+/// primitive that it tests, no more than those of the leaves that its rays open; every other piece
+/// takes none. (The operations of each device command of Vulkan.)
 #[tactic(auto, using(crate::proofs::Commands::part_within))]
 pub fn fetch<R: Threads + Sync, L: Ledger>(
     rt: &R,

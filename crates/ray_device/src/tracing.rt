@@ -43,8 +43,8 @@ fn hits<L: Ledger>(
     requires standing { AreStanding (without_tree top.now) (structures_in bottoms.now) }
     requires flags_agree { ¬ AsksBoth flags }
     requires numbers { first + count < 2 ^ 32 }
-    ensures value { IsFetched (rays_outcome (without_tree top.now) (structures_in bottoms.now) script.now flags mask
-        rays.now first count) result }
+    ensures value { IsFetched (rays_outcome (without_tree top.now) (structures_in bottoms.now)
+        script.now flags mask rays.now first count) result }
     ensures bound { OnOk result (steps.new ≤ steps.old + most_of_rays top.now bottoms.now script.now
         flags mask rays.now first count) }
     ensures rising { steps.old ≤ steps.new }
@@ -154,8 +154,8 @@ fn hit<L: Ledger>(
 ) -> Result<HitRecord, FetchFault>
     requires standing { AreStanding (without_tree top.now) (structures_in bottoms.now) }
     requires flags_agree { ¬ AsksBoth flags }
-    ensures value { IsHit (hit_by (without_tree top.now) (structures_in bottoms.now) script.now flags mask number
-        ray) result }
+    ensures value { IsHit (hit_by (without_tree top.now) (structures_in bottoms.now) script.now
+        flags mask number ray) result }
     ensures bound { OnOk result (steps.new ≤ steps.old + most_by top.now bottoms.now script.now flags
         mask number ray) }
     ensures rising { steps.old ≤ steps.new }

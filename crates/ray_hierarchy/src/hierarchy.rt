@@ -16,8 +16,8 @@ use std::alloc::{AllocError as NoMemory, Global};
 use std::marker::Model;
 use std::thread::Threads;
 
-/// A binary tree over the boxes of items, with the wide tree over its leaves. Contracts see it as the
-/// binary tree. (Own.)
+/// A binary tree over the boxes of items, with the wide tree over its leaves. Contracts see it as
+/// the binary tree. (Own.)
 #[derive(Drop)]
 pub struct Hierarchy {
     tree: Tree,
@@ -37,8 +37,8 @@ impl Model for Hierarchy {
 }
 
 impl Hierarchy {
-    /// The trees over items, which are at most 2^20: by keys where the flags prefer fast builds, and
-    /// else by halves. `rt` lends the threads to sort keys. (Own; the flag is
+    /// The trees over items, which are at most 2^20: by keys where the flags prefer fast builds,
+    /// and else by halves. `rt` lends the threads to sort keys. (Own; the flag is
     /// VK_BUILD_ACCELERATION_STRUCTURE_PREFER_FAST_BUILD_BIT_KHR.)
     ///
     /// # Errors

@@ -77,7 +77,8 @@ impl Top {
 
     /// An update of this structure: one of its flags, with the instances that the view holds, which
     /// are as many, and are compared with the old ones by X9. Data comes exactly where one of X5 to
-    /// X9 is broken, and is the first. Its tree is built anew. (VK_BUILD_ACCELERATION_STRUCTURE_MODE_UPDATE_KHR)
+    /// X9 is broken, and is the first. Its tree is built anew.
+    /// (VK_BUILD_ACCELERATION_STRUCTURE_MODE_UPDATE_KHR)
     pub fn update<R: Threads + Sync>(
         &self,
         rt: &R,

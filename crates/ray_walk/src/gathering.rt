@@ -104,7 +104,8 @@ fn add_structure<L: Ledger>(
     requires instance_agrees { ¬ ForcesBoth instance.now.flags }
     requires flags_agree { ¬ AsksBoth flags }
     ensures value { OnOk result (found.new.items ≡ found.old.items
-        ++ found_in_structure ray.now flags number (instance_of instance.now) (Some (bottom_trees.without_tree bottom.now))) }
+        ++ found_in_structure ray.now flags number (instance_of instance.now)
+        (Some (bottom_trees.without_tree bottom.now))) }
     ensures rising { steps.old ≤ steps.new }
 {
     for geometry in 0..bottom.geometries() {

@@ -34,7 +34,8 @@ pub(crate) fn open_leaf<L: Ledger>(
     requires within { n < length looked.now.bottom.now.tree.nodes }
     ensures found { OnOk result (AddsFoundAt limit scene.now i (placement_value looked.now)
         (places_below looked.now.bottom.now n) turns.old turns.new) }
-    ensures steps { OnOk result (steps.new ≡ steps.old + length (places_below looked.now.bottom.now n)) }
+    ensures steps { OnOk result (steps.new
+        ≡ steps.old + length (places_below looked.now.bottom.now n)) }
     ensures rising { steps.old ≤ steps.new }
 {
     for place in looked.bottom.items_of(n) {
@@ -70,7 +71,8 @@ fn find_in<L: Ledger>(
     flags: RayFlags,
     steps: &mut Steps<L>,
 ) -> Option<Found>
-    requires kept { KeepsBounds looked.now.instance.matrix (bounds_of looked.now.bottom.now.geometries) }
+    requires kept { KeepsBounds looked.now.instance.matrix
+        (bounds_of looked.now.bottom.now.geometries) }
     requires instance_agrees { ¬ ForcesBoth looked.now.instance.flags }
     requires flags_agree { ¬ AsksBoth flags }
     ensures value { option_to_list result ≡ found_by_place ray.now flags i
