@@ -18,7 +18,7 @@ use Rattle.ray_query.specs.declared.found.Found.{Found}
 use Rattle.ray_query.specs.Key.{found_key, key_cmp}
 use Rattle.ray_walk.specs.Candidates.{Structures, Placed, placed, passes_over, found_of, admitted, found_at, found_in_geometry, found_in_structure, is_seen, found_in_instance, active_instance, found_in}
 use Rattle.ray_nearest.specs.KeyOrder.{AreApart, has_key}
-use Rattle.ray_walk.proofs.Members.{Member}
+use Rattle.ray_nearest.proofs.Members.{Member}
 use Rattle.ray_walk.proofs.Joined.{Member-joined, joined-le-one}
 use Rattle.ray_walk.proofs.Findings.{IsAt, IsAt-found_at}
 

@@ -4,8 +4,9 @@ use Rattle.ray_query.specs.declared.found.Found.{Found}
 use Rattle.ray_walk.specs.Candidates.{candidates, found_in}
 use Rattle.ray_nearest.specs.KeyOrder.{in_key_order}
 use Rattle.ray_walk.specs.Laws.{AreCandidates, CandidatesAreSo, CandidatesAreOne}
-use Rattle.ray_walk.proofs.Members.{Member-from_Contains, Contains-from_Member}
-use Rattle.ray_walk.proofs.Order.{KeysRise-from_Rises, Rises-from_KeysRise, Rises-in_key_order, in_key_order-has, in_key_order-keeps, rising_same}
+use Rattle.ray_nearest.proofs.Members.{Member-from_Contains, Contains-from_Member}
+use Rattle.ray_nearest.proofs.Rising.{Rises-in_key_order, in_key_order-has, in_key_order-keeps, rising_same}
+use Rattle.ray_walk.proofs.Order.{KeysRise-from_Rises, Rises-from_KeysRise}
 use Rattle.ray_walk.proofs.Apart.{AreApart-found}
 use Rattle.ray_walk.proofs.Findings.{IsFound-member, Member-found}
 

@@ -15,7 +15,7 @@ use Rattle.ray_top.specs.Contents.{ContentsValue as TopContents}
 use Rattle.ray_query.specs.declared.found.Found.{Found}
 use Rattle.ray_walk.specs.Candidates.{Structures, Placed, placed, passes_over, found_of, admitted, found_at, found_in_geometry, found_in_structure, is_seen, found_in_instance, active_instance, found_in}
 use Rattle.ray_walk.specs.Laws.{IsFound}
-use Rattle.ray_walk.proofs.Members.{Member}
+use Rattle.ray_nearest.proofs.Members.{Member}
 use Rattle.ray_walk.proofs.Joined.{Member-joined, Member-joined_back}
 
 abbrev place_of : ℕ → ℕ → PrimPlace

@@ -29,7 +29,7 @@ use Rattle.ray_walk.specs.Fractions.{fraction_of}
 use Rattle.ray_walk.specs.Candidates.{Placed, placed, passes_over, found_of, admitted, found_at}
 use Rattle.ray_walk.specs.Traced.{Traced, Placement, found_in_placed, found_at_place, found_of_item}
 use Rattle.ray_walk.specs.Sound.{shape_box, prim_box, IsWellPlaced}
-use Rattle.ray_walk.proofs.Members.{Member}
+use Rattle.ray_nearest.proofs.Members.{Member}
 use Rattle.ray_walk.proofs.Placing.{All-at}
 use Rattle.ray_walk.proofs.Opened.{le_tells}
 use Rattle.ray_walk.proofs.HitInside.{hit_inside}

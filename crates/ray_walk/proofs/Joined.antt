@@ -3,7 +3,7 @@ use Rattle.std.proofs.Common.{◌≡◌, ◌∙◌, ◌⊎◌, ◌+◌, ◌≤�
 use Rattle.std.proofs.lemmas.Bool.{cases_lt}
 use Rattle.std.proofs.lemmas.List.Sums.{sum_by-append}
 use Rattle.ray_walk.specs.Candidates.{joined}
-use Rattle.ray_walk.proofs.Members.{Member, Member-append, Member-append_left, Member-append_right}
+use Rattle.ray_nearest.proofs.Members.{Member, Member-append, Member-append_left, Member-append_right}
 
 pub joined-suc : {X : Type 0} (each : ℕ → List X) (n : ℕ) → joined each (suc n) ≡ joined each n ++ each n
 unfolding joined

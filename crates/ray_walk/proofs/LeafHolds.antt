@@ -12,7 +12,7 @@ use Rattle.ray_nearest.specs.declared.node.WalkNode.TheVariants.{Leaf}
 use Rattle.ray_nearest.specs.Scene.{Holds, IsInOrder}
 use Rattle.ray_walk.specs.Traced.{Traced, Placement, placement_at, no_box, entry_of_placement, bottom_entry, items_at, found_of_item, found_in_leaf, finds, IsBottomNode}
 use Rattle.ray_walk.specs.Sound.{AreAligned, IsWellPlaced}
-use Rattle.ray_walk.proofs.Members.{Member, Each-from_members, All-from_Each}
+use Rattle.ray_nearest.proofs.Members.{Member, Each-from_members, All-from_Each}
 use Rattle.ray_walk.proofs.Opened.{inside_held}
 use Rattle.ray_walk.proofs.FoundInside.{IsFoundIn, found_inside}
 use Rattle.ray_walk.proofs.LeafItems.{IsFrom, Member-flat_map, IsItem, item_at_node, box_at_node}

@@ -15,8 +15,8 @@ use Rattle.ray_tree.proofs.Counting.{has_items}
 use Rattle.ray_tree.proofs.LeastLists.{All-second}
 use Rattle.ray_tree.proofs.NodeLaws.{at_leaf}
 use Rattle.ray_walk.specs.Traced.{items_by, items_at}
-use Rattle.ray_walk.proofs.Keys.{Each-from_All}
-use Rattle.ray_walk.proofs.Members.{Member, Member-append, Each-member}
+use Rattle.ray_nearest.proofs.Orders.{Each-from_All}
+use Rattle.ray_nearest.proofs.Members.{Member, Member-append, Each-member}
 
 -- ---- lists
 

@@ -1,6 +1,5 @@
 pub mod Keys
 pub mod Fractions
-pub mod Members
 pub mod Order
 pub mod Joined
 pub mod Spread

@@ -12,7 +12,7 @@ use Rattle.ray_nearest.specs.Parts.{Nests}
 use Rattle.ray_nearest.specs.Scene.{Holds, IsInOrder}
 use Rattle.ray_walk.specs.Traced.{Traced, Placement, placement_at, top_ref_by, top_ref, ref_by, ref, root_in, roots_by, roots_of, top_children, children, children_of, items_at, below, finds, entry, top_entry, bottom_entry, IsNode, IsTopNode, IsBottomNode}
 use Rattle.ray_walk.specs.Sound.{IsWellPlaced, IsWalkable}
-use Rattle.ray_walk.proofs.Members.{Member, Each-from_members, All-from_Each}
+use Rattle.ray_nearest.proofs.Members.{Member, Each-from_members, All-from_Each}
 use Rattle.ray_walk.proofs.WellPlaced.{well_placed}
 use Rattle.ray_walk.proofs.Aligned.{are_aligned}
 use Rattle.ray_walk.proofs.LeafItems.{IsFrom, Member-flat_map}

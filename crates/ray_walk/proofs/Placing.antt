@@ -12,7 +12,7 @@ use Rattle.ray_top.specs.declared.used.Used.{Used}
 use Rattle.ray_top.specs.Instances.{InstanceValue, forces_both}
 use Rattle.ray_top.specs.InstanceReading.{bounds_in, noted}
 use Rattle.ray_top.specs.Contents.{TopValue, IsTop, IsActive, IsInstance}
-use Rattle.ray_walk.proofs.Keys.{Each, Each-from_All}
+use Rattle.ray_nearest.proofs.Orders.{Each, Each-from_All}
 use Rattle.ray_walk.specs.Candidates.{Structures, active_instance}
 use Rattle.ray_walk.specs.Standing.{IsStanding, AreStanding, IsHere}
 use Rattle.ray_walk.specs.Telling.{IsPlaceable, instance_of}

@@ -16,7 +16,7 @@ use Rattle.ray_top.specs.Trees.{without_tree, world_box, item_of, items_of}
 use Rattle.ray_nearest.specs.Parts.{Nests}
 use Rattle.ray_walk.specs.Traced.{Traced, Placement, placement_at, no_box, top_entry, entry_of_placement, bottom_entry, items_at}
 use Rattle.ray_walk.specs.Sound.{IsWellPlaced, IsWalkable}
-use Rattle.ray_walk.proofs.Members.{Member}
+use Rattle.ray_nearest.proofs.Members.{Member}
 use Rattle.ray_walk.proofs.Opened.{Carries, nests_carried}
 use Rattle.ray_walk.proofs.WellPlaced.{IsPlacement, is_placement, bounds_stand, well_placed}
 use Rattle.ray_walk.proofs.LeafItems.{IsItem, item_at_node, box_at_node}
