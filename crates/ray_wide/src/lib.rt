@@ -6,7 +6,7 @@
 //! `specs/Wides`, which says what a wide tree over a binary one is:
 //! - [`collapse`] gives one;
 //! - [`Wide::refit`] makes one of a wide tree over the same nodes with other boxes, and takes no
-//!   memory;
+//!   memory; [`Wide::copy`] gives the same once more;
 //! - [`way_law`] says that one way leads from the root to each leaf, [`lane_law`] and
 //!   [`nesting_law`] that the boxes on a way are one in the other, and [`root_law`] when there is a
 //!   root.

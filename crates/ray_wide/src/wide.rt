@@ -80,6 +80,23 @@ fn first_tops(alloc: Global, root: WideRef) -> Result<Vec<u32>, NoMemory>
 }
 
 impl Wide {
+    /// The same wide tree once more.
+    ///
+    /// # Errors
+    ///
+    /// For want of memory alone.
+    pub fn copy(&self) -> Result<Wide, NoMemory>
+        ensures { IfOk result (λ copy. copy ≡ self.now) }
+    {
+        let nodes = self.nodes.clone()?;
+        let tops = self.tops.clone()?;
+        Ok(Wide {
+            root: self.root,
+            nodes,
+            tops,
+        })
+    }
+
     /// Makes the lanes those of a tree with the nodes of the one that was collapsed, whatever its
     /// boxes are. It takes no memory.
     pub fn refit(&mut self, tree: &Tree)
