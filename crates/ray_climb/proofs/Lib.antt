@@ -12,7 +12,7 @@ mod Allowed
 mod Packing
 mod OneParent
 mod Leaves
-mod LeastOver
+pub mod LeastOver
 mod Framed
 mod Opening
 mod Boxed

@@ -11,6 +11,15 @@ use Rattle.ray_morton.specs.Cuts.{AreCut}
 use Rattle.ray_wide.specs.Wides.{WideValue, WideOver}
 use Rattle.ray_climb.specs.Refits.{HasActivity, IsRefit}
 
+-- the trees of a structure: a binary tree over its items, and a wide tree over the leaves of that
+pub record HierarchyValue : Type 0 where
+  pub tree : TreeValue
+  pub wide : WideValue
+
+-- those of these
+abbrev pub hierarchy_value : TreeValue → WideValue → HierarchyValue
+hierarchy_value tree wide = record { tree = tree; wide = wide }
+
 -- a tree by keys: its items, from the leftmost leaf on, are in rising order of their keys, and are cut by them
 pub record IsByKeys (items : List (Option BoxValue)) (tree : TreeValue) : Type 0 where
   pub rising : IsInKeyOrder items (items_below tree.order (shape_at tree 0))

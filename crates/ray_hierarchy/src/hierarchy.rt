@@ -1,8 +1,8 @@
 ghost use Rattle.std.specs.Prelude.{◌≡◌, ◌≤◌, ◌^◌, ◌↔◌, IfOk, IsTrue, length};
 ghost use Rattle.ray_tree.specs.Trees.{active_of};
-ghost use Rattle.ray_wide.specs.Wides.{WideOver};
+ghost use Rattle.ray_wide.specs.Wides.{IsSameButLanes, WideOver};
 ghost use Rattle.ray_climb.specs.Refits.{HasActivity, IsRefit};
-ghost use Rattle.ray_hierarchy.specs.Hierarchies.{IsBuilt, IsUpdated};
+ghost use Rattle.ray_hierarchy.specs.Hierarchies.{IsBuilt, IsUpdated, hierarchy_value};
 
 use crate::activity::{count_active, has_activity};
 use bitflags::Flags;
@@ -16,8 +16,8 @@ use std::alloc::{AllocError as NoMemory, Global};
 use std::marker::Model;
 use std::thread::Threads;
 
-/// A binary tree over the boxes of items, with the wide tree over its leaves. Contracts see it as
-/// the binary tree. (Own.)
+/// A binary tree over the boxes of items, with a wide tree over its leaves. Contracts see it as
+/// both. (Own.)
 #[derive(Drop)]
 pub struct Hierarchy {
     tree: Tree,
@@ -26,12 +26,11 @@ pub struct Hierarchy {
 }
 
 impl Model for Hierarchy {
-    ghost use Rattle.ray_tree.specs.Trees.{TreeValue};
-    ghost use Rattle.ray_hierarchy.specs.Hierarchies.{IsKept};
+    ghost use Rattle.ray_hierarchy.specs.Hierarchies.{HierarchyValue, IsKept, hierarchy_value};
 
-    ghost Value = { TreeValue };
+    ghost Value = { HierarchyValue };
 
-    ghost view = { λ h. h.tree };
+    ghost view = { λ h. hierarchy_value h.tree h.wide };
 
     ghost invariant = { λ h. IsKept h.tree h.wide h.order.items };
 }
@@ -51,11 +50,12 @@ impl Hierarchy {
         items: &[Option<Box3>],
     ) -> Result<Hierarchy, NoMemory>
         requires { length items.now ≤ 2 ^ 20 }
-        ensures { IfOk result (IsBuilt flags items.now) }
+        ensures { IfOk result (λ h. IsBuilt flags items.now h.tree) }
     {
         let tree = built(rt, alloc, flags, items)?;
+        let wide = collapse(alloc, &tree)?;
         let places = count_active(items);
-        Hierarchy::of(alloc, tree, places)
+        Hierarchy::of(alloc, tree, wide, places)
     }
 
     /// The trees of an update: where the items, which are at most 2^20, have the activity of this
@@ -73,7 +73,7 @@ impl Hierarchy {
         items: &[Option<Box3>],
     ) -> Result<Hierarchy, NoMemory>
         requires { length items.now ≤ 2 ^ 20 }
-        ensures { IfOk result (IsUpdated flags self.now items.now) }
+        ensures { IfOk result (λ h. IsUpdated flags self.now.tree items.now h.tree) }
     {
         if self.has_activity(items) {
             self.refitted(rt, alloc, items)
@@ -84,7 +84,8 @@ impl Hierarchy {
 
     /// These trees refit to other items, which are at most 2^20 and have the activity of this
     /// tree's: the same nodes and the same order, and as each node's box the least box of the items
-    /// below it. From 1,024 items on four seats do it, on threads that `rt` lends.
+    /// below it. From 1,024 items on four seats do it, on threads that `rt` lends. The wide tree is
+    /// this one's but for its lanes.
     ///
     /// # Errors
     ///
@@ -96,32 +97,35 @@ impl Hierarchy {
         items: &[Option<Box3>],
     ) -> Result<Hierarchy, NoMemory>
         requires few { length items.now ≤ 2 ^ 20 }
-        requires activity { HasActivity self.now items.now }
-        ensures { IfOk result (IsRefit self.now items.now) }
+        requires activity { HasActivity self.now.tree items.now }
+        ensures tree { IfOk result (λ h. IsRefit self.now.tree items.now h.tree) }
+        ensures wide { IfOk result (λ h. IsSameButLanes self.now.wide h.wide) }
     {
         let tree = climb_all(rt, alloc, self.tree.copy()?, items)?;
-        Hierarchy::of(alloc, tree, self.order.len())
+        let mut wide = self.wide.copy()?;
+        wide.refit(&tree);
+        Hierarchy::of(alloc, tree, wide, self.order.len())
     }
 
     /// Whether items have the activity of this tree's, so that it can be refit to them.
     pub fn has_activity(&self, items: &[Option<Box3>]) -> bool
-        ensures { IsTrue result ↔ HasActivity self.now items.now }
+        ensures { IsTrue result ↔ HasActivity self.now.tree items.now }
     {
         has_activity(&self.tree, &self.order, items)
     }
 
-    // The trees of a binary tree with so many places.
-    fn of(alloc: Global, tree: Tree, places: usize) -> Result<Hierarchy, NoMemory>
+    // The trees of a binary tree with so many places and a wide one.
+    fn of(alloc: Global, tree: Tree, wide: Wide, places: usize) -> Result<Hierarchy, NoMemory>
+        requires over { WideOver wide tree }
         requires all { places ≡ length tree.order }
         requires few { places ≤ 2 ^ 20 }
-        ensures { IfOk result (λ h. h ≡ tree) }
+        ensures { IfOk result (λ h. h ≡ hierarchy_value tree wide) }
     {
-        let wide = collapse(alloc, &tree)?;
         let order = order_of(alloc, &tree, places)?;
         Ok(Hierarchy { tree, wide, order })
     }
 
-    /// The same trees once more; which nodes the wide tree has is free.
+    /// The same trees once more.
     ///
     /// # Errors
     ///
@@ -130,26 +134,28 @@ impl Hierarchy {
         ensures { IfOk result (λ h. h ≡ self.now) }
     {
         let tree = self.tree.copy()?;
-        Hierarchy::of(alloc, tree, self.order.len())
+        let wide = self.wide.copy()?;
+        Hierarchy::of(alloc, tree, wide, self.order.len())
     }
 
     /// The binary tree.
     pub fn tree(&self) -> &Tree
-        ensures { result.now ≡ self.now }
+        ensures { result.now ≡ self.now.tree }
     {
         &self.tree
     }
 
     /// The wide tree over its leaves.
     pub fn wide(&self) -> &Wide
-        ensures { WideOver result.now self.now }
+        ensures value { result.now ≡ self.now.wide }
+        ensures over { WideOver self.now.wide self.now.tree }
     {
         &self.wide
     }
 
     /// The numbers of the items in the order of their places, which the leaves name.
     pub fn order(&self) -> &[u32]
-        ensures { result.now ≡ self.now.order }
+        ensures { result.now ≡ self.now.tree.order }
     {
         &self.order
     }

@@ -10,8 +10,8 @@
 //!
 //! Want of memory is the only error.
 //!
-//! It stands on `ray_tree` and `ray_morton` (the builders), on `ray_climb` (updates), on `ray_wide`,
-//! and on `ray_flags`.
+//! It stands on `ray_tree` and `ray_morton` (the builders), on `ray_climb` (updates), on
+//! `ray_wide`, and on `ray_flags`.
 #![tactic(auto)]
 
 mod activity;
