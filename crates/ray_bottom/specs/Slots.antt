@@ -4,6 +4,7 @@ use Rattle.std.specs.Map.{lookup}
 use Rattle.std.specs.BTreeMap.{is_at}
 use Rattle.std.specs.Ordering.{nat_cmp}
 use Rattle.ray_tree.specs.Trees.{TreeOver}
+use Rattle.ray_wide.specs.Wides.{WideOver}
 use Rattle.ray_bottom.specs.Contents.{ContentsValue, IsContents}
 use Rattle.ray_bottom.specs.Trees.{BottomWithTree, items_of, without_tree}
 
@@ -29,10 +30,11 @@ has_room id slots = is_some (slot_at id slots)
 pub record Changes (id : ℕ) (slot : Option (Option BottomWithTree)) (before after : Slots) : Type 0 where
   pub each : (q : ℕ) → slot_at q after ≡ (if q == id then slot else slot_at q before)
 
--- a bottom structure within the limits, with a tree over its primitives
+-- a bottom structure within the limits, with a tree over its primitives, and a wide one over its leaves
 pub record IsSound (b : BottomWithTree) : Type 0 where
   pub limits : IsContents (without_tree b)
   pub over : TreeOver b.tree (items_of b.geometries)
+  pub wide : WideOver b.wide b.tree
 
 -- each of them is so
 pub record AreSound (bottoms : Slots) : Type 0 where

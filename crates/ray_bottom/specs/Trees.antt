@@ -7,6 +7,8 @@ use Rattle.ray_tree.specs.declared.node.Node.{Node}
 use Rattle.ray_tree.specs.declared.node.Node.TheVariants.{Leaf, Inner}
 use Rattle.ray_tree.specs.Shapes.{node_at}
 use Rattle.ray_tree.specs.Trees.{TreeValue, TreeOver}
+use Rattle.ray_wide.specs.Wides.{WideValue, WideOver}
+use Rattle.ray_hierarchy.specs.Hierarchies.{HierarchyValue}
 use Rattle.ray_primitives.specs.Primitives.{box_of_triangle}
 use Rattle.ray_bottom.specs.declared.geometry.Geometry.{Geometry}
 use Rattle.ray_bottom.specs.declared.shapes.Shapes.{Shapes}
@@ -14,19 +16,21 @@ use Rattle.ray_bottom.specs.declared.shapes.Shapes.TheVariants.{Triangles, Boxes
 use Rattle.ray_bottom.specs.declared.prim_place.PrimPlace.{PrimPlace}
 use Rattle.ray_bottom.specs.Contents.{ContentsValue, count_of}
 
--- a structure: the flags of its build and its geometries, which are its contents, and its box tree
+-- a structure: the flags of its build and its geometries, which are its contents, and its box trees, a binary and a wide one
 pub record BottomWithTree : Type 0 where
   pub flags : BuildFlags
   pub geometries : List Geometry
   pub tree : TreeValue
+  pub wide : WideValue
 
 -- its contents alone
 abbrev pub without_tree : BottomWithTree → ContentsValue
 without_tree bottom = record { flags = bottom.flags; geometries = bottom.geometries }
 
 -- the structure of these
-abbrev pub bottom_value : ContentsValue → TreeValue → BottomWithTree
-bottom_value contents tree = record { flags = contents.flags; geometries = contents.geometries; tree = tree }
+abbrev pub bottom_value : ContentsValue → HierarchyValue → BottomWithTree
+bottom_value contents trees =
+    record { flags = contents.flags; geometries = contents.geometries; tree = trees.tree; wide = trees.wide }
 
 -- ---- the items of its tree
 
@@ -67,7 +71,8 @@ places_below bottom n = places_by (places_in_order bottom) (node_at bottom.tree.
 
 -- ---- words of private types alone
 
--- what stands beside the contents: a tree over their items, and the places in its order
+-- what stands beside the contents: a tree over their items, a wide one over its leaves, and the places in its order
 pub record IsIndexed (bottom : BottomWithTree) (places : List PrimPlace) : Type 0 where
   pub over : TreeOver bottom.tree (items_of bottom.geometries)
+  pub wide : WideOver bottom.wide bottom.tree
   pub places_are : places ≡ places_in_order bottom

@@ -83,7 +83,8 @@ impl Bottom {
 
     /// The wide tree over its leaves, which names each by its node in the binary tree.
     pub fn wide(&self) -> &Wide
-        ensures { WideOver result.now self.now.tree }
+        ensures value { result.now ≡ self.now.wide }
+        ensures over { WideOver self.now.wide self.now.tree }
     {
         self.hierarchy.wide()
     }
@@ -109,6 +110,7 @@ impl Bottom {
     {
         let _limits = self.geometries();
         let _tree = self.tree();
+        let _wide = self.wide();
     }
 
     /// The flags of its build.

@@ -195,8 +195,8 @@ fn hierarchy_of<R: Threads + Sync>(
 ) -> Result<Hierarchy, NoMemory>
     requires { length items.now ≤ 2 ^ 20 }
     ensures tree { let old = option_map (λ b. b.tree) (option_copied replaced.entry) in
-        IfOk result (IsTreeOf old flags items.now) }
-    ensures over { IfOk result (λ h. TreeOver h items.now) }
+        IfOk result (λ h. IsTreeOf old flags items.now h.tree) }
+    ensures over { IfOk result (λ h. TreeOver h.tree items.now) }
 {
     match replaced {
         Some(old) => old.hierarchy.updated(rt, alloc, flags, items),

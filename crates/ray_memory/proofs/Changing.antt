@@ -176,6 +176,30 @@ roomy-same structures slots more id kind roomy room = record {
   no_stray = λ q c there. roomy.no_stray q c (sym (room.same q) ∙ there);
 }
 
+-- and where a structure comes to hold a top structure, since its form stays
+abbrev kind_in : Option Structure → StructureKind
+kind_in None = kinds.Top
+kind_in (Some s) = s.form.kind
+
+module _ (structures after : Ids Structure) (slots : Slots) (id : ℕ) (top : top_trees.TopWithTree) (roomy : IsRoomy structures slots) (h : HoldsIn id top structures after) where
+  room-held : (q : ℕ) (s : Structure) (b : Bool) (found : Option Structure) → look structures q ≡ found → (if b then option_map (with_top top) found else found) ≡ Some s
+      → s.form.kind ≡ kinds.Bottom → has_room q slots ≡ true
+  room-held q s true None at is bottom = absurd cc
+  room-held q s true (Some t) at is bottom = roomy.room q t at (ap kind_in is ∙ bottom)
+  room-held q s false None at is bottom = absurd cc
+  room-held q s false (Some t) at is bottom = roomy.room q t at (ap kind_in is ∙ bottom)
+
+  found-held : (q : ℕ) (s : Structure) (b : Bool) → look after q ≡ (if b then option_map (with_top top) (look structures q) else look structures q)
+      → look structures q ≡ Some s → s.form.kind ≡ kinds.Bottom → (t : Structure) × (look after q ≡ Some t) × (t.form.kind ≡ kinds.Bottom)
+  found-held q s true is at bottom = (with_top top s, is ∙ ap (option_map (with_top top)) at, bottom)
+  found-held q s false is at bottom = (s, is ∙ at, bottom)
+
+  pub roomy-held : IsRoomy after slots
+  roomy-held = record {
+    room = λ q s found bottom. room-held q s (q == id) (look structures q) refl (sym (h.each q) ∙ found) bottom;
+    no_stray = λ q c there. let old = roomy.no_stray q c there in found-held q old.0 (q == id) (h.each q) old.1 old.2;
+  }
+
 -- ---- lending
 
 by_kind : (bottom : Option bottoms.ContentsValue) (kind : StructureKind) (top : Option top_trees.TopWithTree)

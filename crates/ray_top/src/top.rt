@@ -55,8 +55,8 @@ impl Top {
     /// The structure of the first `count` instances of the view, at most 2^16. `flags` doesn't ask
     /// both for fast traces and for fast builds. Data comes exactly where one of X5 to X8 is
     /// broken, and is the first: by instance, and for one instance the least. Its tree is over the
-    /// least world boxes of the images of the corners of their structures' bounds, by keys where the
-    /// flags prefer fast builds, else by halves (`IsBuilt`); `rt` lends the threads for it.
+    /// least world boxes of the images of the corners of their structures' bounds, by keys where
+    /// the flags prefer fast builds, else by halves (`IsBuilt`); `rt` lends the threads for it.
     /// (VK_BUILD_ACCELERATION_STRUCTURE_MODE_BUILD_KHR)
     pub fn build<R: Threads + Sync>(
         rt: &R,
@@ -144,12 +144,14 @@ impl Top {
 
     /// The wide tree over its leaves, which names each by its node in the binary tree.
     pub fn wide(&self) -> &Wide
-        ensures { WideOver result.now self.now.tree }
+        ensures value { result.now ≡ self.now.wide }
+        ensures over { WideOver self.now.wide self.now.tree }
     {
         self.hierarchy.wide()
     }
 
-    /// The numbers of the instances of a leaf, by its node in the binary tree; none for another node.
+    /// The numbers of the instances of a leaf, by its node in the binary tree; none for another
+    /// node.
     pub fn items_of(&self, leaf: u32) -> &[u32]
         requires { leaf < length self.now.tree.nodes }
         ensures { result.now ≡ instances_below self.now leaf }
@@ -211,7 +213,8 @@ fn counted(
     hierarchy: Hierarchy,
 ) -> Top
     requires limits { IsTop (top_value flags used instances) }
-    requires over { TreeOver hierarchy (items_of (top_value flags used instances)) }
+    requires over { TreeOver hierarchy.tree (items_of (top_value flags used instances)) }
+    requires wide { WideOver hierarchy.wide hierarchy.tree }
     ensures { result ≡ with_tree (top_value flags used instances) hierarchy }
 {
     let active = active(instances.as_slice());

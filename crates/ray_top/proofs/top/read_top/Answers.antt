@@ -8,11 +8,11 @@ pub counted-requires-clause-over : goal.counted-requires-clause-over
 counted-requires-clause-over g c =
     let used = c.in_ok-index.ensures ∙ sym c.in_ok-used.ensures in
     let items = c.deref.ensures.value ∙ (c.in_ok-items.ensures ∙ (λ i. map (item_of (used i)) (c.as_slice.ensures i))) in
-    subst (TreeOver c.in_ok-hierarchy.hierarchy) items c.in_ok-hierarchy.ensures.over
+    subst (TreeOver c.in_ok-hierarchy.hierarchy.tree) items c.in_ok-hierarchy.ensures.over
 
 pub returns-clause-tree : goal.returns-clause-tree
 returns-clause-tree g c =
     let used = c.in_ok-index.ensures ∙ sym c.in_ok-used.ensures in
     let items = c.deref.ensures.value ∙ (c.in_ok-items.ensures ∙ (λ i. map (item_of (used i)) (c.as_slice.ensures i))) in
     subst (λ (t : TopWithTree). IsBuilt t.contents.flags (items_of (without_tree t)) t.tree) (sym c.counted.ensures)
-    (subst (λ xs. IsBuilt c.args.flags xs c.in_ok-hierarchy.hierarchy) items c.in_ok-hierarchy.ensures)
+    (subst (λ xs. IsBuilt c.args.flags xs c.in_ok-hierarchy.hierarchy.tree) items c.in_ok-hierarchy.ensures)

@@ -9,7 +9,7 @@ use Rattle.ray_action.specs.Storing.{holding}
 use Rattle.ray_cmd.specs.declared.structure_kind.StructureKind.TheVariants as kinds
 use Rattle.ray_action.specs.Readiness.{IsMade}
 use Rattle.ray_action.specs.Memory.{Top}
-use Rattle.ray_memory.proofs.Changing.{memory-holds_top}
+use Rattle.ray_memory.proofs.Changing.{memory-holds_top, roomy-held}
 use Rattle.ray_memory.proofs.state.State.hold_top.Goals as goal
 
 pub returns : goal.returns
@@ -19,3 +19,6 @@ returns c =
     subst (λ (s : StateValue). IsMade kinds.Top (memory_of s (StructureAt c.args.structure))) (sym c.self.view_is) c.requires in
     subst (λ (s : StateValue). (l : Location) → memory_of new l ≡ (if is_contents_of c.args.structure l then holding (Top (without_tree c.args.top)) l (memory_of s l) else memory_of s l)) c.self.view_is
     (memory-holds_top (the_view c.self.inside) new c.args.structure c.args.top made c.hold_in.ensures refl refl)
+
+pub invariant_of-self : goal.invariant_of-self
+invariant_of-self c = roomy-held c.self.inside.structures.entries c.hold_in.new.structures.entries c.self.inside.bottoms c.args.structure c.args.top c.self.invariant c.hold_in.ensures
