@@ -1,5 +1,5 @@
 -- Orders: of ratios, of keys and of turns; and what holds of each element of a list.
-use Rattle.std.proofs.Common.{◌≡◌, ◌∙◌, refl, ap, suc, Bool, true, false, List, [], ◌∷◌, All, Option, Some, None, arith}
+use Rattle.std.proofs.Common.{◌≡◌, ◌∙◌, refl, sym, ap, suc, Bool, true, false, List, [], ◌∷◌, All, Option, Some, None, arith}
 use Rattle.std.specs.Cmp.{IsTotalOrder}
 use Rattle.std.specs.Ordering.{is_lt, is_le, is_gt, ordering_reverse, ordering_then}
 use Rattle.std.specs.declared.cmp.Ordering.{Ordering}
@@ -17,7 +17,7 @@ use Rattle.ray_nearest.specs.declared.turn.Turn.{Turn}
 use Rattle.ray_nearest.specs.declared.turn.Turn.TheVariants.{Node, Candidate}
 use Rattle.ray_nearest.specs.Adding.{HasValue}
 use Rattle.ray_nearest.specs.Scene.{Holds, distance_of, is_open, is_within}
-use Rattle.ray_nearest.specs.TurnLaws.{key_cmp-total}
+use Rattle.ray_nearest.specs.TurnLaws.{key_cmp-total, turn_cmp}
 use Rattle.ray_nearest.specs.Turns.{is_before, turn_at}
 
 -- a test has one answer
@@ -96,9 +96,6 @@ pub within-value : (limit : Option Ratio) (e a : Ratio) → HasValue (Some a) e 
 within-value None e a p = refl
 within-value (Some c) e a p = ap is_le (ratio_cmp-total.congr e a c p)
 
-pub le-value : (e a : Ratio) → HasValue (Some a) e → is_le (ratio_cmp e a) ≡ true
-le-value e a p = ap is_le p
-
 -- what is nearer than what is within a limit is within it
 pub within-nearer : (limit : Option Ratio) (a b : Ratio) → is_le (ratio_cmp a b) ≡ true → is_within limit b ≡ true → is_within limit a ≡ true
 within-nearer None a b p q = refl
@@ -113,15 +110,6 @@ shut-beyond limit None f h shut = absurd (cc)
 shut-beyond limit (Some e) f h shut = beyond-farther limit e (ratio_of f.t) h shut
 
 -- ---- keys
-
-then_not_lt : (r s : Ordering) → is_lt (ordering_then r s) ≡ false → is_lt r ≡ false
-then_not_lt Less s p = p
-then_not_lt Equal s p = refl
-then_not_lt Greater s p = refl
-
--- of two keys the one that isn't below isn't nearer
-pub key-farther : (f g : Found) → key_lt (found_key g) (found_key f) ≡ false → is_le (ratio_cmp (ratio_of f.t) (ratio_of g.t)) ≡ true
-key-farther f g p = le-from_not_lt ratio_cmp-total (ratio_of f.t) (ratio_of g.t) (then_not_lt (frac_cmp g.t f.t) _ p)
 
 then_lt : (r s : Ordering) → is_lt r ≡ true → is_lt (ordering_then r s) ≡ true
 then_lt Less s p = refl
@@ -155,13 +143,37 @@ key_lt-not_both k l p = ap is_lt (key_cmp-total.antisymm l k) ∙ lt-once (key_c
 
 -- ---- turns
 
+then_equal : (r : Ordering) → is_lt r ≡ is_lt (ordering_then r Equal)
+then_equal Less = refl
+then_equal Equal = refl
+then_equal Greater = refl
+
+then_less : (r : Ordering) → is_le r ≡ is_lt (ordering_then r Less)
+then_less Less = refl
+then_less Equal = refl
+then_less Greater = refl
+
+then_greater : (r : Ordering) → is_lt r ≡ is_lt (ordering_then r Greater)
+then_greater Less = refl
+then_greater Equal = refl
+then_greater Greater = refl
+
+then_not_lt : (r s : Ordering) → is_lt (ordering_then r s) ≡ false → is_lt r ≡ false
+then_not_lt Less s p = p
+then_not_lt Equal s p = refl
+then_not_lt Greater s p = refl
+
+-- what comes first is what is below in the order of the heap
+pub before-lt : (x y : Turn) → is_before x y ≡ is_lt (turn_cmp x y)
+before-lt (Node e n) (Node d m) = then_equal (ratio_cmp e d)
+before-lt (Node e n) (Candidate g) = then_less (ratio_cmp e (ratio_of g.t))
+before-lt (Candidate f) (Node d m) = then_greater (ratio_cmp (ratio_of f.t) d)
+before-lt (Candidate f) (Candidate g) = refl
+
 -- a turn that isn't before another is no nearer
 pub turn-farther : (x y : Turn) → is_before y x ≡ false → is_le (ratio_cmp (turn_at x) (turn_at y)) ≡ true
-turn-farther (Node e n) (Node d m) p = le-from_not_lt ratio_cmp-total e d p
-turn-farther (Node e n) (Candidate g) p = le-from_not_lt ratio_cmp-total e (ratio_of g.t) p
-turn-farther (Candidate f) (Node d m) p =
-    le-from_lt (ratio_cmp (ratio_of f.t) d) (lt-from_not_le ratio_cmp-total d (ratio_of f.t) p)
-turn-farther (Candidate f) (Candidate g) p = key-farther f g p
+turn-farther x y p =
+    le-from_not_lt ratio_cmp-total (turn_at x) (turn_at y) (then_not_lt (ratio_cmp (turn_at y) (turn_at x)) _ (sym (before-lt y x) ∙ p))
 
 -- ---- each element
 

@@ -19,6 +19,7 @@ mod node;
 mod scene;
 #[cfg(test)]
 mod tests;
+mod tie;
 mod turn;
 mod turns;
 mod waiting;

@@ -1,113 +1,114 @@
+ghost use Rattle.std.specs.Prelude.{◌≡◌, IfOk};
+ghost use Rattle.ray_nearest.specs.declared.turn.Turn.TheVariants.{Node, Candidate};
+ghost use Rattle.ray_nearest.specs.Kept.{kept_turn};
+ghost use Rattle.ray_nearest.specs.Turns.{turn_at};
+
 use crate::node::WalkNode;
+use crate::tie::tie_of;
+use crate::turn::Turn;
 use ray_geom::Ratio;
 use ray_query::Found;
+use std::alloc::{AllocError as NoMemory, Global};
 use std::cmp::Ordering;
 
-// A node that waits for its turn. Of two the nearer one is the greater.
-#[derive(Clone, Copy)]
-pub(crate) struct WaitingNode {
-    pub(crate) entry: Ratio,
-    pub(crate) node: WalkNode,
+// A turn that waits, with its distance. Of two the one that comes first is the greater.
+#[derive(Drop)]
+pub(crate) struct Waiting {
+    at: Ratio,
+    pub(crate) kept: Kept,
+    pub(crate) ghost same: { at ≡ turn_at (kept_turn at kept) },
 }
 
-// A candidate that waits for its turn. Of two the one with the lower key is the greater.
-#[derive(Clone, Copy)]
-pub(crate) struct WaitingFound {
-    pub(crate) found: Found,
+// What is kept of a turn beside its distance. What was found stands in a box of its own, since it
+// is longer than all the rest, and a heap moves what waits.
+#[derive(Drop)]
+pub(crate) enum Kept {
+    Node(WalkNode),
+    Candidate(Box<Found>),
 }
 
-impl Ord for WaitingNode {
-    ghost use Rattle.ray_nearest.specs.TurnLaws.{node_cmp, node_cmp-total};
-    ghost use Rattle.ray_nearest.specs.TurnLaws.{node_cmp-partial, node_cmp-eq};
+impl Waiting {
+    // The turn of a node.
+    pub(crate) fn node(entry: Ratio, node: WalkNode) -> Waiting
+        ensures { kept_turn result.at result.kept ≡ Node entry node }
+    {
+        Waiting {
+            at: entry,
+            kept: Kept::Node(node),
+        }
+    }
 
-    ghost cmp = { node_cmp };
+    // The turn of what was found.
+    pub(crate) fn candidate(alloc: Global, found: Found) -> Result<Waiting, NoMemory>
+        ensures { IfOk result (λ w. kept_turn w.at w.kept ≡ Candidate found) }
+    {
+        let at = Ratio::of(found.t);
+        let found = Box::new(alloc, found)?;
+        Ok(Waiting {
+            at,
+            kept: Kept::Candidate(found),
+        })
+    }
 
-    ghost total = { node_cmp-total };
-
-    ghost matches_partial_cmp = { node_cmp-partial };
-
-    ghost matches_eq = { node_cmp-eq };
-
-    fn cmp(&self, other: &WaitingNode) -> Ordering {
-        other.entry.cmp(&self.entry)
+    // The turn itself.
+    pub(crate) fn into_turn(self) -> Turn
+        ensures { result ≡ kept_turn self.at self.kept }
+    {
+        let Waiting { at, kept } = self;
+        match kept {
+            Kept::Node(node) => Turn::Node(at, node),
+            Kept::Candidate(found) => Turn::Candidate(Box::into_inner(found)),
+        }
     }
 }
 
-impl PartialOrd for WaitingNode {
+impl Ord for Waiting {
+    ghost use Rattle.ray_nearest.specs.TurnLaws.{waiting_cmp, waiting_cmp-total};
+    ghost use Rattle.ray_nearest.specs.TurnLaws.{waiting_cmp-partial, waiting_cmp-eq};
+
+    ghost cmp = { waiting_cmp };
+
+    ghost total = { waiting_cmp-total };
+
+    ghost matches_partial_cmp = { waiting_cmp-partial };
+
+    ghost matches_eq = { waiting_cmp-eq };
+
+    fn cmp(&self, other: &Waiting) -> Ordering {
+        match other.at.cmp(&self.at) {
+            Ordering::Equal => tie_of(other).cmp(&tie_of(self)),
+            order => order,
+        }
+    }
+}
+
+impl PartialOrd for Waiting {
     ghost use Rattle.std.specs.Ordering.{as_partial_cmp};
-    ghost use Rattle.ray_nearest.specs.TurnLaws.{node_cmp, node_cmp-laws};
+    ghost use Rattle.ray_nearest.specs.TurnLaws.{waiting_cmp, waiting_cmp-laws};
 
-    ghost partial_cmp = { as_partial_cmp node_cmp };
+    ghost partial_cmp = { as_partial_cmp waiting_cmp };
 
-    ghost laws = { node_cmp-laws };
+    ghost laws = { waiting_cmp-laws };
 
-    fn partial_cmp(&self, other: &WaitingNode) -> Option<Ordering> {
+    fn partial_cmp(&self, other: &Waiting) -> Option<Ordering> {
         Some(self.cmp(other))
     }
 }
 
-impl PartialEq for WaitingNode {
-    ghost use Rattle.ray_nearest.specs.TurnLaws.{node_eq, node_eq-laws};
+impl PartialEq for Waiting {
+    ghost use Rattle.ray_nearest.specs.TurnLaws.{waiting_eq, waiting_eq-laws};
 
-    ghost eq = { node_eq };
+    ghost eq = { waiting_eq };
 
-    ghost laws = { node_eq-laws };
+    ghost laws = { waiting_eq-laws };
 
-    fn eq(&self, other: &WaitingNode) -> bool {
+    fn eq(&self, other: &Waiting) -> bool {
         self.cmp(other).is_eq()
     }
 }
 
-impl Eq for WaitingNode {
-    ghost use Rattle.ray_nearest.specs.TurnLaws.{node_eq-equivalence};
+impl Eq for Waiting {
+    ghost use Rattle.ray_nearest.specs.TurnLaws.{waiting_eq-equivalence};
 
-    ghost laws = { node_eq-equivalence };
-}
-
-impl Ord for WaitingFound {
-    ghost use Rattle.ray_nearest.specs.TurnLaws.{found_cmp, found_cmp-total};
-    ghost use Rattle.ray_nearest.specs.TurnLaws.{found_cmp-partial, found_cmp-eq};
-
-    ghost cmp = { found_cmp };
-
-    ghost total = { found_cmp-total };
-
-    ghost matches_partial_cmp = { found_cmp-partial };
-
-    ghost matches_eq = { found_cmp-eq };
-
-    fn cmp(&self, other: &WaitingFound) -> Ordering {
-        other.found.key().cmp(&self.found.key())
-    }
-}
-
-impl PartialOrd for WaitingFound {
-    ghost use Rattle.std.specs.Ordering.{as_partial_cmp};
-    ghost use Rattle.ray_nearest.specs.TurnLaws.{found_cmp, found_cmp-laws};
-
-    ghost partial_cmp = { as_partial_cmp found_cmp };
-
-    ghost laws = { found_cmp-laws };
-
-    fn partial_cmp(&self, other: &WaitingFound) -> Option<Ordering> {
-        Some(self.cmp(other))
-    }
-}
-
-impl PartialEq for WaitingFound {
-    ghost use Rattle.ray_nearest.specs.TurnLaws.{found_eq, found_eq-laws};
-
-    ghost eq = { found_eq };
-
-    ghost laws = { found_eq-laws };
-
-    fn eq(&self, other: &WaitingFound) -> bool {
-        self.cmp(other).is_eq()
-    }
-}
-
-impl Eq for WaitingFound {
-    ghost use Rattle.ray_nearest.specs.TurnLaws.{found_eq-equivalence};
-
-    ghost laws = { found_eq-equivalence };
+    ghost laws = { waiting_eq-equivalence };
 }

@@ -1,12 +1,12 @@
 use Rattle.std.proofs.Common.{◌∙◌, ap, sym}
 use Rattle.std.specs.BinaryHeap.{heap_items}
+use Rattle.ray_nearest.specs.declared.turn.Turn.TheVariants.{Candidate}
 use Rattle.ray_nearest.specs.Scene.{is_within}
-use Rattle.ray_nearest.proofs.Popping.{added_found}
+use Rattle.ray_nearest.proofs.Popping.{pushed}
 use Rattle.ray_nearest.proofs.turns.Turns.push_found.Goals as goal
 
 pub returns-in_ok-push : goal.returns-in_ok-push
 returns-in_ok-push c =
-    added_found c.args.limit (record { found = c.args.found }) (heap_items c.self.inside.nodes) (heap_items c.self.inside.found)
-    (heap_items c.push.new.self) c.args.self.now
+    pushed c.args.limit (Candidate c.args.found) c.in_ok-waiting.waiting (heap_items c.self.inside.heap) (heap_items c.push.new.self) c.args.self.now
     (sym (c.is_within.ensures ∙ ap (is_within c.args.limit) c.of.ensures.value) ∙ c.if-is_within.true)
-    c.in_ok-push.ensures.permutation c.self.view_is
+    c.in_ok-waiting.ensures c.in_ok-push.ensures.permutation c.self.view_is
