@@ -1,0 +1,5 @@
+mod Rounding
+mod Ends
+mod Sizes
+mod Starts
+pub mod Windows
