@@ -20,14 +20,13 @@ use Rattle.ray_query.specs.Play.{play, start}
 use Rattle.ray_nearest.specs.Parts.{scene_of}
 use Rattle.ray_nearest.specs.Answer.{answer_in}
 use Rattle.ray_nearest.specs.KeyOrder.{AreApart, has_key, in_key_order}
-use Rattle.ray_nearest.specs.Scene.{IsScene, found_in as found_in_scene}
-use Rattle.ray_nearest.proofs.Growing.{IsScene-scene_of}
+use Rattle.ray_nearest.specs.Scene.{found_in as found_in_scene}
 use Rattle.ray_nearest.proofs.Members.{Member-from_Contains, Contains-from_Member}
 use Rattle.ray_nearest.proofs.Rising.{in_key_order-same}
 use Rattle.ray_walk.specs.Candidates.{active_instance, found_in, found_in_instance, joined, candidates, trace_answer}
 use Rattle.ray_walk.specs.Standing.{IsStanding, structures_in}
 use Rattle.ray_walk.specs.Sound.{IsWalkable}
-use Rattle.ray_walk.specs.Traced.{IsNode, Traced, Placement, parts_of, traced_scene, placement_at, placement_of, ref, root_in, roots_by, top_ref}
+use Rattle.ray_walk.specs.Traced.{Traced, Placement, parts_of, traced_scene, placement_at, placement_of, ref, root_in, roots_by, top_ref}
 use Rattle.ray_walk.proofs.Apart.{AreApart-found}
 use Rattle.ray_walk.proofs.Placing.{All-at}
 use Rattle.ray_walk.proofs.WellPlaced.{is_placement}
@@ -112,7 +111,7 @@ module _ (s : Traced) (w : IsWalkable s) where
       (IsPermutation-trans (flat_map F xs) (joined F (length items)) (joined G (length items)) spread each))
 
   -- no key stands twice among what is found
-  apart : AreApart (found_in_scene (scene_of (parts_of s)))
+  pub apart : AreApart (found_in_scene (scene_of (parts_of s)))
   apart = record {
     once = λ k.
         let ys = found_in s.top.contents (structures_in s.bottoms) s.ray s.flags s.mask in
@@ -120,10 +119,6 @@ module _ (s : Traced) (w : IsWalkable s) where
         let once = (AreApart-found s.top.contents (structures_in s.bottoms) s.ray s.flags s.mask).once k in
         omega (arith, same, once);
   }
-
-  pub is-scene : IsScene (IsNode s) (traced_scene s)
-  unfolding traced_scene
-  is-scene = IsScene-scene_of (IsNode s) (parts_of s) (are-parts s w) apart
 
   -- in rising order of keys, both are the same
   pub same-order : in_key_order (found_in_scene (scene_of (parts_of s))) ≡ in_key_order (found_in s.top.contents (structures_in s.bottoms) s.ray s.flags s.mask)
@@ -138,13 +133,6 @@ module _ (s : Traced) (w : IsWalkable s) where
       → answer_in meaning number s.flags (traced_scene s) ≡ trace_answer meaning s.top.contents (structures_in s.bottoms) s.ray number s.flags s.mask
   unfolding traced_scene candidates
   walk-answer meaning number = ap (λ fs. (play meaning number s.flags start fs).committed) same-order
-
--- the same of a scene that is told by its parts
-pub trace-answer : (s t : Traced) → IsWalkable s → s ≡ t → (meaning : Candidate → Decision) (number : ℕ)
-    → answer_in meaning number t.flags (traced_scene s) ≡ trace_answer meaning t.top.contents (structures_in t.bottoms) t.ray number t.flags t.mask
-trace-answer s t w same meaning number =
-    subst (λ (u : Traced). answer_in meaning number u.flags (traced_scene s) ≡ trace_answer meaning u.top.contents (structures_in u.bottoms) u.ray number u.flags u.mask) same
-    (walk-answer s w meaning number)
 
 -- what is answered, where it is answered
 pub other-answer : {A E : Type 0} (r : Result A E) (x y : A) → x ≡ y → IfOk r (λ a. a ≡ x) → IfOk r (λ a. a ≡ y)

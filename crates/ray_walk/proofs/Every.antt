@@ -19,10 +19,10 @@ use Rattle.ray_nearest.proofs.Growing.{every}
 use Rattle.ray_walk.specs.Traced.{Traced, Placement, IsNode, placement_at, parts_of, ref, ref_by, top_ref, top_ref_by, roots_of, children, children_of, top_children, items_at, items_by, found_of_item, found_in_leaf}
 
 -- two lists, one after the other
-two : {X Y : Type 0} (F : X → List Y) (a b : X) → flat_map F (a ∷ b ∷ []) ≡ F a ++ F b
+pub two : {X Y : Type 0} (F : X → List Y) (a b : X) → flat_map F (a ∷ b ∷ []) ≡ F a ++ F b
 two F a b = flat_map-cons F a (b ∷ []) ∙ ap (λ ys. F a ++ ys) (flat_map-cons F b [] ∙ append-nil (F b))
 
-flat-flat : {X Y Z : Type 0} (G : Y → List Z) (F : X → List Y) (xs : List X) → flat_map G (flat_map F xs) ≡ flat_map (λ x. flat_map G (F x)) xs
+pub flat-flat : {X Y Z : Type 0} (G : Y → List Z) (F : X → List Y) (xs : List X) → flat_map G (flat_map F xs) ≡ flat_map (λ x. flat_map G (F x)) xs
 flat-flat G F [] = refl
 flat-flat G F (x ∷ xs) =
     ap (flat_map G) (flat_map-cons F x xs)

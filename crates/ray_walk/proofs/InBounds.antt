@@ -44,7 +44,7 @@ some_holds P o x is holds = by (subst (λ p. IfSome p P) is holds)
     by : IfSome (Some x) P → P x
     by h = h
 
-item_holds : (P : BoxValue → Type 0) (items : List (Option BoxValue)) → All (λ o. IfSome o P) items → (q : ℕ) (box : BoxValue) → item_box items q ≡ Some box → P box
+pub item_holds : (P : BoxValue → Type 0) (items : List (Option BoxValue)) → All (λ o. IfSome o P) items → (q : ℕ) (box : BoxValue) → item_box items q ≡ Some box → P box
 item_holds P items all q box is = elim (cases_lt q (length items)) [
   | inl below ↦ some_holds P (item_box items q) box is (all q None below)
   | inr past ↦ absurd (none_some box (sym (get_or_past items q None past) ∙ is))

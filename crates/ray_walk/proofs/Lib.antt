@@ -30,4 +30,10 @@ pub mod InBounds
 pub mod Seam
 pub mod InnerNests
 pub mod NodesHold
+pub mod WideLeaves
+pub mod WideSame
+pub mod WideParts
+pub mod WideAnswer
+pub mod BoxLimits
+pub mod LeftOut
 pub mod Pushing

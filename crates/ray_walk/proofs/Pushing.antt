@@ -1,33 +1,44 @@
 -- What the calls of a scene add to the turns that wait.
-use Rattle.std.proofs.Common.{ℕ, zero, suc, ◌≡◌, ◌+◌, ◌++◌, ◌<◌, Option, Some, None, List, [], ◌∷◌, length, map, take, drop, slice_index_or, refl, sym, ap, subst, ◌∙◌, arith}
-use Rattle.std.specs.Prelude.{option_map, option_and_then, slice_get}
+use Rattle.std.proofs.Common.{ℕ, ◌≡◌, ◌+◌, ◌++◌, ◌<◌, Option, Some, None, List, [], ◌∷◌, length, map, take, drop, slice_index_or, refl, sym, ap, subst, ◌∙◌, inl}
+use Rattle.std.specs.Prelude.{All, false, option_map, option_and_then, slice_get}
 use Rattle.std.specs.List.{flat_map}
 use Rattle.std.proofs.lemmas.List.{append-nil, drop-map, length-map, take-map, take_more}
 use Rattle.std.proofs.lemmas.List.Concat.{flat_map-cons}
+use Rattle.std.proofs.lemmas.List.Elements.{All-nil, All-cons, All-head, All-tail}
 use Rattle.std.proofs.lemmas.List.Folds.{flat_map-map}
 use Rattle.std.proofs.lemmas.List.Sorted.{IsPermutation-refl}
 use Rattle.std.proofs.lemmas.Grind.{flat_map-append}
 use Rattle.ray_geom.specs.declared.ratio.Ratio.{Ratio}
-use Rattle.ray_geom.specs.Boxes.{BoxValue}
-use Rattle.ray_geom.specs.ObjectRay.{ObjectRayValue, object_of}
+use Rattle.ray_geom.specs.ObjectRay.{object_of}
 use Rattle.ray_geom.specs.Transform.{identity_value}
 use Rattle.ray_prune.specs.declared.reach.Reach.{Reach}
 use Rattle.ray_prune.specs.BoxReach.{IsSameReach}
 use Rattle.ray_tree.specs.declared.node.Node.{Node}
 use Rattle.ray_tree.specs.declared.node.Node.TheVariants as nodes
 use Rattle.ray_tree.specs.Shapes.{node_at}
-use Rattle.ray_tree.specs.Trees.{TreeValue, box_at}
+use Rattle.ray_tree.specs.Trees.{box_at}
+use Rattle.ray_wide.specs.declared.node.WideRef.{WideRef}
+use Rattle.ray_wide.specs.declared.node.WideRef.TheVariants as wides
+use Rattle.ray_wide.specs.Wides.{top_at}
 use Rattle.ray_bottom.specs.declared.geometry.Geometry.{Geometry}
 use Rattle.ray_bottom.specs.declared.prim_place.PrimPlace.{PrimPlace}
 use Rattle.ray_bottom.specs.Trees.{place_at, places_below, places_by}
 use Rattle.ray_query.specs.declared.found.Found.{Found}
 use Rattle.ray_nearest.specs.declared.node.WalkNode.{WalkNode}
-use Rattle.ray_nearest.specs.declared.node.WalkNode.TheVariants.{Leaf}
+use Rattle.ray_nearest.specs.declared.node.WalkNode.TheVariants.{TopInner, TopLeaf, Inner, Leaf}
 use Rattle.ray_nearest.specs.declared.turn.Turn.{Turn}
 use Rattle.ray_nearest.specs.Adding.{Adds, AddsFound, AddsNode, AddsNodes, AddsOne, HasValue, IsOpened}
+use Rattle.ray_nearest.specs.Scene.{is_open}
 use Rattle.ray_nearest.proofs.Added.{Adds-append, IsOpened-inner, IsOpened-leaf}
-use Rattle.ray_walk.specs.Scenes.{AddsFoundAt, AddsNodeOf, AddsNodesOf, found_by, found_by_place}
-use Rattle.ray_walk.specs.Traced.{Traced, Placement, below, children, entry, entry_in, entry_of_placement, finds, found_at_place, found_in_leaf, found_in_placed, items_at, items_by, no_box, placement_at, ref, ref_by, root_in, roots_by, roots_of, tests, tests_in_leaf, top_children, top_ref, top_ref_by, traced_scene}
+use Rattle.ray_walk.specs.declared.level.Level.{Level}
+use Rattle.ray_walk.specs.declared.level.Level.TheVariants.{World, Object}
+use Rattle.ray_walk.specs.declared.trees.Trees.{Trees}
+use Rattle.ray_walk.specs.Aims.{AddsThrough, AreLeftOut, entry_by, entry_through}
+use Rattle.ray_walk.specs.Scenes.{AddsFoundAt, AddsWide, found_by, found_by_place}
+use Rattle.ray_walk.specs.WideScene.{child, inner_at, leaf_at, narrow, subtree_of, wide_below, wide_entry, wide_scene}
+use Rattle.ray_walk.proofs.LeftOut.{entry-inner, entry-leaf}
+use Rattle.ray_walk.proofs.Walking.{All-append}
+use Rattle.ray_walk.specs.Traced.{Traced, Placement, entry, entry_in, entry_of_placement, finds, found_at_place, found_in_leaf, found_in_placed, items_at, items_by, no_box, placement_at, tests, tests_in_leaf}
 
 -- ---- entries
 
@@ -36,86 +47,97 @@ pub same-entry : (reach : Reach) (o : Option Reach) → IsSameReach (Some reach)
 same-entry reach None same = absurd same
 same-entry reach (Some a) (entry, exit) = entry
 
-top-entry : (s : Traced) (n : ℕ) (node : Node) → entry s (top_ref_by n node) ≡ entry_in (object_of s.ray identity_value) (box_at s.top.tree no_box n)
-top-entry s n (nodes.Leaf first count) = refl
-top-entry s n (nodes.Inner l r) = refl
-
-bottom-entry : (s : Traced) (i n : ℕ) (p : Placement) (node : Node) → placement_at s i ≡ Some p → entry s (ref_by i n node) ≡ entry_of_placement s.ray p n
-bottom-entry s i n p (nodes.Leaf first count) is = ap (option_and_then (λ q. entry_of_placement s.ray q n)) is
-bottom-entry s i n p (nodes.Inner l r) is = ap (option_and_then (λ q. entry_of_placement s.ray q n)) is
-
 -- the turn of one node as that of another with the same entry
 other : (limit o : Option Ratio) (E : WalkNode → Option Ratio) (node m : WalkNode) (old new : List Turn) → node ≡ m → o ≡ E m
     → AddsOne (AddsNode limit (λ x. o) node) old new → AddsOne (AddsNode limit E m) old new
 other limit o E node m old new same entry added =
     subst (λ e. AddsOne (AddsNode limit (λ x. e) m) old new) entry (subst (λ x. AddsOne (AddsNode limit (λ y. o) x) old new) same added)
 
-module _ (s : Traced) (limit : Option Ratio) (old new : List Turn) where
-  -- ---- one node
-
-  pub pushed-top : (tree : TreeValue) (n : ℕ) (world : ObjectRayValue) (box : BoxValue) (node : WalkNode) → tree ≡ s.top.tree
-      → world ≡ object_of s.ray identity_value → box ≡ box_at tree no_box n → node ≡ top_ref tree n
-      → AddsOne (AddsNode limit (λ x. entry_in world box) node) old new → AddsNodeOf limit s (top_ref s.top.tree n) old new
-  pushed-top tree n world box node same in_world at named =
-      let met : entry_in world box ≡ entry s (top_ref s.top.tree n) =
-      (λ i. entry_in (in_world i) (at i)) ∙ (ap (λ t. entry_in (object_of s.ray identity_value) (box_at t no_box n)) same
-      ∙ sym (top-entry s n (node_at s.top.tree.nodes n))) in
-      other limit (entry_in world box) (entry s) node (top_ref s.top.tree n) old new (named ∙ ap (λ t. top_ref t n) same) met
-
-  pub pushed-bottom : (i n : ℕ) (p : Placement) (tree : TreeValue) (object : ObjectRayValue) (box : BoxValue) (node : WalkNode) → placement_at s i ≡ Some p
-      → tree ≡ p.bottom.tree → object ≡ object_of s.ray p.instance.matrix → box ≡ box_at tree no_box n → node ≡ ref i tree n
-      → AddsOne (AddsNode limit (λ x. entry_in object box) node) old new → AddsNodeOf limit s (ref i p.bottom.tree n) old new
-  pushed-bottom i n p tree object box node is same in_object at named =
-      let met : entry_in object box ≡ entry s (ref i p.bottom.tree n) =
-      (λ j. entry_in (in_object j) (at j)) ∙ (ap (λ t. entry_in (object_of s.ray p.instance.matrix) (box_at t no_box n)) same
-      ∙ sym (bottom-entry s i n p (node_at p.bottom.tree.nodes n) is)) in
-      other limit (entry_in object box) (entry s) node (ref i p.bottom.tree n) old new (named ∙ ap (λ t. ref i t n) same) met
-
-  -- ---- the nodes below a node
-
-  pub pushed-one : (n : WalkNode) → AddsNodeOf limit s n old new → AddsNodesOf limit s (n ∷ []) old new
-  pushed-one n one = (new, one, IsPermutation-refl new)
-
-  pub pushed-two : (mid : List Turn) (n m : WalkNode) → AddsNodeOf limit s n old mid → AddsNodeOf limit s m mid new → AddsNodesOf limit s (n ∷ m ∷ []) old new
-  pushed-two mid n m first second = (mid, first, (new, second, IsPermutation-refl new))
-
-  pub pushed-top_children : (mid : List Turn) (node : Node) (l r : ℕ) → nodes.Inner l r ≡ node → AddsNodeOf limit s (top_ref s.top.tree l) old mid
-      → AddsNodeOf limit s (top_ref s.top.tree r) mid new → AddsNodesOf limit s (top_children s.top.tree node) old new
-  pushed-top_children mid node l r is first second =
-      let tree = s.top.tree in
-      subst (λ (x : Node). AddsNodesOf limit s (top_children tree x) old new) is (pushed-two mid (top_ref tree l) (top_ref tree r) first second)
-
-  pub pushed-children : (mid : List Turn) (i : ℕ) (tree : TreeValue) (node : Node) (l r : ℕ) → nodes.Inner l r ≡ node → AddsNodeOf limit s (ref i tree l) old mid
-      → AddsNodeOf limit s (ref i tree r) mid new → AddsNodesOf limit s (children i tree node) old new
-  pushed-children mid i tree node l r is first second =
-      subst (λ (x : Node). AddsNodesOf limit s (children i tree x) old new) is (pushed-two mid (ref i tree l) (ref i tree r) first second)
-
-  -- ---- roots
-
-  some-root : {X : Type 0} (P : List X → Type 0) (ns : List Node) (x : X) → 0 < length ns → P (x ∷ []) → P (root_in ns x)
-  some-root P [] x some p = absurd (omega (arith, some))
-  some-root P (n ∷ ns) x some p = p
-
-  pub pushed-root : (i : ℕ) (p : Placement) → placement_at s i ≡ Some p → 0 < length p.bottom.tree.nodes → AddsNodeOf limit s (ref i p.bottom.tree 0) old new
-      → AddsNodesOf limit s (roots_of s i) old new
-  pushed-root i p is some one =
-      subst (λ o. AddsNodesOf limit s (roots_by i o) old new) (sym is)
-      (some-root (λ ns. AddsNodesOf limit s ns old new) p.bottom.tree.nodes (ref i p.bottom.tree 0) some (pushed-one (ref i p.bottom.tree 0) one))
-
--- the walk begins at the root of the top structure
-pub begun : (s : Traced) (old new : List Turn) → 0 < length s.top.tree.nodes → AddsNodeOf None s (top_ref s.top.tree 0) old new
-    → AddsNodes None (traced_scene s) (traced_scene s).roots old new
-unfolding traced_scene
-begun s old new some one =
-    some-root s None old new (λ ns. AddsNodesOf None s ns old new) s.top.tree.nodes (top_ref s.top.tree 0) some (pushed-one s None old new (top_ref s.top.tree 0) one)
-
-pub none-begun : (s : Traced) (turns : List Turn) → length s.top.tree.nodes ≡ 0 → AddsNodes None (traced_scene s) (traced_scene s).roots turns turns
-unfolding traced_scene
-none-begun s turns none = by s.top.tree.nodes none
+-- the turns of nodes, by equal entries
+Adds-as : (limit : Option Ratio) (E F : WalkNode → Option Ratio) (xs : List WalkNode) → All (λ n. E n ≡ F n) xs → (old new : List Turn)
+    → Adds (AddsNode limit E) xs old new → Adds (AddsNode limit F) xs old new
+Adds-as limit E F [] same old new added = added
+Adds-as limit E F (x ∷ xs) same old new (mid, first, rest) =
+    let P = λ (n : WalkNode). E n ≡ F n in
+    (mid, other limit (E x) F x x old mid refl (All-head P x xs same) (moved first), Adds-as limit E F xs (All-tail P x xs same) mid new rest)
   where
-    by : (ns : List Node) → length ns ≡ 0 → AddsNodesOf None s (root_in ns (top_ref s.top.tree 0)) turns turns
-    by [] e = IsPermutation-refl turns
-    by (x ∷ xs) e = absurd (omega (arith, e))
+    moved : AddsOne (AddsNode limit E x) old mid → AddsOne (AddsNode limit (λ y. E x) x) old mid
+    moved one = one
+
+-- ---- the children of a wide node, and the root
+
+module _ (t : Trees) (limit : Option Ratio) (old new : List Turn) where
+  pub pushed-leaf : (n : ℕ) (node : WalkNode) → node ≡ leaf_at t.level n
+      → AddsOne (AddsNode limit (λ m. entry_in t.ray.now (box_at t.tree.now no_box n)) node) old new → AddsThrough limit t (leaf_at t.level n ∷ []) old new
+  pushed-leaf n node is one = (
+    new,
+    other limit (entry_in t.ray.now (box_at t.tree.now no_box n)) (entry_through t) node (leaf_at t.level n) old new is
+        (sym (entry-leaf t.tree.now t.wide.now t.ray.now t.level n)) one,
+    IsPermutation-refl new,
+  )
+
+  pub pushed-inner : (w top : ℕ) (node : WalkNode) → node ≡ inner_at t.level w → top ≡ top_at t.wide.now.tops w
+      → AddsOne (AddsNode limit (λ m. entry_in t.ray.now (box_at t.tree.now no_box top)) node) old new → AddsThrough limit t (inner_at t.level w ∷ []) old new
+  pushed-inner w top node is at one = (
+    new,
+    other limit (entry_in t.ray.now (box_at t.tree.now no_box top)) (entry_through t) node (inner_at t.level w) old new is
+        (ap (λ n. entry_in t.ray.now (box_at t.tree.now no_box n)) at ∙ sym (entry-inner t.tree.now t.wide.now t.ray.now t.level w)) one,
+    IsPermutation-refl new,
+  )
+
+  -- none is added of those that are left out
+  pub left-out : (ns : List WalkNode) → AreLeftOut limit t ns → (turns : List Turn) → AddsThrough limit t ns turns turns
+  left-out [] out turns = IsPermutation-refl turns
+  left-out (n ∷ ns) out turns =
+      let P = λ (m : WalkNode). is_open limit (entry_through t m) ≡ false in
+      (turns, ([], inl (refl, All-head P n ns out), IsPermutation-refl turns), left-out ns (All-tail P n ns out) turns)
+
+-- ---- in a scene
+
+-- children are what F makes of a level: those of a wide node, or the root
+module _ (s : Traced) (t : Trees) (limit : Option Ratio) (old new : List Turn) (F : Level → List WalkNode) where
+  pub through-world : t.tree.now ≡ s.top.tree → t.wide.now ≡ s.top.wide → t.ray.now ≡ object_of s.ray identity_value → t.level ≡ World
+      → All (λ n. entry_by s.top.tree s.top.wide (object_of s.ray identity_value) n ≡ wide_entry s n) (F World)
+      → AddsThrough limit t (F t.level) old new → AddsWide limit s (F World) old new
+  through-world tree wide ray level same added =
+      Adds-as limit (entry_by s.top.tree s.top.wide (object_of s.ray identity_value)) (wide_entry s) (F World) same old new
+      (subst (λ (E : WalkNode → Option Ratio). Adds (AddsNode limit E) (F World) old new) (λ i. entry_by (tree i) (wide i) (ray i))
+      (subst (λ (l : Level). AddsThrough limit t (F l) old new) level added))
+
+  pub through-object : (i : ℕ) (p : Placement) → t.tree.now ≡ p.bottom.tree → t.wide.now ≡ p.bottom.wide → t.ray.now ≡ object_of s.ray p.instance.matrix
+      → t.level ≡ Object i
+      → All (λ n. entry_by p.bottom.tree p.bottom.wide (object_of s.ray p.instance.matrix) n ≡ wide_entry s n) (F (Object i))
+      → AddsThrough limit t (F t.level) old new → AddsWide limit s (F (Object i)) old new
+  through-object i p tree wide ray level same added =
+      Adds-as limit (entry_by p.bottom.tree p.bottom.wide (object_of s.ray p.instance.matrix)) (wide_entry s) (F (Object i)) same old new
+      (subst (λ (E : WalkNode → Option Ratio). Adds (AddsNode limit E) (F (Object i)) old new) (λ j. entry_by (tree j) (wide j) (ray j))
+      (subst (λ (l : Level). AddsThrough limit t (F l) old new) level added))
+
+-- the entries of these trees are those of the scene
+abbrev pub IsOfWorld : Traced → WalkNode → Type 0
+IsOfWorld s n = entry_by s.top.tree s.top.wide (object_of s.ray identity_value) n ≡ wide_entry s n
+
+abbrev pub IsOfObject : Traced → Placement → WalkNode → Type 0
+IsOfObject s p n = entry_by p.bottom.tree p.bottom.wide (object_of s.ray p.instance.matrix) n ≡ wide_entry s n
+
+pub world-entries : (s : Traced) (c : WideRef) → All (IsOfWorld s) (child World c)
+world-entries s wides.Empty = All-nil (IsOfWorld s)
+world-entries s (wides.Leaf n) = All-cons (IsOfWorld s) (TopLeaf n) [] refl (All-nil (IsOfWorld s))
+world-entries s (wides.Inner w) = All-cons (IsOfWorld s) (TopInner w) [] refl (All-nil (IsOfWorld s))
+
+pub object-entries : (s : Traced) (i : ℕ) (p : Placement) → placement_at s i ≡ Some p → (c : WideRef)
+    → All (IsOfObject s p) (child (Object i) c)
+object-entries s i p is wides.Empty = All-nil (IsOfObject s p)
+object-entries s i p is (wides.Leaf n) =
+    All-cons (IsOfObject s p) (Leaf i n) [] (sym (ap (λ (o : Option Placement). option_and_then (λ (q : Placement). entry_of_placement s.ray q n) o) is)) (All-nil (IsOfObject s p))
+object-entries s i p is (wides.Inner w) =
+    All-cons (IsOfObject s p) (Inner i w) [] (sym (ap (λ (o : Option Placement). option_and_then (λ (q : Placement). entry_of_placement s.ray q (subtree_of w o)) o) is)) (All-nil (IsOfObject s p))
+
+-- those of all children
+pub all-entries : (Q : WalkNode → Type 0) (level : Level) (cs : List WideRef) → ((c : WideRef) → All Q (child level c)) → All Q (flat_map (child level) cs)
+all-entries Q level [] each = All-nil Q
+all-entries Q level (c ∷ cs) each =
+    subst (λ ns. All Q ns) (sym (flat_map-cons (child level) c cs)) (All-append Q (child level c) (flat_map (child level) cs) (each c) (all-entries Q level cs each))
 
 -- ---- one after the other
 
@@ -128,11 +150,6 @@ Adds-flat P F xs k d old mid new small before one =
     ap (flat_map F) (take_more xs k d small) ∙ (flat_map-append F (take k xs) (y ∷ [])
     ∙ ap (λ ys. flat_map F (take k xs) ++ ys) (flat_map-cons F y [] ∙ append-nil (F y))) in
     subst (λ ys. Adds P ys old new) (sym more) (Adds-append P (flat_map F (take k xs)) (F y) old mid new before one)
-
--- what isn't none is above it
-pub above-none : (a b : ℕ) → a ≡ b → (a ≡ 0 → ⊥) → 0 < b
-above-none a zero e some = absurd (some e)
-above-none a (suc b) e some = omega arith
 
 -- ---- what is found
 
@@ -171,17 +188,22 @@ module _ (s : Traced) (i n : ℕ) (p : Placement) (is : placement_at s i ≡ Som
 -- ---- a node is opened
 
 module _ (s : Traced) (limit : Option Ratio) (old new : List Turn) where
-  pub opened-inner : (n : WalkNode) → finds s n ≡ [] → AddsNodesOf limit s (below s n) old new → IsOpened limit (traced_scene s) n old new
-  unfolding traced_scene
-  opened-inner n none added = IsOpened-inner limit (traced_scene s) n old new none added
+  pub opened-inner : (n : WalkNode) → finds s (narrow s n) ≡ [] → AddsWide limit s (wide_below s n) old new → IsOpened limit (wide_scene s) n old new
+  unfolding wide_scene
+  opened-inner n none added = IsOpened-inner limit (wide_scene s) n old new none added
 
   pub opened-leaf : (i n : ℕ) (p : Placement) → placement_at s i ≡ Some p → AddsFoundAt limit s i p (places_below p.bottom n) old new
-      → IsOpened limit (traced_scene s) (Leaf i n) old new
-  unfolding traced_scene
+      → IsOpened limit (wide_scene s) (Leaf i n) old new
+  unfolding wide_scene
   opened-leaf i n p is added =
-      IsOpened-leaf limit (traced_scene s) (Leaf i n) old new refl (subst (λ fs. Adds (AddsFound limit) fs old new) (leaf-finds s i n p is) added)
+      IsOpened-leaf limit (wide_scene s) (Leaf i n) old new refl (subst (λ fs. Adds (AddsFound limit) fs old new) (leaf-finds s i n p is) added)
 
 -- how many primitives are tested at a node, as the scene says it
-pub same-tests : (s : Traced) (n : WalkNode) (now later : ℕ) → later ≡ now + tests s n → later ≡ now + (traced_scene s).tests n
-unfolding traced_scene
+pub same-tests : (s : Traced) (n : WalkNode) (now later : ℕ) → later ≡ now + tests s (narrow s n) → later ≡ now + (wide_scene s).tests n
+unfolding wide_scene
 same-tests s n now later steps = steps
+
+-- the walk begins at the root of the top structure
+pub begun : (s : Traced) (old new : List Turn) → AddsWide None s (child World s.top.wide.root) old new → AddsNodes None (wide_scene s) (wide_scene s).roots old new
+unfolding wide_scene
+begun s old new added = added

@@ -48,7 +48,7 @@ weighs Gone = omega arith
 weighs (Tip node first count) = omega arith
 weighs (Fork node l r) = omega arith
 
-All-append : {X : Type 0} (P : X → Type 0) (xs ys : List X) → All P xs → All P ys → All P (xs ++ ys)
+pub All-append : {X : Type 0} (P : X → Type 0) (xs ys : List X) → All P xs → All P ys → All P (xs ++ ys)
 All-append P [] ys one other = other
 All-append P (x ∷ xs) ys one other = All-cons P x (xs ++ ys) (one 0 x (omega arith)) (All-append P xs ys (All-tail P x xs one) other)
 

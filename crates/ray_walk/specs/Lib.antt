@@ -4,5 +4,7 @@ pub mod Laws
 pub mod Standing
 pub mod Telling
 pub mod Traced
+pub mod WideScene
 pub mod Sound
+pub mod Aims
 pub mod Scenes

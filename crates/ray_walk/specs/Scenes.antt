@@ -1,9 +1,9 @@
 -- Words of private calls alone, which a reader of the public contracts needs not: a scene of the program, and an instance as it is
 -- looked at.
-use Rattle.std.specs.Prelude.{ℕ, ◌≡◌, Option, Some, None, List, [], slice_get}
+use Rattle.std.specs.Prelude.{ℕ, ◌≡◌, ◌==◌, Bool, false, Option, Some, None, IfSome, List, [], slice_get}
 use Rattle.std.specs.List.{flat_map}
 use Rattle.ray_geom.specs.Scene.{RayValue}
-use Rattle.ray_geom.specs.ObjectRay.{ObjectRayValue, object_of}
+use Rattle.ray_geom.specs.ObjectRay.{object_of}
 use Rattle.ray_geom.specs.Transform.{identity_value}
 use Rattle.ray_flags.specs.Admission.{AsksBoth}
 use Rattle.ray_flags.specs.declared.ray_flags.RayFlags.{RayFlags}
@@ -13,19 +13,21 @@ use Rattle.ray_geom.specs.declared.ratio.Ratio.{Ratio}
 use Rattle.ray_query.specs.declared.found.Found.{Found}
 use Rattle.ray_nearest.specs.declared.node.WalkNode.{WalkNode}
 use Rattle.ray_nearest.specs.declared.turn.Turn.{Turn}
-use Rattle.ray_nearest.specs.Adding.{Adds, AddsFound, AddsNode, AddsOne}
+use Rattle.ray_nearest.specs.Adding.{Adds, AddsFound, AddsNode}
 use Rattle.ray_walk.specs.Candidates.{found_at, placed}
-use Rattle.ray_walk.specs.declared.looked.Looked.{Looked}
+use Rattle.ray_walk.specs.declared.aim.Aim.{Aim}
+use Rattle.ray_walk.specs.declared.held.Held.{Held}
+use Rattle.ray_walk.specs.declared.held.Looked.{Looked}
+use Rattle.ray_walk.specs.Aims.{IsAimed}
+use Rattle.ray_walk.specs.WideScene.{wide_entry}
 use Rattle.ray_walk.specs.Telling.{instance_of}
 use Rattle.ray_walk.specs.Sound.{IsWalkable}
-use Rattle.ray_walk.specs.Traced.{Placement, Traced, entry, found_at_place}
+use Rattle.ray_walk.specs.Traced.{Placement, Traced, found_at_place, placement_at}
 
--- what a scene of the program knows: all that it looks at is sound, the flags agree, and the ray is at hand as it meets boxes in
--- the world
-pub record IsAtHand (s : Traced) (world : ObjectRayValue) : Type 0 where
+-- what is known of what a ray is traced through: all of it is sound, and the flags agree
+pub record IsAtHand (s : Traced) : Type 0 where
   pub walkable : IsWalkable s
   pub agree : AsksBoth s.flags → ⊥
-  pub in_world : world ≡ object_of s.ray identity_value
 
 -- what is found at a place, by the ray and its flags
 abbrev pub found_by : RayValue → RayFlags → ℕ → Placement → PrimPlace → Option Geometry → List Found
@@ -40,14 +42,43 @@ found_by_place ray flags i p place = found_by ray flags i p place (slice_get p.b
 abbrev pub placement_value : Looked → Placement
 placement_value looked = record { instance = instance_of looked.instance; bottom = looked.bottom.now }
 
+-- ---- what a scene of the program keeps
+
+-- a ray in the world
+pub record IsInWorld (s : Traced) (world : Aim) : Type 0 where
+  pub ray_is : world.ray ≡ object_of s.ray identity_value
+  pub aimed : IsAimed world
+
+-- an instance of a number that is looked at: it is placed, and the ray is in its object's space
+pub record IsLookedAt (s : Traced) (number : ℕ) (looked : Looked) (aim : Aim) : Type 0 where
+  pub placed : placement_at s number ≡ Some (placement_value looked)
+  pub ray_is : aim.ray ≡ object_of s.ray looked.instance.matrix
+  pub aimed : IsAimed aim
+
+-- one that is held
+abbrev pub IsHeld : Traced → Held → Type 0
+IsHeld s h = IsLookedAt s h.number h.looked h.aim
+
+-- whether it is that of a number
+abbrev pub is_of : ℕ → Option Held → Bool
+is_of i None = false
+is_of i (Some h) = h.number == i
+
+-- the instance of a number is held; none is where it isn't placed
+abbrev pub IsHolding : Traced → ℕ → Option Held → Type 0
+IsHolding s i None = placement_at s i ≡ None
+IsHolding s i (Some h) = (h.number ≡ i) × IsHeld s h
+
+pub record IsKeeping (s : Traced) (world : Aim) (held : Option Held) : Type 0 where
+  pub in_world : IsInWorld s world
+  pub held_is : IfSome held (IsHeld s)
+
+-- ---- turns
+
 -- the turns of nodes of a scene were added
-abbrev pub AddsNodesOf : Option Ratio → Traced → List WalkNode → List Turn → List Turn → Type 0
-AddsNodesOf limit s = Adds (AddsNode limit (entry s))
+abbrev pub AddsWide : Option Ratio → Traced → List WalkNode → List Turn → List Turn → Type 0
+AddsWide limit s = Adds (AddsNode limit (wide_entry s))
 
--- the turn of one was
-abbrev pub AddsNodeOf : Option Ratio → Traced → WalkNode → List Turn → List Turn → Type 0
-AddsNodeOf limit s n = AddsOne (AddsNode limit (entry s) n)
-
--- and the turns of what is found at places of a structure
+-- and of what is found at places of a structure
 abbrev pub AddsFoundAt : Option Ratio → Traced → ℕ → Placement → List PrimPlace → List Turn → List Turn → Type 0
 AddsFoundAt limit s i p places = Adds (AddsFound limit) (flat_map (found_at_place s i p) places)

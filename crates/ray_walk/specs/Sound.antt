@@ -6,6 +6,7 @@ use Rattle.ray_geom.specs.Transform.{IsMatrix}
 use Rattle.ray_contents.specs.Bounds.{KeepsBounds}
 use Rattle.ray_primitives.specs.Primitives.{box_of_triangle}
 use Rattle.ray_tree.specs.Trees.{TreeOver, item_box}
+use Rattle.ray_wide.specs.Wides.{WideOver}
 use Rattle.ray_bottom.specs.declared.geometry.Geometry.{Geometry}
 use Rattle.ray_bottom.specs.declared.shapes.Shapes.{Shapes}
 use Rattle.ray_bottom.specs.declared.shapes.Shapes.TheVariants.{Triangles, Boxes}
@@ -41,5 +42,6 @@ pub record IsWalkable (s : Traced) : Type 0 where
   pub ray : IsRay s.ray
   pub top : IsTop (top_without_tree s.top)
   pub over : TreeOver s.top.tree (top_items (top_without_tree s.top))
+  pub wide : WideOver s.top.wide s.top.tree
   pub standing : AreStanding (top_without_tree s.top) (structures_in s.bottoms)
   pub bottoms : AreSound s.bottoms

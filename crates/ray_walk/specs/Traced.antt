@@ -1,6 +1,6 @@
 -- What a walk looks at where a ray is traced: the nodes of the top structure's tree, and below its leaves those of the trees of
--- the bottom structures, each as its instance places it. It is a scene of ray_nearest, told by its parts. (Own; Vulkan leaves open how
--- candidates are looked for.)
+-- the bottom structures, each as its instance places it. It is a scene of ray_nearest, told by its parts. The program goes over the wide
+-- nodes of the same trees (`WideScene`). (Own; Vulkan leaves open how candidates are looked for.)
 use Rattle.std.specs.Prelude.{ℕ, pos, ◌≡◌, ◌<◌, ◌+◌, ◌^◌, if◌then◌else◌, Option, Some, None, option_map, option_and_then, List, [], ◌∷◌, length, take, drop, slice_get}
 use Rattle.std.specs.List.{flat_map}
 use Rattle.ray_geom.specs.declared.ratio.Ratio.{Ratio}

@@ -10,9 +10,9 @@ ghost use Rattle.ray_walk.specs.Scenes.{AddsFoundAt, found_by_place, placement_v
 ghost use Rattle.ray_walk.specs.Traced.{found_at_place, placement_at};
 
 use crate::finding::find;
-use crate::looked::Looked;
+use crate::held::Looked;
 use crate::placed::Placed;
-use crate::ray_scene::RayScene;
+use crate::view::View;
 use ray_bottom::PrimPlace;
 use ray_flags::{RayFlags, effective};
 use ray_geom::{Ratio, Ray, Steps};
@@ -22,7 +22,7 @@ use std::sync::ledger::Ledger;
 
 // Adds the turns of what is found in a leaf, a step for each primitive.
 pub(crate) fn open_leaf<L: Ledger>(
-    scene: &RayScene<'_>,
+    view: &View<'_>,
     looked: &Looked<'_>,
     i: u32,
     n: u32,
@@ -30,16 +30,16 @@ pub(crate) fn open_leaf<L: Ledger>(
     turns: &mut Turns,
     steps: &mut Steps<L>,
 ) -> Result<(), NoMemory>
-    requires is_it { placement_at scene.now i ≡ Some (placement_value looked.now) }
+    requires is_it { placement_at view.now i ≡ Some (placement_value looked.now) }
     requires within { n < length looked.now.bottom.now.tree.nodes }
-    ensures found { OnOk result (AddsFoundAt limit scene.now i (placement_value looked.now)
+    ensures found { OnOk result (AddsFoundAt limit view.now i (placement_value looked.now)
         (places_below looked.now.bottom.now n) turns.old turns.new) }
     ensures steps { OnOk result (steps.new
         ≡ steps.old + length (places_below looked.now.bottom.now n)) }
     ensures rising { steps.old ≤ steps.new }
 {
     for place in looked.bottom.items_of(n) {
-        let found = find_at(scene, looked, i, *place, steps);
+        let found = find_at(view, looked, i, *place, steps);
         push(turns, limit, found)?;
     }
     Ok(())
@@ -47,19 +47,19 @@ pub(crate) fn open_leaf<L: Ledger>(
 
 // What is found of the primitive at a place. It takes one step.
 fn find_at<L: Ledger>(
-    scene: &RayScene<'_>,
+    view: &View<'_>,
     looked: &Looked<'_>,
     i: u32,
     place: PrimPlace,
     steps: &mut Steps<L>,
 ) -> Option<Found>
-    requires is_it { placement_at scene.now i ≡ Some (placement_value looked.now) }
+    requires is_it { placement_at view.now i ≡ Some (placement_value looked.now) }
     ensures value { option_to_list result
-        ≡ found_at_place scene.now i (placement_value looked.now) place }
+        ≡ found_at_place view.now i (placement_value looked.now) place }
     ensures step { steps.new ≡ steps.old + 1 }
 {
-    scene.known();
-    find_in(looked, i, place, scene.ray(), scene.flags(), steps)
+    view.known();
+    find_in(looked, i, place, view.ray(), view.flags(), steps)
 }
 
 // The same, where the transform keeps the bounds of the structure, and flags agree.

@@ -5,19 +5,26 @@
 //! in rising order of keys, and that no other list is; [`agreeing_law`] that they depend on the
 //! structures of active instances alone.
 //!
-//! The layer above uses [`trace_plain`], whose answer is `trace_answer`. It tests every primitive,
-//! and stays as the plain program of that definition beside any faster one. Its condition is on
-//! what it is lent alone; [`standing_law`] gives it from the structures that were in use.
+//! The layer above uses [`trace_ray`], whose answer is `trace_answer`: a walk through the trees of
+//! structures, nearest first, which tests no more primitives than those of the leaves whose box,
+//! and every box above it, is met up to the committed distance (`specs/Traced`). It goes over wide
+//! nodes, eight boxes at once (`specs/WideScene`). [`trace_plain`] has the same answer; it tests
+//! every primitive, and stays as the plain program of that definition. The condition of both is on
+//! what they are lent alone; [`standing_law`] gives it from the structures that were in use.
 //!
-//! It stands on ray_top and ray_bottom (contents, the test of a primitive), ray_query (the play),
-//! ray_prune (facing) and ray_flags (opacity and culls).
+//! It stands on ray_top and ray_bottom (contents, the test of a primitive), ray_wide, ray_lanes and
+//! ray_window (the wide trees and what a window leaves out), ray_nearest (the walk), ray_query (the
+//! play), ray_prune (boxes, facing) and ray_flags (opacity and culls).
 #![tactic(auto)]
 
+mod aim;
+mod children;
 mod finding;
 mod gathering;
+mod held;
 mod laws;
 mod leaf;
-mod looked;
+mod level;
 mod opening;
 mod placed;
 mod plain;
@@ -25,6 +32,8 @@ mod ray_scene;
 #[cfg(test)]
 mod tests;
 mod tracing;
+mod trees;
+mod view;
 
 pub use laws::{agreeing_law, candidates_law, numbers_law, standing_law};
 pub use plain::trace_plain;

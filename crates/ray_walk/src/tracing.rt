@@ -7,6 +7,7 @@ ghost use Rattle.ray_walk.specs.Standing.{AreStanding, structures_in};
 ghost use Rattle.ray_walk.specs.Traced.{traced_by, traced_scene};
 
 use crate::ray_scene::RayScene;
+use crate::view::View;
 use ray_bottom::Bottoms;
 use ray_flags::RayFlags;
 use ray_geom::{Ray, Steps};
@@ -15,16 +16,16 @@ use ray_query::{Client, Commit};
 use ray_top::Top;
 use std::sync::ledger::Ledger;
 
-/// What the trace of a ray commits, by a walk through the box trees of the top structure and of the
-/// bottom structures below it: it opens nodes nearest first, and ends where all that waits is beyond
-/// the committed hit. None exactly where the play of the candidates commits nothing. The structure
-/// of each active instance stands under its id, with the bounds that stood beside the id when `top`
-/// was built or last updated, and `flags` doesn't ask that everything counts as opaque and that
-/// nothing does. `number` is the ray's in its trace. A step is taken for each primitive that is
-/// tested: no more than the primitives of the opened leaves, those whose boxes, and those above
-/// them, are met up to the committed distance. Turns that wait in `turns` are dropped, and memory is
-/// taken for turns alone; it is kept from ray to ray. (Vulkan, "Ray Traversal"; own: the order, and
-/// the bound.)
+/// What the trace of a ray commits, by a walk through the box trees of the top structure and of
+/// the bottom structures below it: it opens nodes nearest first, and ends where all that waits is
+/// beyond the committed hit. None exactly where the play of the candidates commits nothing. The
+/// structure of each active instance stands under its id, with the bounds that stood beside the
+/// id when `top` was built or last updated, and `flags` doesn't ask that everything counts as
+/// opaque and that nothing does. `number` is the ray's in its trace. A step is taken for each
+/// primitive that is tested: no more than the primitives of the opened leaves, those whose boxes,
+/// and those above them, are met up to the committed distance. Turns that wait in `turns` are
+/// dropped, and memory is taken for turns alone; that of the heap is kept from ray to ray.
+/// (Vulkan, "Ray Traversal"; own: the order, and the bound.)
 pub fn trace_ray<C: Client, L: Ledger>(
     top: &Top,
     bottoms: &Bottoms,
@@ -44,7 +45,8 @@ pub fn trace_ray<C: Client, L: Ledger>(
         (traced_scene (traced_by top.now bottoms.now ray.now flags mask)) (distance_of answer)) }
     ensures rising { steps.old ≤ steps.new }
 {
-    let mut scene = RayScene::new(top, bottoms, ray, flags, mask);
-    scene.known();
+    let view = View::new(top, bottoms, ray, flags, mask);
+    view.known();
+    let mut scene = RayScene::new(view);
     walk(&mut scene, number, flags, client, turns, steps)
 }

@@ -8,7 +8,7 @@ use Rattle.ray_walk.proofs.leaf.open_leaf.Goals as goal
 
 pub loop-place-preserved : goal.loop-place-preserved
 loop-place-preserved g c =
-    let s = c.args.scene.now in
+    let s = c.args.view.now in
     let p = placement_value c.args.looked.now in
     let places = c.items_of-place-items.result.now in
     let k = c.loop-place.place-index in

@@ -5,6 +5,6 @@ use Rattle.ray_walk.proofs.leaf.open_leaf.Given as goal
 -- the places so far
 abbrev pub invariant-loop-place : goal.invariant-loop-place
 invariant-loop-place g l = record {
-  found : AddsFoundAt l.fn.limit l.fn.scene l.fn.i (placement_value l.fn.looked) (take l.place-index l.place-items) l.fn.turns l.turns;
+  found : AddsFoundAt l.fn.limit l.fn.view l.fn.i (placement_value l.fn.looked) (take l.place-index l.place-items) l.fn.turns l.turns;
   steps : l.steps ≡ l.fn.steps + l.place-index;
 }

@@ -1,15 +1,17 @@
 use Rattle.std.proofs.Common.{◌<◌, length, arith}
 use Rattle.std.proofs.lemmas.Bool.Decides.{nat_tests}
 use Rattle.ray_nearest.specs.Adding.{AddsNode}
-use Rattle.ray_walk.specs.Traced.{entry, roots_of}
+use Rattle.ray_walk.specs.WideScene.{wide_entry, wide_roots}
 use Rattle.ray_walk.proofs.Pushing.{Adds-flat}
 use Rattle.ray_walk.proofs.opening.open_instances.Goals as goal
 
 pub loop-i-preserved : goal.loop-i-preserved
 loop-i-preserved c =
-    let s = c.args.scene.now in
+    let s = c.args.view.now in
     let items = c.items_of-i-items.result.now in
     let k = c.loop-i.i-index in
-    let below : k < length items = (let t = c.loop-i-test.true in grind (arith, nat_tests)) in
-    Adds-flat (AddsNode c.args.limit (entry s)) (roots_of s) items k _ c.args.turns.now c.loop-i.turns c.push_root.new.turns below c.loop-i.invariant
-    c.in_ok-push_root.ensures
+    let below : k < length items = (let t = c.loop-i-test.true in grind (arith, nat_tests)) in (
+      Adds-flat (AddsNode c.args.limit (wide_entry s)) (wide_roots s) items k _ c.args.turns.now c.loop-i.turns c.push_root.new.turns below c.loop-i.invariant.0
+          c.in_ok-push_root.ensures.pushed,
+      c.in_ok-push_root.ensures.held,
+    )

@@ -4,7 +4,7 @@ use Rattle.ray_prune.specs.BoxReach.{IsSameReach, reach_of}
 use Rattle.ray_nearest.proofs.Added.{pushed_node}
 use Rattle.ray_walk.specs.Traced.{entry_in}
 use Rattle.ray_walk.proofs.Pushing.{same-entry}
-use Rattle.ray_walk.proofs.opening.push_met.Goals as goal
+use Rattle.ray_walk.proofs.children.push_met.Goals as goal
 
 pub returns-in-Some : goal.returns-in-Some
 returns-in-Some c =

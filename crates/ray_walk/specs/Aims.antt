@@ -1,0 +1,74 @@
+-- Words of private calls alone, which a reader of the public contracts needs not: a ray with its window, and the trees that it is sent through.
+use Rattle.std.specs.Prelude.{ℕ, ◌≡◌, ◌<◌, false, Option, Some, None, IfSome, All, List, length}
+use Rattle.ray_geom.specs.declared.ratio.Ratio.{Ratio}
+use Rattle.ray_geom.specs.Boxes.{BoxValue, IsBox}
+use Rattle.ray_geom.specs.ObjectRay.{ObjectRayValue}
+use Rattle.ray_tree.specs.Trees.{TreeValue, box_at}
+use Rattle.ray_wide.specs.declared.node.WideRef.{WideRef}
+use Rattle.ray_wide.specs.declared.node.WideRef.TheVariants as wides
+use Rattle.ray_wide.specs.Wides.{WideValue, WideOver, lane_box, top_at}
+use Rattle.ray_lanes.specs.declared.lanes.Lanes8.{Lanes8}
+use Rattle.ray_window.specs.Windows.{window_of}
+use Rattle.ray_nearest.specs.declared.node.WalkNode.{WalkNode}
+use Rattle.ray_nearest.specs.declared.node.WalkNode.TheVariants.{TopInner, TopLeaf, Inner, Leaf}
+use Rattle.ray_nearest.specs.declared.turn.Turn.{Turn}
+use Rattle.ray_nearest.specs.Adding.{Adds, AddsNode}
+use Rattle.ray_nearest.specs.Scene.{is_open}
+use Rattle.ray_walk.specs.declared.aim.Aim.{Aim}
+use Rattle.ray_walk.specs.declared.aim.Seen.{Seen}
+use Rattle.ray_walk.specs.declared.trees.Trees.{Trees}
+use Rattle.ray_walk.specs.Traced.{entry_in, no_box}
+
+-- ---- a ray with its window
+
+-- what was seen last is the window up to its limit
+pub record IsAimed (aim : Aim) : Type 0 where
+  pub seen_is : IfSome aim.seen (λ (s : Seen). s.window ≡ window_of aim.ray s.limit)
+
+-- two limits have the same numbers
+abbrev pub IsSameLimit : Option Ratio → Option Ratio → Type 0
+IsSameLimit None None = Unit {0}
+IsSameLimit None (Some b) = ⊥
+IsSameLimit (Some a) None = ⊥
+IsSameLimit (Some a) (Some b) = (a.num ≡ b.num) × (a.den ≡ b.den)
+
+-- ---- trees
+
+-- a wide tree over a binary one, whose boxes are within the limits
+pub record AreTrees (tree : TreeValue) (wide : WideValue) : Type 0 where
+  pub over : WideOver wide tree
+  pub limits : (n : ℕ) → n < length tree.nodes → IsBox (box_at tree no_box n)
+
+-- a child has a box
+abbrev pub HasBox : TreeValue → WideValue → WideRef → Type 0
+HasBox tree wide wides.Empty = Unit {0}
+HasBox tree wide (wides.Leaf n) = n < length tree.nodes
+HasBox tree wide (wides.Inner w) = (w < length wide.tops) × (top_at wide.tops w < length tree.nodes)
+
+-- a child has the box of its lane
+pub record HasLaneBox (lanes : Lanes8) (k : ℕ) (box : BoxValue) : Type 0 where
+  pub same : lane_box lanes k ≡ box
+  pub limits : IsBox box
+
+abbrev pub HasLane : TreeValue → WideValue → Lanes8 → ℕ → WideRef → Type 0
+HasLane tree wide lanes k wides.Empty = Unit {0}
+HasLane tree wide lanes k (wides.Leaf n) = HasLaneBox lanes k (box_at tree no_box n)
+HasLane tree wide lanes k (wides.Inner w) = HasLaneBox lanes k (box_at tree no_box (top_at wide.tops w))
+
+-- from where a ray is in the box of a node of these trees
+abbrev pub entry_by : TreeValue → WideValue → ObjectRayValue → WalkNode → Option Ratio
+entry_by tree wide object (TopInner w) = entry_in object (box_at tree no_box (top_at wide.tops w))
+entry_by tree wide object (TopLeaf n) = entry_in object (box_at tree no_box n)
+entry_by tree wide object (Inner i w) = entry_in object (box_at tree no_box (top_at wide.tops w))
+entry_by tree wide object (Leaf i n) = entry_in object (box_at tree no_box n)
+
+abbrev pub entry_through : Trees → WalkNode → Option Ratio
+entry_through t = entry_by t.tree.now t.wide.now t.ray.now
+
+-- the turns of nodes of these trees were added
+abbrev pub AddsThrough : Option Ratio → Trees → List WalkNode → List Turn → List Turn → Type 0
+AddsThrough limit t = Adds (AddsNode limit (entry_through t))
+
+-- none of them is met within the limit
+abbrev pub AreLeftOut : Option Ratio → Trees → List WalkNode → Type 0
+AreLeftOut limit t = All (λ n. is_open limit (entry_through t n) ≡ false)

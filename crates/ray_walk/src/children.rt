@@ -1,0 +1,199 @@
+//! What is below a wide node of a structure, and its root.
+ghost use Rattle.std.specs.Prelude.{◌≡◌, ◌↔◌, ◌<◌, IsTrue, OnOk, SomeIff, false, length};
+ghost use Rattle.std.specs.List.{flat_map};
+ghost use Rattle.ray_geom.specs.Boxes.{IsBox};
+ghost use Rattle.ray_geom.specs.Vector.{vec3};
+ghost use Rattle.ray_lanes.specs.Overlap.{HasBit, of_box};
+ghost use Rattle.ray_nearest.specs.Adding.{AddsNode, AddsOne};
+ghost use Rattle.ray_tree.specs.Trees.{box_at};
+ghost use Rattle.ray_wide.specs.Wides.{children_in, lane_box};
+ghost use Rattle.ray_window.specs.Windows.{window_of};
+ghost use Rattle.ray_walk.specs.Aims.{AddsThrough, AreLeftOut, AreTrees, HasBox, HasLane};
+ghost use Rattle.ray_walk.specs.Traced.{entry_in, no_box};
+ghost use Rattle.ray_walk.specs.WideScene.{child, inner_at, leaf_at};
+
+use crate::level::Level;
+use crate::trees::Trees;
+use ray_geom::{Box3, ObjectRay, Ratio, Vec3};
+use ray_lanes::{Lanes8, Window, overlap8};
+use ray_nearest::{NoMemory, Turns, WalkNode};
+use ray_prune::reach_box;
+use ray_wide::WideRef;
+
+// Adds the turns of the children of a wide node, of which the ray meets the boxes within the
+// limit. Of those that the window doesn't overlap nothing more is asked.
+pub(crate) fn push_children(
+    trees: &Trees<'_, '_>,
+    window: &Window,
+    w: u32,
+    limit: Option<Ratio>,
+    turns: &mut Turns,
+) -> Result<(), NoMemory>
+    requires trees { AreTrees trees.now.tree.now trees.now.wide.now }
+    requires window { window.now ≡ window_of trees.now.ray.now limit }
+    requires node { w < length trees.now.wide.now.nodes }
+    ensures { let children = children_in trees.now.wide.now.nodes w in
+        OnOk result (AddsThrough limit trees.now
+        (flat_map (child trees.now.level) children) turns.old turns.new) }
+{
+    let _det = trees.ray.det();
+    let lanes = trees.wide.lanes(w);
+    let met = overlap8(lanes, window);
+    let children = trees.wide.children(w);
+    for k in 0..8_u32 {
+        let below = children[k as usize];
+        push_if_met(trees, lanes, k, limit, has_bit(met, k), below, turns)?;
+    }
+    Ok(())
+}
+
+// Whether bit k of a number is set.
+fn has_bit(number: u8, k: u32) -> bool
+    requires { k < 8 }
+    ensures { IsTrue result ↔ HasBit number k }
+{
+    (number >> k) % 2 == 1
+}
+
+// Adds the turn of a child by its lane, unless it is known that the ray doesn't meet it within the
+// limit.
+fn push_if_met(
+    trees: &Trees<'_, '_>,
+    lanes: &Lanes8,
+    k: u32,
+    limit: Option<Ratio>,
+    met: bool,
+    below: WideRef,
+    turns: &mut Turns,
+) -> Result<(), NoMemory>
+    requires few { k < 8 }
+    requires lane { HasLane trees.now.tree.now trees.now.wide.now lanes.now k below }
+    requires left_out { met ≡ false → AreLeftOut limit trees.now (child trees.now.level below) }
+    ensures { OnOk result (AddsThrough limit trees.now
+        (child trees.now.level below) turns.old turns.new) }
+{
+    if !met {
+        return Ok(());
+    }
+    match below {
+        WideRef::Empty => Ok(()),
+        WideRef::Leaf(n) => push_lane(trees, lanes, k, limit, leaf_at(trees.level, n), turns),
+        WideRef::Inner(w) => push_lane(trees, lanes, k, limit, inner_at(trees.level, w), turns),
+    }
+}
+
+// Adds the turn of a node with the box of a lane, unless it isn't met within the limit.
+fn push_lane(
+    trees: &Trees<'_, '_>,
+    lanes: &Lanes8,
+    k: u32,
+    limit: Option<Ratio>,
+    node: WalkNode,
+    turns: &mut Turns,
+) -> Result<(), NoMemory>
+    requires few { k < 8 }
+    requires limits { IsBox (lane_box lanes.now k) }
+    ensures { let box = lane_box lanes.now k in OnOk result (AddsOne
+        (AddsNode limit (λ n. entry_in trees.now.ray.now box) node) turns.old turns.new) }
+{
+    match lane_box(lanes, k) {
+        Some(bounds) => push_met(turns, limit, trees.ray, &bounds, node),
+        None => Ok(()),
+    }
+}
+
+// The box of a lane, if it is within the limits.
+fn lane_box(lanes: &Lanes8, k: u32) -> Option<Box3>
+    requires { k < 8 }
+    ensures { let box = lane_box lanes.now k in SomeIff result (IsBox box) box }
+{
+    Box3::new(corner(&lanes.lo, k), corner(&lanes.hi, k))
+}
+
+// A corner of the box of a lane.
+fn corner(numbers: &[[i32; 8]; 3], k: u32) -> Vec3
+    requires { k < 8 }
+    ensures { result ≡ vec3 (of_box numbers.now 0 k) (of_box numbers.now 1 k)
+        (of_box numbers.now 2 k) }
+{
+    let k = k as usize;
+    Vec3 {
+        x: i64::from(numbers[0][k]),
+        y: i64::from(numbers[1][k]),
+        z: i64::from(numbers[2][k]),
+    }
+}
+
+/// Adds the turn of the root, if there is one and the ray meets it within the limit.
+pub(crate) fn push_child(
+    trees: &Trees<'_, '_>,
+    limit: Option<Ratio>,
+    below: WideRef,
+    turns: &mut Turns,
+) -> Result<(), NoMemory>
+    requires { HasBox trees.now.tree.now trees.now.wide.now below }
+    ensures { OnOk result (AddsThrough limit trees.now
+        (child trees.now.level below) turns.old turns.new) }
+{
+    match below {
+        WideRef::Empty => Ok(()),
+        WideRef::Leaf(n) => push_box(trees, limit, n, leaf_at(trees.level, n), turns),
+        WideRef::Inner(w) => {
+            let top = trees.wide.subtree(w);
+            push_box(trees, limit, top, inner_at(trees.level, w), turns)
+        }
+    }
+}
+
+// A leaf, as the walk names it.
+fn leaf_at(level: Level, n: u32) -> WalkNode
+    ensures { result ≡ leaf_at level n }
+{
+    match level {
+        Level::World => WalkNode::TopLeaf(n),
+        Level::Object(instance) => WalkNode::Leaf { instance, node: n },
+    }
+}
+
+// A wide node, as the walk names it.
+fn inner_at(level: Level, w: u32) -> WalkNode
+    ensures { result ≡ inner_at level w }
+{
+    match level {
+        Level::World => WalkNode::TopInner(w),
+        Level::Object(instance) => WalkNode::Inner { instance, node: w },
+    }
+}
+
+// Adds the turn of a node with the box of a node of the binary tree, unless it isn't met within the
+// limit.
+fn push_box(
+    trees: &Trees<'_, '_>,
+    limit: Option<Ratio>,
+    n: u32,
+    node: WalkNode,
+    turns: &mut Turns,
+) -> Result<(), NoMemory>
+    requires { n < length trees.now.tree.now.nodes }
+    ensures { let box = box_at trees.now.tree.now no_box n in OnOk result (AddsOne
+        (AddsNode limit (λ n. entry_in trees.now.ray.now box) node) turns.old turns.new) }
+{
+    push_met(turns, limit, trees.ray, &trees.tree.node_box(n), node)
+}
+
+// Adds the turn of a node with this box, unless it isn't met within the limit.
+fn push_met(
+    turns: &mut Turns,
+    limit: Option<Ratio>,
+    ray: &ObjectRay,
+    bounds: &Box3,
+    node: WalkNode,
+) -> Result<(), NoMemory>
+    ensures { OnOk result
+        (AddsOne (AddsNode limit (λ n. entry_in ray.now bounds.now) node) turns.old turns.new) }
+{
+    match reach_box(ray, bounds) {
+        Some(reach) => turns.push_node(limit, reach.entry, node),
+        None => Ok(()),
+    }
+}
