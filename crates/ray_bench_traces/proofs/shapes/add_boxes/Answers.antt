@@ -1,0 +1,8 @@
+use Rattle.std.proofs.Common.{arith}
+use Rattle.ray_bench_traces.proofs.Room.{after_boxes}
+use Rattle.ray_bench_traces.proofs.shapes.add_boxes.Goals as goal
+
+-- a geometry of at most 40 leaves room
+pub returns : goal.returns
+returns c =
+    after_boxes _ _ _ _ _ c.boxes.ensures.added (let below = c.below-count.ensures in omega arith)
