@@ -1,4 +1,5 @@
 pub mod Bounds
+pub mod Odd
 pub mod Fractions
 pub mod Ring
 pub mod Determinant

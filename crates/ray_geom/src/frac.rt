@@ -1,7 +1,7 @@
 ghost use Rattle.std.specs.Prelude.{◌≡◌, ◌*◌, ◌^◌, ◌≤◌, ◌↔◌, ℕ, IsSome, IfSome};
-ghost use Rattle.std.specs.Int.{IsGcd};
 ghost use Rattle.ray_geom.specs.Fraction.{IsFraction, IsLowest, IsSameValue};
 
+use crate::gcd::gcd;
 use std::cmp::Ordering;
 
 // The greatest numerator and denominator, three times 2 to the power 61.
@@ -99,18 +99,4 @@ impl PartialOrd for Frac {
     fn partial_cmp(&self, other: &Frac) -> Option<Ordering> {
         Some(self.cmp(other))
     }
-}
-
-// The greatest common divisor, by Euclid's steps.
-fn gcd(num: u64, den: u64) -> u64
-    ensures { IsGcd num den result }
-{
-    let mut a = num;
-    let mut b = den;
-    while b != 0 {
-        let rest = a % b;
-        a = b;
-        b = rest;
-    }
-    a
 }

@@ -31,6 +31,7 @@ mod box_tests;
 mod count;
 mod edge;
 mod frac;
+mod gcd;
 mod hit;
 mod least_box;
 mod matrix;
