@@ -13,8 +13,6 @@ mod commands;
 mod infos;
 mod laws;
 mod lists;
-#[cfg(test)]
-mod tests;
 mod touched;
 mod touches;
 

@@ -25,8 +25,6 @@ mod shapes;
 mod stored;
 mod stored_law;
 mod testing;
-#[cfg(test)]
-mod tests;
 
 pub use crate::bottom::Bottom;
 pub use crate::bottoms::Bottoms;

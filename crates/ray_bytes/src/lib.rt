@@ -30,8 +30,6 @@ mod ray_view;
 mod reference;
 mod sizes;
 mod slice;
-#[cfg(test)]
-mod tests;
 mod transform;
 mod transform_view;
 mod vertex_view;

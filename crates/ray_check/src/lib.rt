@@ -14,8 +14,6 @@
 
 mod joining;
 mod laws;
-#[cfg(test)]
-mod tests;
 mod verdict;
 
 pub use crate::laws::kept_is_within_buffers;

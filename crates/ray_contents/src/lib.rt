@@ -20,8 +20,6 @@ mod gathering;
 mod kept;
 mod limits;
 mod point32;
-#[cfg(test)]
-mod tests;
 
 pub use crate::bounds::extended;
 pub use crate::elements::Elements;

@@ -26,8 +26,6 @@ mod piece_out;
 mod ranges;
 mod serializing;
 mod storing;
-#[cfg(test)]
-mod tests;
 mod tops;
 mod tracing;
 

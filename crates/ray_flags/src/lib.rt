@@ -21,8 +21,6 @@ mod instance_flags;
 mod kind;
 mod ray_flags;
 mod stages;
-#[cfg(test)]
-mod tests;
 mod usage;
 mod words;
 

@@ -26,8 +26,6 @@
 
 mod adjugate;
 mod box3;
-#[cfg(test)]
-mod box_tests;
 mod count;
 mod edge;
 mod frac;
@@ -42,8 +40,6 @@ mod ratio;
 mod ray;
 mod shared_edge;
 mod steps;
-#[cfg(test)]
-mod tests;
 mod tri;
 mod tri_hit;
 mod vec3;

@@ -16,8 +16,6 @@
 
 mod activity;
 mod hierarchy;
-#[cfg(test)]
-mod tests;
 
 pub use crate::hierarchy::Hierarchy;
 pub use std::alloc::AllocError as NoMemory;

@@ -19,8 +19,6 @@ mod listed;
 mod members;
 mod numbers;
 mod reader;
-#[cfg(test)]
-mod tests;
 mod words;
 
 pub use crate::bytes::Bytes;

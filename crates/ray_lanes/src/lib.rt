@@ -11,8 +11,6 @@
 mod lanes;
 mod overlap;
 mod padding;
-#[cfg(test)]
-mod tests;
 
 pub use crate::lanes::{Lanes8, Window};
 pub use crate::overlap::{overlap8, overlaps};

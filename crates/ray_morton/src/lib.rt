@@ -20,8 +20,6 @@ mod layout;
 mod middles;
 mod plant;
 mod presort;
-#[cfg(test)]
-mod tests;
 
 pub use crate::build::build_fast;
 pub use std::alloc::AllocError as NoMemory;

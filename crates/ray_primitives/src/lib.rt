@@ -24,8 +24,6 @@ mod stored_boxes;
 mod stored_laws;
 mod stored_points;
 mod stored_triangles;
-#[cfg(test)]
-mod tests;
 mod triangle_info;
 mod triangle_source;
 mod triangles;

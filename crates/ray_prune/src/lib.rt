@@ -27,10 +27,6 @@ mod pruning;
 mod reach;
 mod slab;
 mod span;
-#[cfg(test)]
-mod span_tests;
-#[cfg(test)]
-mod tests;
 
 pub use crate::box_laws::{part_law, union_law};
 pub use crate::box_reach::reach_box;

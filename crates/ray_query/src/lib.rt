@@ -30,8 +30,6 @@ mod laws;
 mod query;
 mod record;
 mod step;
-#[cfg(test)]
-mod tests;
 
 pub use by_fn::{ByFn, Function};
 pub use candidate::Candidate;

@@ -21,8 +21,6 @@ mod place;
 mod placed;
 mod range;
 mod sweep;
-#[cfg(test)]
-mod tests;
 
 pub use disjoint_ranges::DisjointRanges;
 pub use first::{first_meeting, first_meeting_any, first_meeting_earlier};

@@ -11,8 +11,6 @@ mod builds;
 mod commands;
 mod grid;
 mod scene;
-#[cfg(test)]
-mod tests;
 
 pub use crate::scene::gen_text;
 pub use std::alloc::AllocError as NoMemory;

@@ -21,8 +21,6 @@ mod raw_rule;
 mod reading;
 mod rule_reader;
 mod script;
-#[cfg(test)]
-mod tests;
 
 pub use crate::bad_script::BadScript;
 pub use crate::deciding::distance_law;

@@ -22,8 +22,6 @@ mod linking;
 mod restoring;
 mod rows;
 mod serial_fault;
-#[cfg(test)]
-mod tests;
 mod texts;
 mod top_writing;
 mod view;

@@ -32,8 +32,6 @@ mod per_kind;
 mod sets;
 mod source;
 mod starts;
-#[cfg(test)]
-mod tests;
 
 pub use crate::carried::Carried;
 pub use crate::check::check_sync;

@@ -17,8 +17,6 @@ mod laws;
 mod lists;
 mod placed;
 mod reading;
-#[cfg(test)]
-mod tests;
 mod top;
 mod used;
 mod used_index;

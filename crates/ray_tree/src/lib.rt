@@ -30,8 +30,6 @@ mod node;
 mod order;
 mod over;
 mod plant;
-#[cfg(test)]
-mod tests;
 mod tree;
 
 pub use crate::build::build_median;

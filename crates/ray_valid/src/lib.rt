@@ -22,8 +22,6 @@ mod shapes;
 mod sources;
 mod spans;
 mod structures;
-#[cfg(test)]
-mod tests;
 
 pub use crate::checking::{check_static, refusal_of};
 pub use std::alloc::AllocError as NoMemory;

@@ -29,8 +29,6 @@ mod opening;
 mod placed;
 mod plain;
 mod ray_scene;
-#[cfg(test)]
-mod tests;
 mod tracing;
 mod trees;
 mod view;

@@ -24,8 +24,6 @@ mod fill;
 mod grow;
 mod laws;
 mod node;
-#[cfg(test)]
-mod tests;
 mod wide;
 
 pub use crate::laws::{lane_law, nesting_law, root_law, way_law};

@@ -12,8 +12,6 @@
 
 mod quotients;
 mod side;
-#[cfg(test)]
-mod tests;
 mod window;
 
 pub use crate::window::{window_law, window_of};

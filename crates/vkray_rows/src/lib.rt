@@ -10,6 +10,8 @@ mod answer;
 #[cfg(test)]
 mod built;
 #[cfg(test)]
+mod device;
+#[cfg(test)]
 mod failing;
 #[cfg(test)]
 mod meeting;

@@ -1,0 +1,46 @@
+use ray_flags::BuildFlags;
+use ray_geom::{Box3, Vec3};
+use ray_hierarchy::Hierarchy;
+use ray_tree::Tree;
+use std::alloc::AllocError;
+
+// The box from (x, 0, 0) to (x, 1, 1).
+fn flat_box(x: u8) -> Option<Box3> {
+    let x = i64::from(x);
+    Box3::new(Vec3 { x, y: 0, z: 0 }, Vec3 { x, y: 1, z: 1 })
+}
+
+// The greatest corner of the box of the root.
+fn greatest(tree: &Tree) -> Option<i64> {
+    let root = tree.root()?;
+    Some(tree.node_box(root).hi().x)
+}
+
+// The last of five boxes moves to the front, and then becomes inactive.
+#[test]
+fn refits_and_builds_anew(rt: HostRuntime) -> Result<(), AllocError> {
+    let flags = BuildFlags(2);
+    let olds = [
+        flat_box(4),
+        flat_box(5),
+        flat_box(6),
+        flat_box(7),
+        flat_box(8),
+    ];
+    let moved = [
+        flat_box(4),
+        flat_box(5),
+        flat_box(6),
+        flat_box(7),
+        flat_box(0),
+    ];
+    let gone = [flat_box(4), flat_box(5), flat_box(6), flat_box(7), None];
+    let old = Hierarchy::build(&rt, rt.alloc(), flags, &olds)?;
+    let refit = old.updated(&rt, rt.alloc(), flags, &moved)?;
+    let anew = old.updated(&rt, rt.alloc(), flags, &gone)?;
+    assert!(rt; old.has_activity(&moved) && !old.has_activity(&gone));
+    assert!(rt; refit.order() == old.order() && refit.tree().is_tree_over(&moved));
+    assert!(rt; greatest(refit.tree()) == Some(7) && refit.tree().nodes() == 3);
+    assert!(rt; anew.order().len() == 4 && anew.tree().is_tree_over(&gone));
+    Ok(())
+}

@@ -1,0 +1,91 @@
+use ray_geom::{Box3, Vec3};
+use ray_morton::build_fast;
+use ray_tree::{Node, Tree};
+use std::alloc::{AllocError as NoMemory, Global};
+use std::thread::Threads;
+
+// The box of a point.
+fn dot(x: i64, y: i64, z: i64) -> Option<Box3> {
+    let v = Vec3 { x, y, z };
+    Box3::new(v, v)
+}
+
+// Whether the items of the places of a leaf are these, from a number on, and how many there are.
+fn leaf_has(tree: &Tree, node: u32, wanted: &[u32]) -> Option<usize> {
+    if node >= tree.nodes() {
+        return None;
+    }
+    let Node::Leaf { first, count } = tree.node(node) else {
+        return None;
+    };
+    for k in 0..count {
+        let at = first.checked_add(k)?;
+        if wanted.get(k as usize) != Some(&tree.item(at)) {
+            return None;
+        }
+    }
+    Some(count as usize)
+}
+
+// Whether the items from the leftmost leaf on are these.
+fn has_order(tree: &Tree, wanted: &[u32]) -> bool {
+    let mut rest = wanted;
+    for k in 0..tree.leaves() {
+        match leaf_has(tree, tree.leaf(k), rest) {
+            Some(count) => rest = rest.get(count..).unwrap_or(&[]),
+            None => return false,
+        }
+    }
+    rest.is_empty()
+}
+
+// Whether the tree over these items is one, with its items in this order.
+fn is_built<R: AllocGlobal + Threads + Sync>(
+    rt: &R,
+    items: &[Option<Box3>],
+    wanted: &[u32],
+) -> Result<bool, NoMemory> {
+    if items.len() > 1 << 20 {
+        return Ok(false);
+    }
+    let tree = build_fast(rt, rt.alloc(), items)?;
+    Ok(tree.is_tree_over(items) && has_order(&tree, wanted))
+}
+
+#[test]
+fn builds_in_key_order(rt: HostRuntime) -> Result<(), NoMemory> {
+    // None, one, and four that fall.
+    assert!(rt; is_built(&rt, &[], &[])?);
+    assert!(rt; is_built(&rt, &[dot(7, -7, 7)], &[0])?);
+    let falling = [dot(0, 0, 6), dot(0, 0, 4), dot(0, 0, 2), dot(0, 0, 0)];
+    assert!(rt; is_built(&rt, &falling, &[3, 2, 1, 0])?);
+    // Keys that differ in the last bit alone.
+    let (low, high) = (dot(0, 0, 0), dot(0, 0, 2));
+    assert!(rt; is_built(&rt, &[high, low, high, low, high], &[1, 3, 0, 2, 4])?);
+    // The bits of x before those of y before those of z, and inactive items left out.
+    let axes = [high, None, dot(0, 2, 0), dot(2, 0, 0), low, dot(0, 0, 4)];
+    assert!(rt; is_built(&rt, &axes, &[4, 0, 2, 3, 5])?);
+    // Nine equal keys.
+    assert!(rt; is_built(&rt, &[low; 9], &[0, 1, 2, 3, 4, 5, 6, 7, 8])?);
+    // Keys that differ in their first and in their last bits.
+    let far = dot(-524288, -524288, -524288);
+    let wide = [high, low, far, dot(0, 0, 6), dot(0, 0, 4)];
+    assert!(rt; is_built(&rt, &wide, &[2, 1, 0, 4, 3])?);
+    Ok(())
+}
+
+// The box from (i, 0, 0) to (i, 1, 1).
+fn slab(i: i64) -> Option<Box3> {
+    Box3::new(Vec3 { x: i, y: 0, z: 0 }, Vec3 { x: i, y: 1, z: 1 })
+}
+
+#[test]
+fn builds_five(rt: HostRuntime) -> Result<(), NoMemory> {
+    let items = [slab(0), slab(1), slab(2), slab(3), slab(4)];
+    let tree = build_fast(&rt, rt.alloc(), &items)?;
+    assert!(rt; tree.is_tree_over(&items));
+    assert!(rt; tree.nodes() > 0);
+    let corner = Vec3 { x: 4, y: 1, z: 1 };
+    assert!(rt; Some(tree.node_box(0)) == Box3::new(Vec3 { x: 0, y: 0, z: 0 }, corner));
+    Ok(())
+}
