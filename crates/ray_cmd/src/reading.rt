@@ -17,7 +17,6 @@ use ray_json::{Listed, ReadFault};
 use serde_json::Value;
 use std::alloc::Global;
 
-
 /// The greatest number of members that all lists of a recording have together.
 const MOST_MEMBERS: u64 = 1 << 26;
 

@@ -1,8 +1,8 @@
+use ray_cmd::{Asked, read_recording};
 use ray_device::{
     FetchFault, Output, copied_bytes, outputs_are_storable, parts_are_actions, pieces,
     told_numbers, traces_are_free,
 };
-use ray_cmd::{Asked, read_recording};
 use ray_memory::State;
 use ray_rules::ByteRange;
 use std::test::Fail;
