@@ -7,3 +7,4 @@ pub mod Planting
 pub mod Numbers
 pub mod Made
 pub mod Presorted
+pub mod Joined

@@ -22,6 +22,7 @@ mod plant;
 mod presort;
 #[cfg(test)]
 mod tests;
+mod threads;
 
 pub use crate::build::build_fast;
 pub use std::alloc::AllocError as NoMemory;
