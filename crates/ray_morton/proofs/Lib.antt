@@ -8,3 +8,4 @@ pub mod Numbers
 pub mod Made
 pub mod Presorted
 pub mod Joined
+pub mod Places

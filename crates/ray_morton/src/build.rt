@@ -32,7 +32,7 @@ pub fn build_fast<R: Threads + Sync>(
     ensures low { IfOk result (λ t. levels (shape_at t 0) ≤ 96) }
 {
     let threads = threads_for(rt, items.len());
-    let layout = layout_over(rt, alloc, items)?;
+    let layout = layout_over(rt, threads, alloc, items)?;
     let boxes = boxes_over(rt, threads, alloc, items, &layout.order, &layout.nodes)?;
     let tree = Tree::of_parts(alloc, layout.nodes, boxes, layout.order, items)?;
     Ok(tree)

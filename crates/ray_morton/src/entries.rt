@@ -1,5 +1,5 @@
 //! The active items in rising order of their keys, and of their numbers where these are equal.
-ghost use Rattle.std.specs.Prelude.{◌≡◌, ◌≤◌, ◌^◌, ◌↔◌, IfOk, IsTrue, length};
+ghost use Rattle.std.specs.Prelude.{◌≡◌, ◌<◌, ◌≤◌, ◌^◌, ◌↔◌, IfOk, IsTrue, length};
 ghost use Rattle.std.specs.Option.{option_to_list};
 ghost use Rattle.std.specs.Ordering.{nat_cmp};
 ghost use Rattle.std.specs.List.Sorted.{IsPermutation, IsSorted};
@@ -7,7 +7,7 @@ ghost use Rattle.ray_morton.specs.Entries.{entry_in, entries_below, key_parts, i
 ghost use Rattle.ray_morton.specs.Entries.{Rises, IsInOrder};
 
 use crate::middles::key;
-use crate::presort::presorted;
+use crate::presort::{presorted, sort_all_runs};
 use ray_geom::Box3;
 use rayon::slice::par_sort_unstable;
 use std::alloc::{AllocError as NoMemory, Global};
@@ -63,21 +63,35 @@ fn do_rise(entries: &[u128]) -> bool
     true
 }
 
+// Brings entries into order, as far as they aren't yet.
+fn settle<R: Threads + Sync>(rt: &R, entries: &mut Vec<u128>)
+    ensures same { IsPermutation entries.old.items entries.new.items }
+    ensures rises { Rises entries.new.items }
+{
+    if do_rise(entries) {
+        return;
+    }
+    sort_all_runs(entries);
+    if do_rise(entries) {
+        return;
+    }
+    sort(rt, entries);
+}
+
 // The entries of the active items in rising order.
 pub(crate) fn in_order<R: Threads + Sync>(
     rt: &R,
+    threads: usize,
     alloc: Global,
     items: &[Option<Box3>],
 ) -> Result<Vec<u128>, NoMemory>
-    requires { length items.now ≤ 2 ^ 20 }
+    requires threads { 0 < threads }
+    requires few { length items.now ≤ 2 ^ 20 }
     ensures { IfOk result (λ v. IsInOrder items.now v.items) }
 {
     let unsorted = entries_of(alloc, items)?;
-    let mut entries = presorted(rt, alloc, &unsorted)?;
-    if do_rise(&entries) {
-        return Ok(entries);
-    }
-    sort(rt, &mut entries);
+    let mut entries = presorted(rt, threads, alloc, &unsorted)?;
+    settle(rt, &mut entries);
     Ok(entries)
 }
 

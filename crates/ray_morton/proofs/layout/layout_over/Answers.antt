@@ -8,7 +8,7 @@ use Rattle.ray_morton.proofs.layout.layout_over.Goals as goal
 pub nodes_over-requires-clause-few : goal.nodes_over-requires-clause-few
 nodes_over-requires-clause-few g c =
     let keys = c.deref-3.ensures.value ∙ c.in_ok-keys.ensures ∙ ap key_parts c.deref-2.ensures.value in
-    subst (λ l. length l ≤ 1048576) (sym keys) (few_entries c.args.items.now c.in_ok-entries.entries.items c.in_ok-entries.ensures c.requires)
+    subst (λ l. length l ≤ 1048576) (sym keys) (few_entries c.args.items.now c.in_ok-entries.entries.items c.in_ok-entries.ensures c.requires.few)
 
 pub nodes_over-requires-clause-rising : goal.nodes_over-requires-clause-rising
 nodes_over-requires-clause-rising g c =
