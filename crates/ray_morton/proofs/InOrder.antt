@@ -153,7 +153,7 @@ put_in_order items es fs few is moved up =
     }
 
 -- there are at most as many as items
-pub few_below : (items : List (Option BoxValue)) (es : List ℕ) → length items ≤ 2 ^ 20 → es ≡ entries_below items (length items) → length es ≤ 2 ^ 20
+pub few_below : (items : List (Option BoxValue)) (es : List ℕ) → length items ≤ 2 ^ 20 → es ≡ entries_below items (length items) → length es ≤ length items
 few_below items es few is =
     let has = subst (HasEach items) (sym is) (all_entered items few) in
     omega (arith, few, (has_items (item_parts es) items has.once).many, count_by-le-length is_some items, length-map es item_part)

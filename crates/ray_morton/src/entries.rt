@@ -3,13 +3,14 @@ ghost use Rattle.std.specs.Prelude.{◌≡◌, ◌<◌, ◌≤◌, ◌^◌, ◌�
 ghost use Rattle.std.specs.Prelude.{map, nat_lt};
 ghost use Rattle.std.specs.List.{filter, range_with_len};
 ghost use Rattle.std.specs.Ordering.{nat_cmp};
+ghost use Rattle.std.specs.Thread.{IsSync};
 ghost use Rattle.std.specs.List.Sorted.{IsPermutation, IsSorted};
 ghost use Rattle.ray_morton.specs.Entries.{mark_in, mark_at, entries_below, key_parts};
 ghost use Rattle.ray_morton.specs.Entries.{item_parts};
 ghost use Rattle.ray_morton.specs.Entries.{Rises, IsInOrder};
 
 use crate::middles::key;
-use crate::presort::{presorted, sort_all_runs};
+use crate::presort::{Room, presorted, room_for, sort_all_runs};
 use ray_geom::Box3;
 use rayon::slice::par_sort_unstable;
 use std::alloc::{AllocError as NoMemory, Global};
@@ -128,6 +129,47 @@ fn settle<R: Threads + Sync>(rt: &R, entries: &mut Vec<u128>)
     sort(rt, entries);
 }
 
+// Entries to be sorted, and the room for it.
+#[derive(Drop)]
+pub struct Unsorted {
+    pub entries: Vec<u128>,
+    pub room: Room,
+}
+
+// The entries of the active items. Where there are several threads, one makes the room.
+fn begun<R: Threads + Sync>(
+    rt: &R,
+    threads: usize,
+    alloc: Global,
+    items: &[Option<Box3>],
+) -> Result<Unsorted, NoMemory>
+    requires threads { 0 < threads }
+    requires few { length items.now ≤ 2 ^ 20 }
+    ensures entries { IfOk result (λ u. u.entries.items
+        ≡ entries_below items.now (length items.now)) }
+    ensures words { IfOk result (λ u. length u.room.words.items ≡ length items.now) }
+    ensures sorted { IfOk result (λ u. length u.room.sorted.items ≡ length items.now) }
+{
+    let many = items.len();
+    if threads <= 1 {
+        let entries = entries_of(rt, threads, alloc, items)?;
+        let room = room_for(alloc, many)?;
+        return Ok(Unsorted { entries, room });
+    }
+    let (room, entries) = thread::join(
+        rt,
+        || room_for(alloc, many),
+        || -> Result<Vec<u128>, NoMemory>
+            requires { IsSync R.row × (0 < threads) × (length items.now ≤ 2 ^ 20) }
+            ensures { IfOk result (λ v. v.items
+                ≡ entries_below items.entry.now (length items.entry.now)) }
+        { entries_of(rt, threads, alloc, items) },
+    );
+    let room = room?;
+    let entries = entries?;
+    Ok(Unsorted { entries, room })
+}
+
 // The entries of the active items in rising order.
 pub(crate) fn in_order<R: Threads + Sync>(
     rt: &R,
@@ -139,10 +181,10 @@ pub(crate) fn in_order<R: Threads + Sync>(
     requires few { length items.now ≤ 2 ^ 20 }
     ensures { IfOk result (λ v. IsInOrder items.now v.items) }
 {
-    let unsorted = entries_of(rt, threads, alloc, items)?;
-    let mut entries = presorted(rt, threads, alloc, &unsorted)?;
-    settle(rt, &mut entries);
-    Ok(entries)
+    let Unsorted { entries, room } = begun(rt, threads, alloc, items)?;
+    let mut sorted = presorted(rt, threads, &entries, room);
+    settle(rt, &mut sorted);
+    Ok(sorted)
 }
 
 // The keys in entries.

@@ -13,6 +13,23 @@ use rayon::slice::par_sort_unstable;
 use std::alloc::{AllocError as NoMemory, Global};
 use std::thread::{self, Threads};
 
+// Room for words and for entries in their order.
+#[derive(Drop)]
+pub struct Room {
+    pub words: Vec<u64>,
+    pub sorted: Vec<u128>,
+}
+
+// Room for so many entries.
+pub(crate) fn room_for(alloc: Global, many: usize) -> Result<Room, NoMemory>
+    ensures words { IfOk result (λ r. length r.words.items ≡ many) }
+    ensures sorted { IfOk result (λ r. length r.sorted.items ≡ many) }
+{
+    let words = vec![in alloc; 0; many]?;
+    let sorted = vec![in alloc; 0; many]?;
+    Ok(Room { words, sorted })
+}
+
 // A word has so many bits of a key, from the highest one on that differs.
 const ROOM: u32 = 44;
 
@@ -52,22 +69,38 @@ fn set_words<R: Threads + Sync>(
     thread::for_each_mut(rt, words, threads, &|k, to| *to = word(entries, shift, k));
 }
 
-// The words of entries.
+// The same, of a list's items.
+fn set_all_words<R: Threads + Sync>(
+    rt: &R,
+    threads: usize,
+    entries: &[u128],
+    shift: u32,
+    words: &mut Vec<u64>,
+)
+    requires threads { 0 < threads }
+    requires shift { shift < 128 }
+    ensures { words.new.items
+        ≡ map (word_of entries.now shift) (range_with_len 0 (length words.old.items)) }
+{
+    set_words(rt, threads, entries, shift, words.as_mut_slice());
+}
+
+// The words of entries, in the room that there is.
 fn words_of<R: Threads + Sync>(
     rt: &R,
     threads: usize,
-    alloc: Global,
     entries: &[u128],
     shift: u32,
-) -> Result<Vec<u64>, NoMemory>
+    words: &mut Vec<u64>,
+)
     requires threads { 0 < threads }
     requires shift { shift < 128 }
-    ensures { IfOk result (λ v. v.items
-        ≡ map (word_of entries.now shift) (range_with_len 0 (length entries.now))) }
+    requires room { length entries.now ≤ length words.old.items }
+    ensures { words.new.items
+        ≡ map (word_of entries.now shift) (range_with_len 0 (length entries.now)) }
 {
-    let mut words = vec![in alloc; 0; entries.len()]?;
-    set_words(rt, threads, entries, shift, words.as_mut_slice());
-    Ok(words)
+    words.truncate(entries.len());
+    set_all_words(rt, threads, entries, shift, words);
 }
 
 // Sorts words.
@@ -105,20 +138,35 @@ fn gather<R: Threads + Sync>(
     );
 }
 
-// The entries of the places in words.
+// The same, of a list's items.
+fn gather_all<R: Threads + Sync>(
+    rt: &R,
+    threads: usize,
+    entries: &[u128],
+    words: &[u64],
+    gathered: &mut Vec<u128>,
+)
+    requires threads { 0 < threads }
+    requires long { length gathered.old.items ≡ length words.now }
+    ensures { gathered.new.items ≡ map (placed entries.now) words.now }
+{
+    gather(rt, threads, entries, words, gathered.as_mut_slice());
+}
+
+// The entries of the places in words, in the room that there is.
 fn gathered<R: Threads + Sync>(
     rt: &R,
     threads: usize,
-    alloc: Global,
     entries: &[u128],
     words: &[u64],
-) -> Result<Vec<u128>, NoMemory>
+    gathered: &mut Vec<u128>,
+)
     requires threads { 0 < threads }
-    ensures { IfOk result (λ v. v.items ≡ map (placed entries.now) words.now) }
+    requires room { length words.now ≤ length gathered.old.items }
+    ensures { gathered.new.items ≡ map (placed entries.now) words.now }
 {
-    let mut gathered = vec![in alloc; 0; words.len()]?;
-    gather(rt, threads, entries, words, gathered.as_mut_slice());
-    Ok(gathered)
+    gathered.truncate(words.len());
+    gather_all(rt, threads, entries, words, gathered);
 }
 
 // How far down the bits are that have no room in a word.
@@ -190,16 +238,18 @@ pub(crate) fn sort_all_runs(entries: &mut Vec<u128>)
 pub(crate) fn presorted<R: Threads + Sync>(
     rt: &R,
     threads: usize,
-    alloc: Global,
     entries: &[u128],
-) -> Result<Vec<u128>, NoMemory>
+    mut room: Room,
+) -> Vec<u128>
     requires threads { 0 < threads }
     requires few { length entries.now ≤ 2 ^ 20 }
-    ensures { IfOk result (λ v. IsPermutation entries.now v.items) }
+    requires words { length entries.now ≤ length room.words.items }
+    requires sorted { length entries.now ≤ length room.sorted.items }
+    ensures { IsPermutation entries.now result.items }
 {
     let shift = shift_of(entries);
-    let mut words = words_of(rt, threads, alloc, entries, shift)?;
-    sort(rt, &mut words);
-    let sorted = gathered(rt, threads, alloc, entries, &words)?;
-    Ok(sorted)
+    words_of(rt, threads, entries, shift, &mut room.words);
+    sort(rt, &mut room.words);
+    gathered(rt, threads, entries, &room.words, &mut room.sorted);
+    room.sorted
 }
