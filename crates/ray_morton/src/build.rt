@@ -15,7 +15,7 @@ use std::thread::Threads;
 /// A tree over items, which are at most 2^20, by keys of 60 bits that say where the middles of
 /// their boxes are. From the leftmost leaf on the active items are in rising order of key, then of
 /// number. Where the keys below a node differ they are cut where their highest bit that differs
-/// changes, and else in halves. `rt` lends the threads to sort them. (Own.)
+/// changes, and else in halves. `rt` lends the threads. (Own.)
 ///
 /// # Errors
 ///
