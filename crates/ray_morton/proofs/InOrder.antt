@@ -1,24 +1,26 @@
 -- Entries of the active items, one after the other, and in another order.
-use Rattle.std.proofs.Common.{◌≡◌, ◌∙◌, ◌+◌, ◌*◌, ◌/◌, ◌^◌, ◌<◌, ◌≤◌, ◌⊎◌, inl, inr, ◌++◌, ℕ, zero, suc, true, false, Bool, cond, Option, Some, None, List, [], ◌∷◌, length, get_or, refl, sym, ap, subst, arith, zero-add, append-nil}
+use Rattle.std.proofs.Common.{◌≡◌, ◌∙◌, ◌+◌, ◌*◌, ◌/◌, ◌^◌, ◌<◌, ◌≤◌, ◌⊎◌, inl, inr, ◌++◌, ℕ, zero, suc, true, false, Bool, cond, Option, Some, None, List, [], ◌∷◌, length, get_or, refl, sym, ap, ap₂, map, subst, arith, zero-add}
 use Rattle.std.specs.Prelude.{is_some, ◌==◌, nat_lt, if◌then◌else◌}
-use Rattle.std.specs.List.{All}
-use Rattle.std.specs.Option.{option_to_list}
+use Rattle.std.specs.List.{All, filter, range_with_len}
 use Rattle.std.specs.Ordering.{nat_cmp, is_lt}
 use Rattle.std.specs.List.Sorted.{IsPermutation, IsSorted}
+use Rattle.std.proofs.lemmas.Bool.{lt-ltb}
 use Rattle.std.proofs.lemmas.Bool.Decides.{nat_tests}
+use Rattle.std.proofs.lemmas.List.FromFn.{filter_of_map_range_with_len_more}
 use Rattle.std.proofs.lemmas.Cmp.{nat_cmp_total}
 use Rattle.std.proofs.lemmas.Map.Keys.{ge_from_not_lt}
 use Rattle.std.proofs.lemmas.List.MinMax.{ranks_by}
-use Rattle.std.proofs.lemmas.List.{get_or_default, get_or_past, map-append, length-map}
+use Rattle.std.proofs.lemmas.List.{get_or_past, map-append, length-map}
 use Rattle.std.proofs.lemmas.List.Elements.{All-nil, All-cons, All-append}
 use Rattle.std.proofs.lemmas.List.Sums.{sum_by-append, count_by-le-length}
 use Rattle.std.proofs.lemmas.List.Sorted.{IsPermutation-map, sum_by-IsPermutation, sorted_far, All-permutation}
 use Rattle.ray_geom.specs.Boxes.{BoxValue}
 use Rattle.ray_tree.specs.Trees.{active, times, item_box}
 use Rattle.ray_tree.proofs.Counting.{either, one, has_items}
-use Rattle.ray_morton.specs.Keys.{key_of}
+use Rattle.ray_morton.specs.Keys.{key_of, middle_of}
+use Rattle.ray_morton.proofs.Spread.{interleaved_small}
 use Rattle.ray_morton.specs.KeyOrder.{key_in, key_at}
-use Rattle.ray_morton.specs.Entries.{entries_below, entry_in, item_part, item_parts, HasEach, Rises, IsInOrder}
+use Rattle.ray_morton.specs.Entries.{entries_below, entry_in, mark_in, mark_at, item_part, item_parts, HasEach, Rises, IsInOrder}
 
 pub below_none : (items : List (Option BoxValue)) → entries_below items 0 ≡ []
 unfolding entries_below
@@ -31,26 +33,27 @@ below_suc items n = refl
 below_more : (items : List (Option BoxValue)) (n : ℕ) → entries_below items (n + 1) ≡ entries_below items n ++ entry_in (item_box items n) n
 below_more items n = let e : n + 1 ≡ suc n = omega arith in ap (entries_below items) e ∙ below_suc items n
 
-none_by : (o : Option ℕ) → ((e : ℕ) → o ≡ Some e → ⊥) → o ≡ None
-none_by None h = refl
-none_by (Some e) h = absurd (h e refl)
-
 -- one item more, with an entry or without
-pub some_more : (items : List (Option BoxValue)) (n e : ℕ) (made : Option ℕ) (o : Option BoxValue) (es fs : List ℕ) → n < length items
-    → o ≡ get_or items n o → option_to_list made ≡ entry_in o n → made ≡ Some e → fs ≡ es ++ (e ∷ []) → es ≡ entries_below items n
-    → fs ≡ entries_below items (n + 1)
-some_more items n e made o es fs small at entry is more before =
-    let here : item_box items n ≡ o = get_or_default items n None o small ∙ sym at in
-    more ∙ ap (λ l. l ++ (e ∷ [])) before ∙ ap (λ l. entries_below items n ++ l) (sym (ap option_to_list is) ∙ entry)
-    ∙ ap (λ p. entries_below items n ++ entry_in p n) (sym here) ∙ sym (below_more items n)
+abbrev IsEntry : ℕ → Bool
+IsEntry e = nat_lt e (2 ^ 80)
 
-pub none_more : (items : List (Option BoxValue)) (n : ℕ) (made : Option ℕ) (o : Option BoxValue) (es : List ℕ) → n < length items
-    → o ≡ get_or items n o → option_to_list made ≡ entry_in o n → ((e : ℕ) → made ≡ Some e → ⊥) → es ≡ entries_below items n
-    → es ≡ entries_below items (n + 1)
-none_more items n made o es small at entry not before =
-    let here : item_box items n ≡ o = get_or_default items n None o small ∙ sym at in
-    before ∙ sym (append-nil (entries_below items n)) ∙ ap (λ l. entries_below items n ++ l) (sym (ap option_to_list (none_by made not)) ∙ entry)
-    ∙ ap (λ p. entries_below items n ++ entry_in p n) (sym here) ∙ sym (below_more items n)
+entered_or_not : (n : ℕ) (o : Option BoxValue) → n < 2 ^ 20 → cond (IsEntry (mark_in o n)) (mark_in o n ∷ []) [] ≡ entry_in o n
+entered_or_not n None small = refl
+entered_or_not n (Some box) small =
+    let key = interleaved_small (middle_of box.lo.x box.hi.x) (middle_of box.lo.y box.hi.y) (middle_of box.lo.z box.hi.z) in
+    let few : key_of box * 2 ^ 20 + n < 2 ^ 80 = omega (arith, key, small) in
+    let is : IsEntry (key_of box * 2 ^ 20 + n) ≡ true = lt-ltb _ _ few in
+    ap (λ b. cond b ((key_of box * 2 ^ 20 + n) ∷ []) []) is
+
+-- the entries are those marks that are one
+pub entries_are : (items : List (Option BoxValue)) (n : ℕ) → n ≤ 2 ^ 20 → filter IsEntry (map (mark_at items) (range_with_len 0 n)) ≡ entries_below items n
+entries_are items zero le = sym (below_none items)
+entries_are items (suc n) le =
+    let e : n + 1 ≡ suc n = omega arith in
+    ap (λ k. filter IsEntry (map (mark_at items) (range_with_len 0 k))) (sym e)
+    ∙ filter_of_map_range_with_len_more IsEntry (mark_at items) 0 n n (omega arith)
+    ∙ ap₂ (λ l m. l ++ m) (entries_are items n (omega arith)) (entered_or_not n (item_box items n) (omega arith)) ∙ sym (below_more items n)
+    ∙ ap (entries_below items) e
 
 -- each item below n has its entry
 abbrev firsts : List (Option BoxValue) → ℕ → ℕ → ℕ
@@ -150,7 +153,7 @@ put_in_order items es fs few is moved up =
     }
 
 -- there are at most as many as items
-pub few_below : (items : List (Option BoxValue)) (es : List ℕ) → length items ≤ 2 ^ 20 → es ≡ entries_below items (length items) → length es ≤ 2 ^ 20
+pub few_below : (items : List (Option BoxValue)) (es : List ℕ) → length items ≤ 2 ^ 20 → es ≡ entries_below items (length items) → length es ≤ length items
 few_below items es few is =
     let has = subst (HasEach items) (sym is) (all_entered items few) in
     omega (arith, few, (has_items (item_parts es) items has.once).many, count_by-le-length is_some items, length-map es item_part)

@@ -7,3 +7,5 @@ pub mod Planting
 pub mod Numbers
 pub mod Made
 pub mod Presorted
+pub mod Joined
+pub mod Places

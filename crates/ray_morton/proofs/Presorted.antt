@@ -25,9 +25,9 @@ module _ (entries : List ℕ) (shift : ℕ) (few : length entries ≤ 2 ^ 20) wh
   unmoved = ext_get_or 0 (map (placed entries) words) entries (length-map words (placed entries) ∙ long)
       (λ i small. placed_at i (omega (arith, small, length-map words (placed entries), long)))
 
-pub moved : (entries words sorted found : List ℕ) (shift : ℕ) → length entries ≤ 2 ^ 20 → words ≡ map (word_of entries shift) (range_with_len 0 (length entries))
-    → IsPermutation words sorted → found ≡ map (placed entries) sorted → IsPermutation entries found
-moved entries words sorted found shift few are permuted is =
-    subst (IsPermutation entries) (sym is)
+pub moved : (entries words sorted ws found : List ℕ) (shift : ℕ) → length entries ≤ 2 ^ 20 → words ≡ map (word_of entries shift) (range_with_len 0 (length entries))
+    → IsPermutation words sorted → ws ≡ sorted → found ≡ map (placed entries) ws → IsPermutation entries found
+moved entries words sorted ws found shift few are permuted same is =
+    subst (IsPermutation entries) (sym (is ∙ ap (map (placed entries)) same))
     (subst (λ l. IsPermutation l (map (placed entries) sorted)) (ap (map (placed entries)) are ∙ unmoved entries shift few)
     (IsPermutation-map (placed entries) words sorted permuted))

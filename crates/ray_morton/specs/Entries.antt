@@ -17,6 +17,14 @@ abbrev pub entry_in : Option BoxValue → ℕ → List ℕ
 entry_in None p = []
 entry_in (Some box) p = (key_of box * 2 ^ 20 + p) ∷ []
 
+-- the same, or what no entry is
+abbrev pub mark_in : Option BoxValue → ℕ → ℕ
+mark_in None p = 2 ^ 80
+mark_in (Some box) p = key_of box * 2 ^ 20 + p
+
+abbrev pub mark_at : List (Option BoxValue) → ℕ → ℕ
+mark_at items p = mark_in (item_box items p) p
+
 -- the entries of the first items
 unfoldable pub entries_below : List (Option BoxValue) → ℕ → List ℕ
 entries_below items zero = []

@@ -4,3 +4,4 @@ pub mod Cuts
 pub mod Entries
 pub mod Planted
 pub mod Words
+pub mod Tips

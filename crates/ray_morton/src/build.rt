@@ -6,6 +6,7 @@ ghost use Rattle.ray_morton.specs.Cuts.{AreCut};
 
 use crate::fill::boxes_over;
 use crate::layout::layout_over;
+use crate::threads::threads_for;
 use ray_geom::Box3;
 use ray_tree::Tree;
 use std::alloc::{AllocError as NoMemory, Global};
@@ -14,7 +15,7 @@ use std::thread::Threads;
 /// A tree over items, which are at most 2^20, by keys of 60 bits that say where the middles of
 /// their boxes are. From the leftmost leaf on the active items are in rising order of key, then of
 /// number. Where the keys below a node differ they are cut where their highest bit that differs
-/// changes, and else in halves. `rt` lends the threads to sort them. (Own.)
+/// changes, and else in halves. `rt` lends the threads. (Own.)
 ///
 /// # Errors
 ///
@@ -30,8 +31,9 @@ pub fn build_fast<R: Threads + Sync>(
     ensures cut { IfOk result (λ t. AreCut items.now t.order (shape_at t 0)) }
     ensures low { IfOk result (λ t. levels (shape_at t 0) ≤ 96) }
 {
-    let layout = layout_over(rt, alloc, items)?;
-    let boxes = boxes_over(alloc, items, &layout.order, &layout.nodes)?;
+    let threads = threads_for(rt, items.len());
+    let layout = layout_over(rt, threads, alloc, items)?;
+    let boxes = boxes_over(rt, threads, alloc, items, &layout.order, &layout.nodes)?;
     let tree = Tree::of_parts(alloc, layout.nodes, boxes, layout.order, items)?;
     Ok(tree)
 }

@@ -9,7 +9,9 @@
 //! error.
 //!
 //! It stands on `ray_tree` for the tree, on `ray_geom` for boxes, on `ray_prune` for a word of its
-//! specs, and on `rayon` for the sort.
+//! specs, and on `rayon` for the sort. The keys of the items, what is sorted, and the boxes of the
+//! leaves are made by several threads too, each place of a list by one of them, where there are some
+//! thousand items; what a place gets doesn't depend on how many threads there are.
 #![tactic(auto)]
 
 mod build;
@@ -20,6 +22,7 @@ mod layout;
 mod middles;
 mod plant;
 mod presort;
+mod threads;
 
 pub use crate::build::build_fast;
 pub use std::alloc::AllocError as NoMemory;

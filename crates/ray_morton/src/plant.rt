@@ -65,7 +65,7 @@ pub(crate) fn nodes_over(alloc: Global, keys: &[u64]) -> Result<Vec<Node>, NoMem
     requires same { AreSame 60 keys.now }
     ensures { IfOk result (λ v. IsTreeOf keys.now v.items) }
 {
-    let mut nodes = Vec::new(alloc);
+    let mut nodes = Vec::with_capacity(alloc, keys.len() / 2)?;
     if keys.len() == 0 {
         return Ok(nodes);
     }

@@ -1,8 +1,9 @@
 //! Entries brought into order by words of 64 bits, which sort faster: as many bits of the keys as
-//! there is room for, and below them the place of the entry. Entries that are the same in these
-//! bits are then sorted among themselves. What is promised of all this is that the entries stay the
-//! same; whether they are in order is tested.
-ghost use Rattle.std.specs.Prelude.{◌≡◌, ◌≤◌, ◌<◌, ◌^◌, ◌/◌, ℕ, IfOk, length, map, slice_index_or};
+//! there is room for, and below them the place of the entry. Where that isn't yet the order, entries
+//! that are the same in these bits are sorted among themselves. What is promised of all this is that
+//! the entries stay the same; whether they are in order is tested.
+ghost use Rattle.std.specs.Prelude.{◌≡◌, ◌≤◌, ◌<◌, ◌^◌, ◌/◌, ℕ, IfOk, length, map, slice_index};
+ghost use Rattle.std.specs.Prelude.{slice_index_or};
 ghost use Rattle.std.specs.List.{range_with_len};
 ghost use Rattle.std.specs.List.Sorted.{IsPermutation};
 ghost use Rattle.ray_morton.specs.Words.{word_of, placed};
@@ -10,7 +11,24 @@ ghost use Rattle.ray_morton.specs.Words.{word_of, placed};
 use crate::entries::NUMBERS;
 use rayon::slice::par_sort_unstable;
 use std::alloc::{AllocError as NoMemory, Global};
-use std::thread::Threads;
+use std::thread::{self, Threads};
+
+// Room for words and for entries in their order.
+#[derive(Drop)]
+pub struct Room {
+    pub words: Vec<u64>,
+    pub sorted: Vec<u128>,
+}
+
+// Room for so many entries.
+pub(crate) fn room_for(alloc: Global, many: usize) -> Result<Room, NoMemory>
+    ensures words { IfOk result (λ r. length r.words.items ≡ many) }
+    ensures sorted { IfOk result (λ r. length r.sorted.items ≡ many) }
+{
+    let words = vec![in alloc; 0; many]?;
+    let sorted = vec![in alloc; 0; many]?;
+    Ok(Room { words, sorted })
+}
 
 // A word has so many bits of a key, from the highest one on that differs.
 const ROOM: u32 = 44;
@@ -36,17 +54,53 @@ fn word(entries: &[u128], shift: u32, k: usize) -> u64
     (part * NUMBERS) as u64 + k as u64 % NUMBERS as u64
 }
 
-// The words of entries.
-fn words_of(alloc: Global, entries: &[u128], shift: u32) -> Result<Vec<u64>, NoMemory>
-    requires { shift < 128 }
-    ensures { IfOk result (λ v. v.items
-        ≡ map (word_of entries.now shift) (range_with_len 0 (length entries.now))) }
+// Sets words to those of entries, by so many threads.
+fn set_words<R: Threads + Sync>(
+    rt: &R,
+    threads: usize,
+    entries: &[u128],
+    shift: u32,
+    words: &mut [u64],
+)
+    requires threads { 0 < threads }
+    requires shift { shift < 128 }
+    ensures { words.new ≡ map (word_of entries.now shift) (range_with_len 0 (length words.old)) }
 {
-    let mut words = Vec::with_capacity(alloc, entries.len())?;
-    for k in 0..entries.len() {
-        words.push(word(entries, shift, k))?;
-    }
-    Ok(words)
+    thread::for_each_mut(rt, words, threads, &|k, to| *to = word(entries, shift, k));
+}
+
+// The same, of a list's items.
+fn set_all_words<R: Threads + Sync>(
+    rt: &R,
+    threads: usize,
+    entries: &[u128],
+    shift: u32,
+    words: &mut Vec<u64>,
+)
+    requires threads { 0 < threads }
+    requires shift { shift < 128 }
+    ensures { words.new.items
+        ≡ map (word_of entries.now shift) (range_with_len 0 (length words.old.items)) }
+{
+    set_words(rt, threads, entries, shift, words.as_mut_slice());
+}
+
+// The words of entries, in the room that there is.
+fn words_of<R: Threads + Sync>(
+    rt: &R,
+    threads: usize,
+    entries: &[u128],
+    shift: u32,
+    words: &mut Vec<u64>,
+)
+    requires threads { 0 < threads }
+    requires shift { shift < 128 }
+    requires room { length entries.now ≤ length words.old.items }
+    ensures { words.new.items
+        ≡ map (word_of entries.now shift) (range_with_len 0 (length entries.now)) }
+{
+    words.truncate(entries.len());
+    set_all_words(rt, threads, entries, shift, words);
 }
 
 // Sorts words.
@@ -56,14 +110,63 @@ fn sort<R: Threads + Sync>(rt: &R, words: &mut Vec<u64>)
     par_sort_unstable(rt, words.as_mut_slice());
 }
 
-// The entries of the places in words.
-fn gathered(alloc: Global, entries: &[u128], words: &[u64]) -> Result<Vec<u128>, NoMemory>
-    ensures { IfOk result (λ v. v.items ≡ map (placed entries.now) words.now) }
+// The entry of the place in a word.
+fn placed_at(entries: &[u128], words: &[u64], k: usize) -> u128
+    requires { k < length words.now }
+    ensures { result ≡ placed entries.now (slice_index words.now k) }
 {
-    words
-        .iter()
-        .map(|w| entry_at(entries, (w % NUMBERS as u64) as usize))
-        .collect(alloc)
+    entry_at(entries, (words[k] % NUMBERS as u64) as usize)
+}
+
+// Sets entries to those of the places in words, by so many threads.
+fn gather<R: Threads + Sync>(
+    rt: &R,
+    threads: usize,
+    entries: &[u128],
+    words: &[u64],
+    gathered: &mut [u128],
+)
+    requires threads { 0 < threads }
+    requires long { length gathered.old ≡ length words.now }
+    ensures { gathered.new ≡ map (placed entries.now) words.now }
+{
+    thread::for_each_mut(
+        rt,
+        gathered,
+        threads,
+        &|k, to| *to = placed_at(entries, words, k),
+    );
+}
+
+// The same, of a list's items.
+fn gather_all<R: Threads + Sync>(
+    rt: &R,
+    threads: usize,
+    entries: &[u128],
+    words: &[u64],
+    gathered: &mut Vec<u128>,
+)
+    requires threads { 0 < threads }
+    requires long { length gathered.old.items ≡ length words.now }
+    ensures { gathered.new.items ≡ map (placed entries.now) words.now }
+{
+    gather(rt, threads, entries, words, gathered.as_mut_slice());
+}
+
+// The entries of the places in words, in the room that there is.
+fn gathered<R: Threads + Sync>(
+    rt: &R,
+    threads: usize,
+    entries: &[u128],
+    words: &[u64],
+    gathered: &mut Vec<u128>,
+)
+    requires threads { 0 < threads }
+    requires room { length words.now ≤ length gathered.old.items }
+    ensures { gathered.new.items ≡ map (placed entries.now) words.now }
+{
+    gathered.truncate(words.len());
+    gather_all(rt, threads, entries, words, gathered);
 }
 
 // How far down the bits are that have no room in a word.
@@ -123,27 +226,30 @@ fn sort_runs(entries: &mut [u128], shift: u32)
     }
 }
 
-// The same, of all entries.
-fn sort_all_runs(entries: &mut Vec<u128>, shift: u32)
-    requires { shift < 128 }
+// Sorts entries among themselves that have the same word, but for the place in it.
+pub(crate) fn sort_all_runs(entries: &mut Vec<u128>)
     ensures { IsPermutation entries.old.items entries.new.items }
 {
+    let shift = shift_of(entries);
     sort_runs(entries.as_mut_slice(), shift);
 }
 
-// The same entries, in order.
+// The same entries, in the order of their words.
 pub(crate) fn presorted<R: Threads + Sync>(
     rt: &R,
-    alloc: Global,
+    threads: usize,
     entries: &[u128],
-) -> Result<Vec<u128>, NoMemory>
-    requires { length entries.now ≤ 2 ^ 20 }
-    ensures { IfOk result (λ v. IsPermutation entries.now v.items) }
+    mut room: Room,
+) -> Vec<u128>
+    requires threads { 0 < threads }
+    requires few { length entries.now ≤ 2 ^ 20 }
+    requires words { length entries.now ≤ length room.words.items }
+    requires sorted { length entries.now ≤ length room.sorted.items }
+    ensures { IsPermutation entries.now result.items }
 {
     let shift = shift_of(entries);
-    let mut words = words_of(alloc, entries, shift)?;
-    sort(rt, &mut words);
-    let mut sorted = gathered(alloc, entries, &words)?;
-    sort_all_runs(&mut sorted, shift);
-    Ok(sorted)
+    words_of(rt, threads, entries, shift, &mut room.words);
+    sort(rt, &mut room.words);
+    gathered(rt, threads, entries, &room.words, &mut room.sorted);
+    room.sorted
 }

@@ -89,3 +89,26 @@ fn builds_five(rt: HostRuntime) -> Result<(), NoMemory> {
     assert!(rt; Some(tree.node_box(0)) == Box3::new(Vec3 { x: 0, y: 0, z: 0 }, corner));
     Ok(())
 }
+
+// The box of a point that is lower the greater the number is; each seventh has none.
+fn falling(i: u32) -> Option<Box3> {
+    if i % 7 == 0 {
+        return None;
+    }
+    dot(-2 * i64::from(i), 0, 0)
+}
+
+#[test]
+fn builds_by_several_threads(rt: HostRuntime) -> Result<(), NoMemory> {
+    let mut items = Vec::new(rt.alloc());
+    let mut wanted = Vec::new(rt.alloc());
+    for i in 0..5000u32 {
+        items.push(falling(i))?;
+        let last = 4999 - i;
+        if last % 7 != 0 {
+            wanted.push(last)?;
+        }
+    }
+    assert!(rt; is_built(&rt, &items, &wanted)?);
+    Ok(())
+}

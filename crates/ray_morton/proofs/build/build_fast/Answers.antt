@@ -5,7 +5,7 @@ use Rattle.ray_morton.proofs.Made.{made-fit, made-over}
 use Rattle.ray_morton.proofs.build.build_fast.Goals as goal
 
 pub boxes_over-requires-clause-fit : goal.boxes_over-requires-clause-fit
-boxes_over-requires-clause-fit g c =
+boxes_over-requires-clause-fit g c κs lives =
     let order = c.in_ok-layout.layout.order.items in
     subst (λ l. AreFit (length l) c.deref-2.result.now) (sym c.deref.ensures.value)
     (subst (AreFit (length order)) (sym c.deref-2.ensures.value)
