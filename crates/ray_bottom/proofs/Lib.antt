@@ -4,3 +4,4 @@ pub mod Held
 pub mod Restoring
 pub mod Standing
 pub mod Places
+pub mod LeafItems

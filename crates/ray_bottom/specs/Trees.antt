@@ -1,13 +1,13 @@
 -- A bottom structure as contracts see it, the boxes over which its tree stands, and what a leaf holds. (Own.)
-use Rattle.std.specs.Prelude.{ℕ, ◌≡◌, ◌+◌, ◌++◌, Option, List, [], ◌∷◌, map, take, drop, slice_index_or}
+use Rattle.std.specs.Prelude.{ℕ, ◌+◌, ◌++◌, Option, List, [], ◌∷◌, map, take, drop, slice_index_or}
 use Rattle.std.specs.List.{flat_map, range_with_len}
 use Rattle.ray_geom.specs.Boxes.{BoxValue}
 use Rattle.ray_flags.specs.declared.build_flags.BuildFlags.{BuildFlags}
 use Rattle.ray_tree.specs.declared.node.Node.{Node}
 use Rattle.ray_tree.specs.declared.node.Node.TheVariants.{Leaf, Inner}
 use Rattle.ray_tree.specs.Shapes.{node_at}
-use Rattle.ray_tree.specs.Trees.{TreeValue, TreeOver}
-use Rattle.ray_wide.specs.Wides.{WideValue, WideOver}
+use Rattle.ray_tree.specs.Trees.{TreeValue}
+use Rattle.ray_wide.specs.Wides.{WideValue}
 use Rattle.ray_hierarchy.specs.Hierarchies.{HierarchyValue}
 use Rattle.ray_primitives.specs.Primitives.{box_of_triangle}
 use Rattle.ray_bottom.specs.declared.geometry.Geometry.{Geometry}
@@ -68,11 +68,3 @@ places_by places (Inner left right) = []
 
 abbrev pub places_below : BottomWithTree → ℕ → List PrimPlace
 places_below bottom n = places_by (places_in_order bottom) (node_at bottom.tree.nodes n)
-
--- ---- words of private types alone
-
--- what stands beside the contents: a tree over their items, a wide one over its leaves, and the places in its order
-pub record IsIndexed (bottom : BottomWithTree) (places : List PrimPlace) : Type 0 where
-  pub over : TreeOver bottom.tree (items_of bottom.geometries)
-  pub wide : WideOver bottom.wide bottom.tree
-  pub places_are : places ≡ places_in_order bottom

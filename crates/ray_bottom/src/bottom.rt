@@ -1,8 +1,9 @@
-ghost use Rattle.std.specs.Prelude.{◌≡◌, ◌↔◌, ◌<◌, IfOk, IfSome, [], None, Some, length, slice_get, option_map};
+ghost use Rattle.std.specs.Prelude.{◌≡◌, ◌↔◌, ◌<◌, All, IfOk, IfSome, [], None, Some, length, map, slice_get, option_map};
 ghost use Rattle.ray_geom.specs.LeastBoxes.{HoldsBoxes, IsLeast};
 ghost use Rattle.ray_bytes.specs.StructureSizes.{compacted_size};
 ghost use Rattle.ray_bottom.specs.Contents.{bounds_of, total_of, active_of, active_boxes};
 ghost use Rattle.ray_bottom.specs.Contents.{kind_of, count_of, IsContents};
+ghost use Rattle.ray_bottom.specs.LeafItems.{IsItemOf, items_below, place_of_item};
 ghost use Rattle.ray_bottom.specs.Slots.{IsSound};
 ghost use Rattle.ray_bottom.specs.Trees.{without_tree, items_of, places_below};
 ghost use Rattle.ray_tree.specs.Trees.{TreeOver};
@@ -10,6 +11,7 @@ ghost use Rattle.ray_wide.specs.Wides.{WideOver};
 
 use crate::contents::Contents;
 use crate::geometry::Geometry;
+use crate::leaf_item::LeafItem;
 use crate::prim_place::PrimPlace;
 use ray_bytes::compacted_of;
 use ray_flags::{BuildFlags, Kind};
@@ -27,16 +29,19 @@ pub struct Bottom {
     pub(crate) contents: Contents,
     pub(crate) hierarchy: Hierarchy,
     pub(crate) places: Vec<PrimPlace>,
+    pub(crate) leaf_items: Vec<LeafItem>,
 }
 
 impl Model for Bottom {
-    ghost use Rattle.ray_bottom.specs.Trees.{BottomWithTree, IsIndexed, bottom_value};
+    ghost use Rattle.ray_bottom.specs.Trees.{BottomWithTree, bottom_value};
+    ghost use Rattle.ray_bottom.specs.Indexed.{IsIndexed};
 
     ghost Value = { BottomWithTree };
 
     ghost view = { λ b. bottom_value b.contents b.hierarchy };
 
-    ghost invariant = { λ b. IsIndexed (bottom_value b.contents b.hierarchy) b.places.items };
+    ghost invariant = { λ b. IsIndexed (bottom_value b.contents b.hierarchy) b.places.items
+        b.leaf_items.items };
 }
 
 impl Bottom {
@@ -48,10 +53,12 @@ impl Bottom {
         let contents = self.contents.copy(alloc)?;
         let hierarchy = self.hierarchy.copy(alloc)?;
         let places = self.places.clone()?;
+        let leaf_items = self.leaf_items.clone()?;
         Ok(Bottom {
             contents,
             hierarchy,
             places,
+            leaf_items,
         })
     }
 
@@ -99,6 +106,30 @@ impl Bottom {
             Node::Leaf { first, count } => {
                 let first = first as usize;
                 &self.places[first..first + count as usize]
+            }
+            Node::Inner { .. } => &[],
+        }
+    }
+
+    /// The primitives of a leaf, by its node in the binary tree, with copies of their points that
+    /// stand beside each other; none for another node.
+    pub fn leaf_items(&self, leaf: u32) -> &[LeafItem]
+        requires { leaf < length self.now.tree.nodes }
+        ensures places { map place_of_item result.now ≡ places_below self.now leaf }
+        ensures held { All (IsItemOf self.now.geometries) result.now }
+    {
+        self.items_below(leaf)
+    }
+
+    // The same, as it is kept.
+    fn items_below(&self, leaf: u32) -> &[LeafItem]
+        requires { leaf < length self.now.tree.nodes }
+        ensures { result.now ≡ items_below self.now leaf }
+    {
+        match self.tree().node(leaf) {
+            Node::Leaf { first, count } => {
+                let first = first as usize;
+                &self.leaf_items[first..first + count as usize]
             }
             Node::Inner { .. } => &[],
         }

@@ -13,6 +13,7 @@ use crate::bottom::Bottom;
 use crate::contents::Contents;
 use crate::geometry::Geometry;
 use crate::items::{items_of, places_of};
+use crate::leaf_items::leaf_items_of;
 use crate::shapes::Shapes;
 use crate::stored::Stored;
 use ray_bytes::{BoxView, IndexView, TransformView, VertexView};
@@ -177,10 +178,12 @@ impl<'a> Builder<'a> {
         let flags = self.contents.flags();
         let hierarchy = hierarchy_of(rt, self.alloc, self.replaced, flags, &items)?;
         let places = places_of(self.alloc, geometries, total, hierarchy.order())?;
+        let leaf_items = leaf_items_of(self.alloc, geometries, &places)?;
         Ok(Bottom {
             contents: self.contents,
             hierarchy,
             places,
+            leaf_items,
         })
     }
 }

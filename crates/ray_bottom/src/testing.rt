@@ -1,6 +1,7 @@
 ghost use Rattle.std.specs.Prelude.{◌≡◌, ◌+◌, IfSome, option_copied, option_map, option_and_then, slice_get};
 ghost use Rattle.std.specs.List.{filter_map};
-ghost use Rattle.ray_geom.specs.Scene.{IsTri};
+ghost use Rattle.ray_geom.specs.Boxes.{IsBox, box_value};
+ghost use Rattle.ray_geom.specs.Scene.{IsTri, tri_value};
 ghost use Rattle.ray_geom.specs.HitValue.{hit_of};
 ghost use Rattle.ray_geom.specs.Transform.{world_tri};
 ghost use Rattle.ray_geom.specs.ObjectRay.{object_of};
@@ -10,14 +11,16 @@ ghost use Rattle.ray_primitives.specs.Primitives.{box_of_triangle};
 ghost use Rattle.ray_bottom.specs.Contents.{bounds_of, boxes_of};
 ghost use Rattle.ray_bottom.specs.Meeting.{Hit, Through, meet_value, meet_of, shape_meet};
 ghost use Rattle.ray_bottom.specs.Meeting.{triangle_meet, box_meet, hit_in_world, span_in_object};
+ghost use Rattle.ray_bottom.specs.LeafItems.{AreKept, IsItemOf, points_meet};
 ghost use Rattle.ray_bottom.specs.Meeting.{KeepsPoints, KeepsBoxes, KeepsTri};
 
 use crate::bottom::Bottom;
 use crate::geometry::Geometry;
+use crate::leaf_item::{ItemPoints, LeafItem};
 use crate::meet::Meet;
 use crate::prim_place::PrimPlace;
 use crate::shapes::Shapes;
-use ray_contents::kept_image;
+use ray_contents::{Point32, kept_image};
 use ray_geom::{Box3, Matrix, ObjectRay, Ray, Steps, Tri, hit_tri, object_ray};
 use ray_primitives::{KeptBox, KeptTriangle};
 use ray_prune::span_box;
@@ -45,6 +48,53 @@ impl Bottom {
         let geometry = self.contents.geometry(place.geometry)?;
         test_in(geometry, place.primitive, ray, m)
     }
+
+    /// The same of a primitive at a leaf of this structure, by the copy of its points. (Own.)
+    pub fn test_item<L: Ledger>(
+        &self,
+        item: &LeafItem,
+        ray: &Ray,
+        m: &Matrix,
+        steps: &mut Steps<L>,
+    ) -> Option<Meet>
+        requires kept { KeepsBounds m.now (bounds_of self.now.geometries) }
+        requires held { IsItemOf self.now.geometries item.now }
+        ensures meet { option_map meet_value result
+            ≡ meet_of self.now.geometries item.now.place ray.now m.now }
+        ensures step { steps.new ≡ steps.old + 1 }
+    {
+        let _limits = self.geometries();
+        steps.tick();
+        test_points(item.points, ray, m)
+    }
+}
+
+// What the ray meets of points.
+fn test_points(points: ItemPoints, ray: &Ray, m: &Matrix) -> Option<Meet>
+    requires { AreKept m.now points }
+    ensures { option_map meet_value result ≡ points_meet ray.now m.now points }
+{
+    match points {
+        ItemPoints::Triangle { a, b, c } => hit(&tri_of(a, b, c), ray, m),
+        ItemPoints::Aabb { lo, hi } => span(&box_of(lo, hi), ray, m),
+        ItemPoints::Nothing => None,
+    }
+}
+
+// The triangle with these vertices.
+fn tri_of(a: Point32, b: Point32, c: Point32) -> Tri
+    requires { IsTri (tri_value a b c) }
+    ensures { result ≡ tri_value a b c }
+{
+    Tri::new(a.wide(), b.wide(), c.wide()).unwrap()
+}
+
+// The box with these corners.
+fn box_of(lo: Point32, hi: Point32) -> Box3
+    requires { IsBox (box_value lo hi) }
+    ensures { result ≡ box_value lo hi }
+{
+    Box3::new(lo.wide(), hi.wide()).unwrap()
 }
 
 // What the ray meets of one primitive of a geometry.

@@ -2,6 +2,7 @@ ghost use Rattle.std.specs.Prelude.{◌≡◌, ◌+◌, Some};
 ghost use Rattle.std.specs.Option.{option_to_list};
 ghost use Rattle.ray_contents.specs.Bounds.{KeepsBounds};
 ghost use Rattle.ray_bottom.specs.Contents.{bounds_of};
+ghost use Rattle.ray_bottom.specs.LeafItems.{IsItemOf};
 ghost use Rattle.ray_bottom.specs.Meeting.{Hit, Through, meet_value};
 ghost use Rattle.ray_geom.specs.HitValue.{hit_value};
 ghost use Rattle.ray_prune.specs.BoxReach.{span_value};
@@ -9,7 +10,7 @@ ghost use Rattle.ray_walk.specs.Candidates.{admitted, found_at, found_box, found
 ghost use Rattle.ray_walk.specs.Telling.{placed_value};
 
 use crate::placed::Placed;
-use ray_bottom::{Bottom, Meet, PrimPlace};
+use ray_bottom::{Bottom, LeafItem, Meet, PrimPlace};
 use ray_flags::{Kind, RayFlags, culled, shows_front};
 use ray_geom::{Frac, Ray, Steps, TriHit};
 use ray_prune::{Span, is_front};
@@ -36,6 +37,26 @@ pub(crate) fn find<L: Ledger>(
     };
     let meet = bottom.test_prim(place, ray, &at.instance.matrix, steps)?;
     admit(at, primitive, meet, flags)
+}
+
+// What the ray finds of a primitive at a leaf, by the copy of its points. It takes one step.
+pub(crate) fn find_item<L: Ledger>(
+    bottom: &Bottom,
+    at: &Placed,
+    item: &LeafItem,
+    ray: &Ray,
+    flags: RayFlags,
+    steps: &mut Steps<L>,
+) -> Option<Found>
+    requires kept { KeepsBounds at.now.instance.matrix (bounds_of bottom.now.geometries) }
+    requires held { IsItemOf bottom.now.geometries item.now }
+    requires there { at.now.geometry ≡ item.now.place.geometry }
+    ensures value { option_to_list result ≡ found_at ray.now flags bottom.now.geometries
+        (placed_value at.now) item.now.place.primitive }
+    ensures step { steps.new ≡ steps.old + 1 }
+{
+    let meet = bottom.test_item(item, ray, &at.instance.matrix, steps)?;
+    admit(at, item.place.primitive, meet, flags)
 }
 
 // What is found where this is met, unless the ray passes over it.

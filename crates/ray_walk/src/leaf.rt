@@ -3,17 +3,18 @@ ghost use Rattle.std.specs.Prelude.{◌≡◌, ◌+◌, ◌<◌, ◌≤◌, OnOk
 ghost use Rattle.std.specs.Option.{option_to_list};
 ghost use Rattle.ray_contents.specs.Bounds.{KeepsBounds};
 ghost use Rattle.ray_bottom.specs.Contents.{bounds_of};
+ghost use Rattle.ray_bottom.specs.LeafItems.{IsItemOf};
 ghost use Rattle.ray_bottom.specs.Trees.{places_below};
 ghost use Rattle.ray_flags.specs.Admission.{AsksBoth, ForcesBoth};
 ghost use Rattle.ray_nearest.specs.Adding.{Adds, AddsFound};
 ghost use Rattle.ray_walk.specs.Scenes.{AddsFoundAt, found_by_place, placement_value};
 ghost use Rattle.ray_walk.specs.Traced.{found_at_place, placement_at};
 
-use crate::finding::find;
+use crate::finding::find_item;
 use crate::held::Looked;
 use crate::placed::Placed;
 use crate::view::View;
-use ray_bottom::PrimPlace;
+use ray_bottom::LeafItem;
 use ray_flags::{RayFlags, effective};
 use ray_geom::{Ratio, Ray, Steps};
 use ray_nearest::{NoMemory, Turns};
@@ -38,47 +39,50 @@ pub(crate) fn open_leaf<L: Ledger>(
         ≡ steps.old + length (places_below looked.now.bottom.now n)) }
     ensures rising { steps.old ≤ steps.new }
 {
-    for place in looked.bottom.items_of(n) {
-        let found = find_at(view, looked, i, *place, steps);
+    for item in looked.bottom.leaf_items(n) {
+        let found = find_at(view, looked, i, item, steps);
         push(turns, limit, found)?;
     }
     Ok(())
 }
 
-// What is found of the primitive at a place. It takes one step.
+// What is found of a primitive. It takes one step.
 fn find_at<L: Ledger>(
     view: &View<'_>,
     looked: &Looked<'_>,
     i: u32,
-    place: PrimPlace,
+    item: &LeafItem,
     steps: &mut Steps<L>,
 ) -> Option<Found>
     requires is_it { placement_at view.now i ≡ Some (placement_value looked.now) }
+    requires held { IsItemOf looked.now.bottom.now.geometries item.now }
     ensures value { option_to_list result
-        ≡ found_at_place view.now i (placement_value looked.now) place }
+        ≡ found_at_place view.now i (placement_value looked.now) item.now.place }
     ensures step { steps.new ≡ steps.old + 1 }
 {
     view.known();
-    find_in(looked, i, place, view.ray(), view.flags(), steps)
+    find_in(looked, i, item, view.ray(), view.flags(), steps)
 }
 
 // The same, where the transform keeps the bounds of the structure, and flags agree.
 fn find_in<L: Ledger>(
     looked: &Looked<'_>,
     i: u32,
-    place: PrimPlace,
+    item: &LeafItem,
     ray: &Ray,
     flags: RayFlags,
     steps: &mut Steps<L>,
 ) -> Option<Found>
+    requires held { IsItemOf looked.now.bottom.now.geometries item.now }
     requires kept { KeepsBounds looked.now.instance.matrix
         (bounds_of looked.now.bottom.now.geometries) }
     requires instance_agrees { ¬ ForcesBoth looked.now.instance.flags }
     requires flags_agree { ¬ AsksBoth flags }
     ensures value { option_to_list result ≡ found_by_place ray.now flags i
-        (placement_value looked.now) place }
+        (placement_value looked.now) item.now.place }
     ensures step { steps.new ≡ steps.old + 1 }
 {
+    let place = item.place;
     if place.geometry >= looked.bottom.geometries() {
         steps.tick();
         return None;
@@ -94,7 +98,7 @@ fn find_in<L: Ledger>(
         geometry: place.geometry,
         opaque,
     };
-    find(looked.bottom, &at, place.primitive, ray, flags, steps)
+    find_item(looked.bottom, &at, item, ray, flags, steps)
 }
 
 // Adds the turn of what is found, if anything is.

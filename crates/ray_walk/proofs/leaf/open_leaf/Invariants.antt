@@ -1,10 +1,13 @@
 use Rattle.std.proofs.Common.{◌≡◌, ◌+◌, take}
-use Rattle.ray_walk.specs.Scenes.{AddsFoundAt, placement_value}
+use Rattle.std.specs.List.{flat_map}
+use Rattle.ray_nearest.specs.Adding.{Adds, AddsFound}
+use Rattle.ray_walk.specs.Scenes.{placement_value}
+use Rattle.ray_walk.specs.Traced.{found_at_place}
 use Rattle.ray_walk.proofs.leaf.open_leaf.Given as goal
 
--- the places so far
-abbrev pub invariant-loop-place : goal.invariant-loop-place
-invariant-loop-place g l = record {
-  found : AddsFoundAt l.fn.limit l.fn.view l.fn.i (placement_value l.fn.looked) (take l.place-index l.place-items) l.fn.turns l.turns;
-  steps : l.steps ≡ l.fn.steps + l.place-index;
+-- the items so far
+abbrev pub invariant-loop-item : goal.invariant-loop-item
+invariant-loop-item g l = record {
+  found : Adds (AddsFound l.fn.limit) (flat_map (λ it. found_at_place l.fn.view l.fn.i (placement_value l.fn.looked) it.place) (take l.item-index l.item-items)) l.fn.turns l.turns;
+  steps : l.steps ≡ l.fn.steps + l.item-index;
 }

@@ -1,0 +1,73 @@
+-- The primitives at the leaves of a tree, with copies of their points. (Own.)
+use Rattle.std.specs.Prelude.{ℕ, ◌≡◌, Option, Some, None, option_map, List, [], map, take, drop, slice_get}
+use Rattle.ray_geom.specs.Scene.{RayValue, TriValue, IsTri, tri_value}
+use Rattle.ray_geom.specs.Boxes.{BoxValue, IsBox, box_value}
+use Rattle.ray_geom.specs.Transform.{MatrixValue}
+use Rattle.ray_tree.specs.Shapes.{node_at}
+use Rattle.ray_bottom.specs.declared.geometry.Geometry.{Geometry}
+use Rattle.ray_bottom.specs.declared.shapes.Shapes.{Shapes}
+use Rattle.ray_bottom.specs.declared.shapes.Shapes.TheVariants.{Triangles, Boxes}
+use Rattle.ray_bottom.specs.declared.prim_place.PrimPlace.{PrimPlace}
+use Rattle.ray_bottom.specs.declared.leaf_item.LeafItem.{LeafItem}
+use Rattle.ray_bottom.specs.declared.leaf_item.ItemPoints.{ItemPoints}
+use Rattle.ray_bottom.specs.declared.leaf_item.ItemPoints.TheVariants.{Triangle, Aabb, Nothing}
+use Rattle.ray_tree.specs.declared.node.Node.{Node}
+use Rattle.ray_tree.specs.declared.node.Node.TheVariants.{Leaf, Inner}
+use Rattle.ray_bottom.specs.Trees.{BottomWithTree, places_in_order}
+use Rattle.ray_bottom.specs.Meeting.{MeetValue, hit_in_world, span_in_object, KeepsTri}
+
+-- the points of a triangle, and of a box; an inactive one has none
+abbrev pub points_of_tri : Option TriValue → ItemPoints
+points_of_tri None = Nothing
+points_of_tri (Some tri) = Triangle tri.v0 tri.v1 tri.v2
+
+abbrev pub points_of_box : Option BoxValue → ItemPoints
+points_of_box None = Nothing
+points_of_box (Some box) = Aabb box.lo box.hi
+
+-- points where there may be none
+abbrev pub any_points : Option ItemPoints → ItemPoints
+any_points None = Nothing
+any_points (Some points) = points
+
+-- the points of the primitive of this number, and at a place
+abbrev pub points_in : Shapes → ℕ → ItemPoints
+points_in (Triangles format index_size triangles) i = any_points (option_map (λ t. points_of_tri t.tri) (slice_get triangles i))
+points_in (Boxes boxes) i = any_points (option_map points_of_box (slice_get boxes i))
+
+abbrev pub points_at : List Geometry → PrimPlace → ItemPoints
+points_at geometries place = any_points (option_map (λ (g : Geometry). points_in g.shapes place.primitive) (slice_get geometries place.geometry))
+
+-- the item of a place
+abbrev pub item_at : List Geometry → PrimPlace → LeafItem
+item_at geometries place = record { place = place; points = points_at geometries place }
+
+-- an item with the points of the primitive at its place
+pub record IsItemOf (geometries : List Geometry) (item : LeafItem) : Type 0 where
+  pub points_are : item.points ≡ points_at geometries item.place
+
+-- the items of a leaf, of all in the order of the tree
+abbrev pub items_by : List LeafItem → Node → List LeafItem
+items_by items (Leaf first count) = take count (drop first items)
+items_by items (Inner left right) = []
+
+abbrev pub items_below : BottomWithTree → ℕ → List LeafItem
+items_below bottom n = items_by (map (item_at bottom.geometries) (places_in_order bottom)) (node_at bottom.tree.nodes n)
+
+-- its place
+abbrev pub place_of_item : LeafItem → PrimPlace
+place_of_item item = item.place
+
+-- ---- words of private calls alone
+
+-- what a ray meets of points
+abbrev pub points_meet : RayValue → MatrixValue → ItemPoints → Option MeetValue
+points_meet ray m (Triangle a b c) = hit_in_world ray m (tri_value a b c)
+points_meet ray m (Aabb lo hi) = span_in_object ray m (box_value lo hi)
+points_meet ray m Nothing = None
+
+-- points are within the limits, and so are the images of vertices
+abbrev pub AreKept : MatrixValue → ItemPoints → Type 0
+AreKept m (Triangle a b c) = IsTri (tri_value a b c) × KeepsTri m (tri_value a b c)
+AreKept m (Aabb lo hi) = IsBox (box_value lo hi)
+AreKept m Nothing = Unit {0}
