@@ -14,8 +14,6 @@ mod bytes;
 #[cfg(test)]
 mod check;
 #[cfg(test)]
-mod climb;
-#[cfg(test)]
 mod cmd;
 #[cfg(test)]
 mod contents;

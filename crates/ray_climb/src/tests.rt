@@ -4,7 +4,7 @@ ghost use Rattle.ray_tree.specs.Trees.{TreeOver, leaves_of};
 ghost use Rattle.ray_climb.specs.Refits.{HasActivity};
 ghost use Rattle.ray_climb.specs.Seats.{seat_view};
 
-use ray_climb::{Climb, ClimbSeat, climb_all};
+use crate::{Climb, ClimbSeat, climb_all};
 use ray_geom::{Box3, Vec3};
 use ray_tree::{Tree, build_median};
 use std::alloc::{AllocError, Global};
