@@ -56,7 +56,8 @@ fn points_in(shapes: &Shapes, i: u32) -> ItemPoints
 
 // Those of a triangle.
 fn triangle_points(triangles: &[KeptTriangle], i: u32) -> ItemPoints
-    ensures { result ≡ any_points (option_map (λ t. points_of_tri t.tri) (slice_get triangles.now i)) }
+    ensures { result
+        ≡ any_points (option_map (λ t. points_of_tri t.tri) (slice_get triangles.now i)) }
 {
     match triangles.get(i as usize) {
         Some(t) => vertices_of(t),
