@@ -1,7 +1,8 @@
 //! The program `ray_bench_builds`: builds structures and trees over a made-up field a given number
 //! of times, by its words, so that it can be timed from outside. `ray_bench_builds bottom 10`
 //! builds ten times a bottom structure of 524,288 triangles with 32-bit indices, `ray_bench_builds
-//! tree 10` as often a tree over their cells' boxes, and `ray_bench_builds top 10` a top structure
+//! update 10` updates it as often, each time the structure that the update before made,
+//! `ray_bench_builds tree 10` builds as often a tree over their cells' boxes, and `ray_bench_builds top 10` a top structure
 //! of 65,536 instances; `fast` builds trees by keys over the same boxes, and `wide` makes a wide
 //! tree of one; `climb` refits one by a seat, `climb-by-four` by four, and `climb-by-none` only
 //! makes what they share. Each prints how often it built, of how many, and how many of them are
@@ -23,7 +24,9 @@ mod structures;
 use crate::bench_error::BenchError;
 use crate::field::Field;
 use crate::size::Size;
-use crate::structures::{bottom, boxes, climbs, fast_tree, instances, opens, top, tree, wide};
+use crate::structures::{
+    bottom, boxes, climbs, fast_tree, instances, opens, top, tree, updated, wide,
+};
 use ray_serial::serialize;
 use std::env;
 use std::process::ExitCode;
@@ -47,6 +50,7 @@ fn run<R: Env + AllocGlobal + Print + Threads + Sync>(rt: &R) -> Result<(), Benc
     match words.as_slice() {
         [] => {
             report_bottoms(rt, Size::Little, 1)?;
+            report_updates(rt, Size::Little, 1)?;
             report_tops(rt, Size::Little, 1)?;
             report_trees(rt, Size::Little, 1)?;
             report_fast_trees(rt, Size::Little, 1)?;
@@ -61,6 +65,7 @@ fn run<R: Env + AllocGlobal + Print + Threads + Sync>(rt: &R) -> Result<(), Benc
             };
             match work.as_str() {
                 "bottom" => report_bottoms(rt, Size::Large, times),
+                "update" => report_updates(rt, Size::Large, times),
                 "top" => report_tops(rt, Size::Large, times),
                 "tree" => report_trees(rt, Size::Large, times),
                 "fast" => report_fast_trees(rt, Size::Large, times),
@@ -91,6 +96,25 @@ fn report_bottoms<R: AllocGlobal + Print + Threads + Sync>(
         active = built.active();
     }
     println!(rt; "bottom {times} triangles {total} active {active}")?;
+    Ok(())
+}
+
+// Builds a bottom structure and updates it, and prints the same of the last update.
+fn report_updates<R: AllocGlobal + Print + Threads + Sync>(
+    rt: &R,
+    size: Size,
+    times: u32,
+) -> Result<(), BenchError> {
+    let field = Field::new(rt.alloc(), size)?;
+    let mut built = bottom(rt, &field)?;
+    for _ in 0..times {
+        built = updated(rt, &field, &built)?;
+    }
+    println!(rt;
+        "update {times} triangles {} active {}",
+        built.total(),
+        built.active()
+    )?;
     Ok(())
 }
 

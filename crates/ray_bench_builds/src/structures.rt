@@ -1,4 +1,4 @@
-ghost use Rattle.std.specs.Prelude.{◌≤◌, ◌^◌, length};
+ghost use Rattle.std.specs.Prelude.{◌≡◌, ◌≤◌, ◌^◌, [], length};
 ghost use Rattle.ray_climb.specs.Refits.{HasActivity};
 
 use crate::field::Field;
@@ -26,6 +26,27 @@ pub(crate) fn bottom<R: AllocGlobal + Threads + Sync>(
     rt: &R,
     field: &Field,
 ) -> Result<Bottom, BuildFault> {
+    finished(rt, Builder::new(rt.alloc(), BuildFlags(0)), field)
+}
+
+/// An update of a bottom structure by a field.
+#[inline(never)]
+pub(crate) fn updated<R: AllocGlobal + Threads + Sync>(
+    rt: &R,
+    field: &Field,
+    old: &Bottom,
+) -> Result<Bottom, BuildFault> {
+    finished(rt, Builder::for_update(rt.alloc(), old), field)
+}
+
+// What a builder without a geometry makes of a field.
+fn finished<R: AllocGlobal + Threads + Sync>(
+    rt: &R,
+    mut builder: Builder<'_>,
+    field: &Field,
+) -> Result<Bottom, BuildFault>
+    requires { builder.contents.geometries ≡ [] }
+{
     let (columns, rows) = (field.size().columns(), field.size().rows());
     let info = TriangleInfo {
         opaque: true,
@@ -37,7 +58,6 @@ pub(crate) fn bottom<R: AllocGlobal + Threads + Sync>(
     };
     let vertices = VertexView::new(field.vertices(), 0, 12, Format::S32x3);
     let indices = IndexView::new(field.indices(), 0, true);
-    let mut builder = Builder::new(rt.alloc(), BuildFlags(0));
     builder.triangles(&info, vertices, Some(indices), None)?;
     Ok(builder.finish(rt)?)
 }

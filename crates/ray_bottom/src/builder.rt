@@ -176,7 +176,7 @@ impl<'a> Builder<'a> {
         let _limits = self.contents.geometries();
         let items = items_of(self.alloc, geometries, total)?;
         let flags = self.contents.flags();
-        let hierarchy = hierarchy_of(rt, self.alloc, self.replaced, flags, &items)?;
+        let hierarchy = hierarchy_of(rt, self.alloc, self.replaced, flags, items)?;
         let places = places_of(self.alloc, geometries, total, hierarchy.order())?;
         let leaf_items = leaf_items_of(self.alloc, geometries, &places)?;
         Ok(Bottom {
@@ -194,16 +194,16 @@ fn hierarchy_of<R: Threads + Sync>(
     alloc: Global,
     replaced: Option<&Bottom>,
     flags: BuildFlags,
-    items: &[Option<Box3>],
+    items: Vec<Option<Box3>>,
 ) -> Result<Hierarchy, NoMemory>
-    requires { length items.now ≤ 2 ^ 20 }
+    requires { length items.items ≤ 2 ^ 20 }
     ensures tree { let old = option_map (λ b. b.tree) (option_copied replaced.entry) in
-        IfOk result (λ h. IsTreeOf old flags items.now h.tree) }
-    ensures over { IfOk result (λ h. TreeOver h.tree items.now) }
+        IfOk result (λ h. IsTreeOf old flags items.items h.tree) }
+    ensures over { IfOk result (λ h. TreeOver h.tree items.items) }
 {
     match replaced {
         Some(old) => old.hierarchy.updated(rt, alloc, flags, items),
-        None => Hierarchy::build(rt, alloc, flags, items),
+        None => Hierarchy::build(rt, alloc, flags, &items),
     }
 }
 

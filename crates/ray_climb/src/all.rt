@@ -24,16 +24,17 @@ pub fn climb_all<R: Threads + Sync>(
     rt: &R,
     alloc: Global,
     tree: Tree,
-    items: &[Option<Box3>],
+    items: Vec<Option<Box3>>,
 ) -> Result<Tree, NoMemory>
-    requires few { length items.now ≤ 2 ^ 20 }
-    requires activity { HasActivity tree items.now }
-    ensures { IfOk result (IsRefit tree items.now) }
+    requires few { length items.items ≤ 2 ^ 20 }
+    requires activity { HasActivity tree items.items }
+    ensures { IfOk result (IsRefit tree items.items) }
 {
     let leaves = tree.leaves();
-    match Climb::new(alloc, tree, items) {
+    let by_four_seats = items.len() >= MANY;
+    match Climb::of_items(alloc, tree, items) {
         Ok((climb, seat)) => {
-            let seat = climb_by(rt, &climb, seat, leaves, items.len() >= MANY);
+            let seat = climb_by(rt, &climb, seat, leaves, by_four_seats);
             climb.close(alloc, seat)
         }
         Err(_tree) => Err(NoMemory),
@@ -92,25 +93,48 @@ fn by_two<R: Threads + Sync>(
     together(climb, first, second, from, middle, to)
 }
 
-// All leaves, by four seats.
+// The same by three seats.
+fn by_three<R: Threads + Sync>(
+    rt: &R,
+    climb: &Climb,
+    mut seat: ClimbSeat,
+    from: u32,
+    to: u32,
+) -> ClimbSeat
+    requires ordered { from ≤ to }
+    requires todo { HasTodo climb.now.id from to seat }
+    ensures { HasDone climb.now.id from to result }
+{
+    let middle = from + (to - from) / 3;
+    let other = cut(climb, &mut seat, from, middle, to);
+    let (first, last) = thread::join(
+        rt,
+        move || by_one(climb, seat, from, middle),
+        move || -> ClimbSeat
+            requires { IsSync R.row × (middle ≤ to) × HasTodo climb.now.id middle to other }
+            ensures { HasDone climb.entry.now.id middle to result }
+        { by_two(rt, climb, other, middle, to) },
+    );
+    together(climb, first, last, from, middle, to)
+}
+
+// All leaves, by four seats. This thread starts the others one after the other: where threads
+// start threads at the same time, a system may put two of them on one processor.
 fn by_four<R: Threads + Sync>(rt: &R, climb: &Climb, mut seat: ClimbSeat, leaves: u32) -> ClimbSeat
     requires { HasTodo climb.now.id 0 leaves seat }
     ensures { HasDone climb.now.id 0 leaves result }
 {
-    let middle = leaves / 2;
+    let middle = leaves / 4;
     let other = cut(climb, &mut seat, 0, middle, leaves);
-    let (first, second) = thread::join(
+    let (first, last) = thread::join(
         rt,
-        move || -> ClimbSeat
-            requires { IsSync R.row × HasTodo climb.now.id 0 middle seat }
-            ensures { HasDone climb.entry.now.id 0 middle result }
-        { by_two(rt, climb, seat, 0, middle) },
+        move || by_one(climb, seat, 0, middle),
         move || -> ClimbSeat
             requires { IsSync R.row × (middle ≤ leaves) × HasTodo climb.now.id middle leaves other }
             ensures { HasDone climb.entry.now.id middle leaves result }
-        { by_two(rt, climb, other, middle, leaves) },
+        { by_three(rt, climb, other, middle, leaves) },
     );
-    together(climb, first, second, 0, middle, leaves)
+    together(climb, first, last, 0, middle, leaves)
 }
 
 // A seat of its own for the last of a seat's leaves.

@@ -47,7 +47,7 @@ pub(crate) fn boxes_of(
     requires exact { AreExact (slots_items closed.now.words) refit.now }
     ensures { IfOk result (λ v. AreTrue refit.now v.items (length refit.now.tree.nodes)) }
 {
-    let mut boxes = Vec::new(alloc);
+    let mut boxes = Vec::with_capacity(alloc, refit.nodes() as usize)?;
     for n in 0..refit.nodes() {
         boxes.push(node_box(closed, refit, n))?;
     }

@@ -66,13 +66,34 @@ impl Climb {
             (range_with_len 0 (length (leaves_of tree))) []) }
         ensures back { IfErr result (λ t. t ≡ tree) }
     {
+        match items.to_vec(alloc) {
+            Ok(items) => Climb::of_items(alloc, tree, items),
+            Err(AllocError) => Err(tree),
+        }
+    }
+
+    /// The same of items that are handed over, and not copied.
+    ///
+    /// # Errors
+    ///
+    /// For want of memory alone, with the tree.
+    pub fn of_items(
+        alloc: Global,
+        tree: Tree,
+        items: Vec<Option<Box3>>,
+    ) -> Result<(Climb, ClimbSeat), Tree>
+        requires few { length items.items ≤ 2 ^ 20 }
+        requires activity { HasActivity tree items.items }
+        ensures refit { IfOk result (λ r. r.0.refit ≡ refit_value tree items.items) }
+        ensures leaves { IfOk result (λ r. r.0.id.leaves ≡ length (leaves_of tree)) }
+        ensures seat { IfOk result (λ r. r.1 ≡ seat_view r.0.id
+            (range_with_len 0 (length (leaves_of tree))) []) }
+        ensures back { IfErr result (λ t. t ≡ tree) }
+    {
         let Ok(parents) = parents_of(alloc, &tree) else {
             return Err(tree);
         };
         let Ok(words) = blank_words(alloc, tree.nodes()) else {
-            return Err(tree);
-        };
-        let Ok(items) = items.to_vec(alloc) else {
             return Err(tree);
         };
         check_boxes(&items);
@@ -172,7 +193,7 @@ impl Climb {
         let closed = self.table.close_with(seat.seat);
         let boxes = boxes_of(alloc, &closed, &self.refit);
         closed.free();
-        self.refit.with_boxes(alloc, boxes?)
+        self.refit.with_boxes(alloc, &boxes?)
     }
 }
 

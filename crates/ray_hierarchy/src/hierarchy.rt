@@ -70,15 +70,15 @@ impl Hierarchy {
         rt: &R,
         alloc: Global,
         flags: BuildFlags,
-        items: &[Option<Box3>],
+        items: Vec<Option<Box3>>,
     ) -> Result<Hierarchy, NoMemory>
-        requires { length items.now ≤ 2 ^ 20 }
-        ensures { IfOk result (λ h. IsUpdated flags self.now.tree items.now h.tree) }
+        requires { length items.items ≤ 2 ^ 20 }
+        ensures { IfOk result (λ h. IsUpdated flags self.now.tree items.items h.tree) }
     {
-        if self.has_activity(items) {
+        if self.has_activity(&items) {
             self.refitted(rt, alloc, items)
         } else {
-            Hierarchy::build(rt, alloc, flags, items)
+            Hierarchy::build(rt, alloc, flags, &items)
         }
     }
 
@@ -94,11 +94,11 @@ impl Hierarchy {
         &self,
         rt: &R,
         alloc: Global,
-        items: &[Option<Box3>],
+        items: Vec<Option<Box3>>,
     ) -> Result<Hierarchy, NoMemory>
-        requires few { length items.now ≤ 2 ^ 20 }
-        requires activity { HasActivity self.now.tree items.now }
-        ensures tree { IfOk result (λ h. IsRefit self.now.tree items.now h.tree) }
+        requires few { length items.items ≤ 2 ^ 20 }
+        requires activity { HasActivity self.now.tree items.items }
+        ensures tree { IfOk result (λ h. IsRefit self.now.tree items.items h.tree) }
         ensures wide { IfOk result (λ h. IsSameButLanes self.now.wide h.wide) }
     {
         let tree = climb_all(rt, alloc, self.tree.copy()?, items)?;

@@ -36,8 +36,8 @@ fn refits_and_builds_anew(rt: HostRuntime) -> Result<(), AllocError> {
     ];
     let gone = [flat_box(4), flat_box(5), flat_box(6), flat_box(7), None];
     let old = Hierarchy::build(&rt, rt.alloc(), flags, &olds)?;
-    let refit = old.updated(&rt, rt.alloc(), flags, &moved)?;
-    let anew = old.updated(&rt, rt.alloc(), flags, &gone)?;
+    let refit = old.updated(&rt, rt.alloc(), flags, moved.to_vec(rt.alloc())?)?;
+    let anew = old.updated(&rt, rt.alloc(), flags, gone.to_vec(rt.alloc())?)?;
     assert!(rt; old.has_activity(&moved) && !old.has_activity(&gone));
     assert!(rt; refit.order() == old.order() && refit.tree().is_tree_over(&moved));
     assert!(rt; greatest(refit.tree()) == Some(7) && refit.tree().nodes() == 3);

@@ -67,7 +67,7 @@ impl Bounds {
 pub(crate) fn narrowed(alloc: Global, boxes: &[Box3]) -> Result<Vec<Bounds>, NoMemory>
     ensures { IfOk result (λ v. v.items ≡ boxes.now) }
 {
-    let mut narrow = Vec::new(alloc);
+    let mut narrow = Vec::with_capacity(alloc, boxes.len())?;
     for b in boxes {
         narrow.push(Bounds::of(b))?;
     }

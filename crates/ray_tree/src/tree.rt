@@ -56,6 +56,35 @@ impl Tree {
         Ok(tree)
     }
 
+    /// This tree with other boxes, by which it is a tree over the items.
+    ///
+    /// # Errors
+    ///
+    /// For want of memory alone; the tree is gone then.
+    pub fn with_boxes(
+        self,
+        alloc: Global,
+        boxes: &[Box3],
+        _items: &[Option<Box3>],
+    ) -> Result<Tree, NoMemory>
+        requires { TreeOver (tree_value self.nodes boxes.now self.order) _items.now }
+        ensures { IfOk result (λ t. t ≡ tree_value self.nodes boxes.now self.order) }
+    {
+        let Tree {
+            nodes,
+            boxes: _old,
+            order,
+            leaves,
+        } = self;
+        let boxes = narrowed(alloc, boxes)?;
+        Ok(Tree {
+            nodes,
+            boxes,
+            order,
+            leaves,
+        })
+    }
+
     // The tree of these.
     pub(crate) fn kept(
         alloc: Global,

@@ -7,11 +7,11 @@ use Rattle.ray_climb.specs.Seats.{AreLeaves}
 use Rattle.ray_climb.proofs.Sums.{leaves_range}
 use Rattle.ray_climb.proofs.Framed.{is_frame}
 use Rattle.ray_climb.proofs.Opening.{opens}
-use Rattle.ray_climb.proofs.climb.Climb.new.Goals as goal
+use Rattle.ray_climb.proofs.climb.Climb.of_items.Goals as goal
 
 pub of_words-requires : goal.of_words-requires
 of_words-requires c =
-    let r = refit_value c.args.tree c.in-Ok-to_vec.items.items in
+    let r = refit_value c.args.tree c.args.items.items in
     opens (frame_of r) (is_frame r c.ready.ensures.shape c.ready.ensures.activity c.ready.ensures.boxes) c.as_slice.result.now
     (c.as_slice.ensures.value ∙ c.in-Ok-blank_words.ensures ∙ ap (λ n. replicate (words_of n) 0) c.nodes.ensures)
 
