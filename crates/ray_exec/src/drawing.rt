@@ -11,8 +11,7 @@ use ray_cmd::Recording;
 use ray_device::Piece;
 use ray_memory::State;
 use std::alloc::{AllocError as NoMemory, Global};
-use std::thread;
-use std::thread::Threads;
+use std::thread::{self, Threads};
 
 // What a piece gives, with its number among those of its wave. (Own.)
 #[derive(Drop)]
@@ -28,7 +27,9 @@ pub(crate) struct Worked {
     pub(crate) outs: Result<Vec<Drawn>, NoMemory>,
 }
 
-// Lets workers draw, one for each seat.
+// Lets workers draw, one for each seat. This thread starts a thread for each of the others, one
+// after the other, and draws by the first seat: where threads start threads at the same time, a
+// system may put two of them on one processor.
 pub(crate) fn fork<R: Threads + Sync, G: Gate + Sync>(
     rt: &R,
     alloc: Global,
@@ -37,7 +38,7 @@ pub(crate) fn fork<R: Threads + Sync, G: Gate + Sync>(
     rec: &Recording,
     pieces: &[Piece],
     gate: &G,
-    seats: Vec<ClaimSeat>,
+    mut seats: Vec<ClaimSeat>,
 ) -> Result<Vec<Worked>, NoMemory>
     requires count { claims.now.n ≡ length pieces.now }
     requires ready { AreReady rec.now (memory_of state.now) pieces.now }
@@ -45,13 +46,33 @@ pub(crate) fn fork<R: Threads + Sync, G: Gate + Sync>(
     ensures { IfOk result (λ v. All (IsWorked claims.now rec.now (memory_of state.now)
         pieces.now) v.items) }
 {
-    let worker = |seat: ClaimSeat| -> Worked
-        requires { IsSync R.row × (claims.now.n ≡ length pieces.now)
-            × AreReady rec.now (memory_of state.now) pieces.now × (seat.table ≡ claims.now.table) }
-        ensures { IsWorked claims.entry.now rec.entry.now (memory_of state.entry.now)
-            pieces.entry.now result }
-    { work(rt, alloc, claims, state, rec, pieces, gate, seat) };
-    thread::map_vec(rt, seats, &worker)
+    let Some(seat) = seats.pop() else {
+        return Ok(Vec::new(alloc));
+    };
+    if seats.is_empty() {
+        let worked = work(rt, alloc, claims, state, rec, pieces, gate, seat);
+        return vec![in alloc; worked];
+    }
+    let (worked, others) = thread::join(
+        rt,
+        move || -> Worked
+            requires { IsSync R.row × (claims.now.n ≡ length pieces.now)
+                × AreReady rec.now (memory_of state.now) pieces.now
+                × (seat.table ≡ claims.now.table) }
+            ensures { IsWorked claims.entry.now rec.entry.now (memory_of state.entry.now)
+                pieces.entry.now result }
+        { work(rt, alloc, claims, state, rec, pieces, gate, seat) },
+        move || -> Result<Vec<Worked>, NoMemory>
+            requires { IsSync R.row × (claims.now.n ≡ length pieces.now)
+                × AreReady rec.now (memory_of state.now) pieces.now
+                × All (λ s. s.table ≡ claims.now.table) seats.items }
+            ensures { IfOk result (λ v. All (IsWorked claims.entry.now rec.entry.now
+                (memory_of state.entry.now) pieces.entry.now) v.items) }
+        { fork(rt, alloc, claims, state, rec, pieces, gate, seats) },
+    );
+    let mut all = others?;
+    all.push(worked)?;
+    Ok(all)
 }
 
 // One worker: it draws until no number is left.
