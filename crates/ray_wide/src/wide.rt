@@ -51,6 +51,9 @@ fn collapsed(alloc: Global, tree: &Tree) -> Result<Wide, NoMemory>
     let mut tops = first_tops(alloc, root)?;
     let mut nodes = Vec::new(alloc);
     grow(tree, &mut nodes, &mut tops)?;
+    // Nodes are added one by one, and their room may be near twice as large by then.
+    nodes.shrink_to_fit();
+    tops.shrink_to_fit();
     Ok(Wide { root, nodes, tops })
 }
 
