@@ -50,8 +50,9 @@ pub(crate) fn fork<R: Threads + Sync, G: Gate + Sync>(
         return Ok(Vec::new(alloc));
     };
     if seats.is_empty() {
-        let worked = work(rt, alloc, claims, state, rec, pieces, gate, seat);
-        return vec![in alloc; worked];
+        let mut all = Vec::new(alloc);
+        all.push(work(rt, alloc, claims, state, rec, pieces, gate, seat))?;
+        return Ok(all);
     }
     let (worked, others) = thread::join(
         rt,

@@ -1,5 +1,5 @@
 -- The box of each node of a structure's tree is within the limits.
-use Rattle.std.proofs.Common.{ℕ, ◌<◌, ◌^◌, sym, subst, fold, Option, Some, None, option_map, option_and_then, IfSome, IsSomeAnd, List, [], ◌∷◌, length, arith}
+use Rattle.std.proofs.Common.{ℕ, ◌≡◌, ◌<◌, ◌^◌, refl, sym, subst, slice_get, fold, Option, Some, None, option_map, option_and_then, IfSome, IsSomeAnd, List, [], ◌∷◌, length, arith}
 use Rattle.std.proofs.lemmas.Int.{ints}
 use Rattle.std.specs.Prelude.{All, get_or}
 use Rattle.std.proofs.lemmas.List.Elements.{All-nil, All-head, All-tail, All-append, All-map}
@@ -12,7 +12,7 @@ use Rattle.ray_geom.specs.LeastBoxes.{box_of_tri, joined_of, point_box, union_of
 use Rattle.ray_geom.specs.Transform.{MatrixValue, image_of}
 use Rattle.ray_geom.proofs.LeastBoxes.{IsBox-union}
 use Rattle.ray_contents.specs.Bounds.{KeepsBounds}
-use Rattle.ray_primitives.specs.Primitives.{IsTriangle, TriangleValue, box_of_triangle}
+use Rattle.ray_primitives.specs.Primitives.{IsAabb, IsTriangle, IsTriangleOf, TriangleValue, box_of_triangle}
 use Rattle.ray_tree.specs.Trees.{TreeOver, TreeValue, box_at, boxes_below, shape_at}
 use Rattle.ray_tree.proofs.LeastLists.{same_least}
 use Rattle.ray_climb.specs.Refits.{AreBoxes, box_over, refit_value}
@@ -20,6 +20,7 @@ use Rattle.ray_climb.proofs.LeastOver.{is_box, least_at}
 use Rattle.ray_bottom.specs.declared.geometry.Geometry.{Geometry}
 use Rattle.ray_bottom.specs.declared.shapes.Shapes.{Shapes as Kept}
 use Rattle.ray_bottom.specs.declared.shapes.Shapes.TheVariants.{Triangles, Boxes}
+use Rattle.ray_bottom.specs.declared.prim_place.PrimPlace.{PrimPlace}
 use Rattle.ray_bottom.specs.Contents.{IsGeometry, ShapesAreWithin}
 use Rattle.ray_bottom.specs.Slots.{IsSound}
 use Rattle.ray_bottom.specs.Trees as bottoms
@@ -28,9 +29,10 @@ use Rattle.ray_top.specs.Contents.{IsInstance}
 use Rattle.ray_top.specs.Instances.{InstanceValue}
 use Rattle.ray_top.specs.InstanceReading.{bounds_in}
 use Rattle.ray_top.specs.Trees as tops
-use Rattle.ray_walk.specs.Sound.{IsWalkable}
+use Rattle.ray_walk.specs.Sound.{IsWalkable, prim_box, shape_box}
 use Rattle.ray_walk.specs.Traced.{Traced, no_box}
 use Rattle.ray_walk.proofs.InBounds.{item_holds}
+use Rattle.ray_walk.proofs.Placing.{All-at}
 
 -- ---- boxes
 
@@ -75,6 +77,26 @@ geometries-limits (g ∷ gs) all =
     subst (All (λ o. IfSome o IsBox)) (sym (flat_map-cons (λ (h : Geometry). bottoms.items_of_shapes h.shapes) g gs))
     (All-append (λ o. IfSome o IsBox) (bottoms.items_of_shapes g.shapes) (bottoms.items_of gs)
     (shapes-limits g.shapes (All-head IsGeometry g gs all).within) (geometries-limits gs (All-tail IsGeometry g gs all)))
+
+-- so is the box of the primitive at a place
+shape-limits : (i : ℕ) (shapes : Kept) → ShapesAreWithin shapes → IfSome (shape_box i shapes) IsBox
+shape-limits i (Triangles format size ts) within = by (slice_get ts i) refl
+  where
+    by : (o : Option TriangleValue) → slice_get ts i ≡ o → IfSome (option_and_then box_of_triangle o) IsBox
+    by None at = tt
+    by (Some t) at = triangle-limits t (All-at (IsTriangleOf size) ts i t within.1 at).limits
+shape-limits i (Boxes boxes) within = by (slice_get boxes i) refl
+  where
+    by : (o : Option (Option BoxValue)) → slice_get boxes i ≡ o → IfSome (option_and_then (λ box. box) o) IsBox
+    by None at = tt
+    by (Some box) at = (All-at IsAabb boxes i box within at).limits
+
+pub prim-limits : (gs : List Geometry) → All IsGeometry gs → (place : PrimPlace) → IfSome (prim_box gs place) IsBox
+prim-limits gs all place = by (slice_get gs place.geometry) refl
+  where
+    by : (o : Option Geometry) → slice_get gs place.geometry ≡ o → IfSome (option_and_then (λ (g : Geometry). shape_box place.primitive g.shapes) o) IsBox
+    by None at = tt
+    by (Some g) at = shape-limits place.primitive g.shapes (All-at IsGeometry gs place.geometry g all at).within
 
 bottom-items : (b : bottoms.BottomWithTree) → IsSound b → AreBoxes (bottoms.items_of b.geometries)
 bottom-items b sound = record {

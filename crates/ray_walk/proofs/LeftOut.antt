@@ -37,7 +37,7 @@ use Rattle.ray_walk.proofs.WideParts.{lane-is}
 
 -- ---- windows
 
-up-to : (limit : Option Ratio) (e : Ratio) → is_within limit e ≡ true → IsUpTo limit e.num e.den
+pub up-to : (limit : Option Ratio) (e : Ratio) → is_within limit e ≡ true → IsUpTo limit e.num e.den
 up-to None e within = tt
 up-to (Some c) e within = le_told (e.num * c.den) (c.num * e.den) within
 

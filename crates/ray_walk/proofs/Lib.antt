@@ -21,7 +21,8 @@ pub mod Opened
 pub mod Reduced
 pub mod HitInside
 pub mod SpanInside
-pub mod Bounded
+pub mod Beside
+mod Bounded
 pub mod FoundInside
 pub mod WellPlaced
 pub mod LeafItems

@@ -1,14 +1,20 @@
 -- Words of private calls alone, which a reader of the public contracts needs not: a ray with its window, and the trees that it is sent through.
 use Rattle.std.specs.Prelude.{ℕ, ◌≡◌, ◌<◌, false, Option, Some, None, IfSome, All, List, length}
 use Rattle.ray_geom.specs.declared.ratio.Ratio.{Ratio}
-use Rattle.ray_geom.specs.Boxes.{BoxValue, IsBox}
+use Rattle.ray_geom.specs.Boxes.{BoxValue, IsBox, box_value}
+use Rattle.ray_geom.specs.LeastBoxes.{box_of_tri}
+use Rattle.ray_geom.specs.Scene.{tri_value}
 use Rattle.ray_geom.specs.ObjectRay.{ObjectRayValue}
 use Rattle.ray_tree.specs.Trees.{TreeValue, box_at}
 use Rattle.ray_wide.specs.declared.node.WideRef.{WideRef}
 use Rattle.ray_wide.specs.declared.node.WideRef.TheVariants as wides
 use Rattle.ray_wide.specs.Wides.{WideValue, WideOver, lane_box, top_at}
 use Rattle.ray_lanes.specs.declared.lanes.Lanes8.{Lanes8}
+use Rattle.ray_lanes.specs.declared.lanes.Window.{Window}
+use Rattle.ray_window.specs.Meets.{Meets}
 use Rattle.ray_window.specs.Windows.{window_of}
+use Rattle.ray_bottom.specs.declared.leaf_item.ItemPoints.{ItemPoints}
+use Rattle.ray_bottom.specs.declared.leaf_item.ItemPoints.TheVariants.{Triangle, Aabb, Nothing}
 use Rattle.ray_nearest.specs.declared.node.WalkNode.{WalkNode}
 use Rattle.ray_nearest.specs.declared.node.WalkNode.TheVariants.{TopInner, TopLeaf, Inner, Leaf}
 use Rattle.ray_nearest.specs.declared.turn.Turn.{Turn}
@@ -72,3 +78,11 @@ AddsThrough limit t = Adds (AddsNode limit (entry_through t))
 -- none of them is met within the limit
 abbrev pub AreLeftOut : Option Ratio → Trees → List WalkNode → Type 0
 AreLeftOut limit t = All (λ n. is_open limit (entry_through t n) ≡ false)
+
+-- ---- primitives
+
+-- a window meets the least box of points, or there are none
+abbrev pub MeetsPoints : Window → ItemPoints → Type 0
+MeetsPoints window (Triangle a b c) = Meets window (box_of_tri (tri_value a b c))
+MeetsPoints window (Aabb lo hi) = Meets window (box_value lo hi)
+MeetsPoints window Nothing = Unit {0}

@@ -7,16 +7,21 @@ ghost use Rattle.ray_bottom.specs.LeafItems.{IsItemOf};
 ghost use Rattle.ray_bottom.specs.Trees.{places_below};
 ghost use Rattle.ray_flags.specs.Admission.{AsksBoth, ForcesBoth};
 ghost use Rattle.ray_nearest.specs.Adding.{Adds, AddsFound};
-ghost use Rattle.ray_walk.specs.Scenes.{AddsFoundAt, found_by_place, placement_value};
+ghost use Rattle.ray_geom.specs.ObjectRay.{object_of};
+ghost use Rattle.ray_window.specs.Windows.{window_of};
+ghost use Rattle.ray_walk.specs.Scenes.{AddsFoundAt, IsLookedAt, found_by_place, placement_value};
 ghost use Rattle.ray_walk.specs.Traced.{found_at_place, placement_at};
 
+use crate::aim::{Aim, window_at};
 use crate::finding::find_item;
 use crate::held::Looked;
+use crate::meeting::meets_points;
 use crate::placed::Placed;
 use crate::view::View;
 use ray_bottom::LeafItem;
 use ray_flags::{RayFlags, effective};
 use ray_geom::{Ratio, Ray, Steps};
+use ray_lanes::Window;
 use ray_nearest::{NoMemory, Turns};
 use ray_query::Found;
 use std::sync::ledger::Ledger;
@@ -25,6 +30,31 @@ use std::sync::ledger::Ledger;
 pub(crate) fn open_leaf<L: Ledger>(
     view: &View<'_>,
     looked: &Looked<'_>,
+    aim: &mut Aim,
+    i: u32,
+    n: u32,
+    limit: Option<Ratio>,
+    turns: &mut Turns,
+    steps: &mut Steps<L>,
+) -> Result<(), NoMemory>
+    requires looked { IsLookedAt view.now i looked.now aim.old }
+    requires within { n < length looked.now.bottom.now.tree.nodes }
+    ensures found { OnOk result (AddsFoundAt limit view.now i (placement_value looked.now)
+        (places_below looked.now.bottom.now n) turns.old turns.new) }
+    ensures steps { OnOk result (steps.new
+        ≡ steps.old + length (places_below looked.now.bottom.now n)) }
+    ensures rising { steps.old ≤ steps.new }
+    ensures looked { IsLookedAt view.now i looked.now aim.new }
+{
+    let window = window_at(aim, limit);
+    add_items(view, looked, &window, i, n, limit, turns, steps)
+}
+
+// The same, by the window of the ray up to the limit.
+fn add_items<L: Ledger>(
+    view: &View<'_>,
+    looked: &Looked<'_>,
+    window: &Window,
     i: u32,
     n: u32,
     limit: Option<Ratio>,
@@ -32,6 +62,8 @@ pub(crate) fn open_leaf<L: Ledger>(
     steps: &mut Steps<L>,
 ) -> Result<(), NoMemory>
     requires is_it { placement_at view.now i ≡ Some (placement_value looked.now) }
+    requires window { window.now ≡ window_of
+        (object_of view.now.ray looked.now.instance.matrix) limit }
     requires within { n < length looked.now.bottom.now.tree.nodes }
     ensures found { OnOk result (AddsFoundAt limit view.now i (placement_value looked.now)
         (places_below looked.now.bottom.now n) turns.old turns.new) }
@@ -40,10 +72,39 @@ pub(crate) fn open_leaf<L: Ledger>(
     ensures rising { steps.old ≤ steps.new }
 {
     for item in looked.bottom.leaf_items(n) {
-        let found = find_at(view, looked, i, item, steps);
-        push(turns, limit, found)?;
+        add_item(view, looked, window, i, item, limit, turns, steps)?;
     }
     Ok(())
+}
+
+// Adds the turn of what is found of a primitive. It takes one step. Where the window doesn't meet
+// the primitive nothing is found up to the limit, and no more is asked.
+fn add_item<L: Ledger>(
+    view: &View<'_>,
+    looked: &Looked<'_>,
+    window: &Window,
+    i: u32,
+    item: &LeafItem,
+    limit: Option<Ratio>,
+    turns: &mut Turns,
+    steps: &mut Steps<L>,
+) -> Result<(), NoMemory>
+    requires is_it { placement_at view.now i ≡ Some (placement_value looked.now) }
+    requires window { window.now ≡ window_of
+        (object_of view.now.ray looked.now.instance.matrix) limit }
+    requires held { IsItemOf looked.now.bottom.now.geometries item.now }
+    ensures added { OnOk result (Adds (AddsFound limit)
+        (found_at_place view.now i (placement_value looked.now) item.now.place)
+        turns.old turns.new) }
+    ensures step { steps.new ≡ steps.old + 1 }
+{
+    view.known();
+    if !meets_points(window, &item.points) {
+        steps.tick();
+        return Ok(());
+    }
+    let found = find_at(view, looked, i, item, steps);
+    push(turns, limit, found)
 }
 
 // What is found of a primitive. It takes one step.

@@ -25,6 +25,7 @@ mod held;
 mod laws;
 mod leaf;
 mod level;
+mod meeting;
 mod opening;
 mod placed;
 mod plain;

@@ -202,7 +202,10 @@ pub(crate) fn open<'a, L: Ledger>(
         WalkNode::Leaf { instance, node } => {
             hold(view, held, instance);
             match held {
-                Some(h) => open_leaf(view, &h.looked, instance, node, limit, turns, steps),
+                Some(h) => {
+                    let (looked, aim) = (&h.looked, &mut h.aim);
+                    open_leaf(view, looked, aim, instance, node, limit, turns, steps)
+                }
                 None => Ok(()),
             }
         }

@@ -9,7 +9,7 @@ use Rattle.ray_nearest.specs.Adding.{Adds, AddsFound}
 use Rattle.ray_walk.specs.Scenes.{placement_value}
 use Rattle.ray_walk.specs.Traced.{found_at_place}
 use Rattle.ray_walk.proofs.Pushing.{Adds-flat}
-use Rattle.ray_walk.proofs.leaf.open_leaf.Goals as goal
+use Rattle.ray_walk.proofs.leaf.add_items.Goals as goal
 
 pub loop-item-preserved : goal.loop-item-preserved
 loop-item-preserved g c =
@@ -18,14 +18,13 @@ loop-item-preserved g c =
     let items = c.leaf_items-item-items.result.now in
     let k = c.loop-item.item-index in
     let below : k < length items = (let t = c.loop-item-test.true in grind (arith, nat_tests)) in
-    let pushed = subst (λ fs. Adds (AddsFound c.args.limit) fs c.loop-item.turns c.push.new.turns) c.find_at-found.ensures.value c.in_ok-push.ensures in
     record {
       found =
           Adds-flat (AddsFound c.args.limit) (λ (it : LeafItem). found_at_place s c.args.i p it.place) items k c.item-item.result c.args.turns.now
-          c.loop-item.turns c.push.new.turns below c.loop-item.invariant.found
-          (subst (λ (it : LeafItem). Adds (AddsFound c.args.limit) (found_at_place s c.args.i p it.place) c.loop-item.turns c.push.new.turns) c.item-item.is
-          pushed);
-      steps = (let step = c.find_at-found.ensures.step in let before = c.loop-item.invariant.steps in omega (arith, step, before));
+          c.loop-item.turns c.add_item.new.turns below c.loop-item.invariant.found
+          (subst (λ (it : LeafItem). Adds (AddsFound c.args.limit) (found_at_place s c.args.i p it.place) c.loop-item.turns c.add_item.new.turns) c.item-item.is
+          c.in_ok-add_item.ensures.added);
+      steps = (let step = c.add_item.ensures.step in let before = c.loop-item.invariant.steps in omega (arith, step, before));
     }
 
 pub returns-clause-found : goal.returns-clause-found

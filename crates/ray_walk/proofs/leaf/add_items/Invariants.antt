@@ -3,7 +3,7 @@ use Rattle.std.specs.List.{flat_map}
 use Rattle.ray_nearest.specs.Adding.{Adds, AddsFound}
 use Rattle.ray_walk.specs.Scenes.{placement_value}
 use Rattle.ray_walk.specs.Traced.{found_at_place}
-use Rattle.ray_walk.proofs.leaf.open_leaf.Given as goal
+use Rattle.ray_walk.proofs.leaf.add_items.Given as goal
 
 -- the items so far
 abbrev pub invariant-loop-item : goal.invariant-loop-item
