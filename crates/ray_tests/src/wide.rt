@@ -42,6 +42,7 @@ fn collapsed(alloc: Global, many: u32) -> Result<Option<(usize, usize, WideRef)>
 #[test]
 fn collapses_rows(rt: HostRuntime) -> Result<(), NoMemory> {
     // 5 boxes have two leaves, 9 have three, 64 have sixteen: eight children of two leaves each.
+    // 1,000 in halves come to 256 leaves of 3 or 4: eight children of eight of four leaves each.
     let rows = [
         (0, 0, 0, WideRef::Empty),
         (1, 0, 0, WideRef::Leaf(0)),
@@ -49,6 +50,7 @@ fn collapses_rows(rt: HostRuntime) -> Result<(), NoMemory> {
         (5, 1, 2, WideRef::Inner(0)),
         (9, 1, 3, WideRef::Inner(0)),
         (64, 9, 8, WideRef::Inner(0)),
+        (1000, 73, 8, WideRef::Inner(0)),
     ];
     for (many, nodes, children, root) in rows {
         assert!(rt; collapsed(rt.alloc(), many)? == Some((nodes, children, root)));
