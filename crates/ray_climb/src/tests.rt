@@ -97,8 +97,9 @@ fn is_as_anew<R: Threads + Sync>(rt: &R, alloc: Global, n: u32) -> Result<bool, 
     let tree = build_median(alloc, &old)?;
     let anew = build_median(alloc, &new)?;
     same_activity(&tree, &old, &new);
-    let refitted = climb_all(rt, alloc, tree, new.clone()?)?;
-    Ok(refitted.is_tree_over(&new) && has_same_nodes(&refitted, &anew))
+    let refitted = climb_all(rt, alloc, tree, new)?;
+    let again = items_at(alloc, &spread(alloc, n, 11)?)?;
+    Ok(refitted.is_tree_over(&again) && has_same_nodes(&refitted, &anew))
 }
 
 #[test]

@@ -1,8 +1,11 @@
+ghost use Rattle.std.specs.Prelude.{◌≤◌, ◌^◌, length};
+
 use ray_flags::BuildFlags;
 use ray_geom::{Box3, Vec3};
 use ray_hierarchy::Hierarchy;
 use ray_tree::Tree;
 use std::alloc::AllocError;
+use std::thread::Threads;
 
 // The box from (x, 0, 0) to (x, 1, 1).
 fn flat_box(x: u8) -> Option<Box3> {
@@ -14,6 +17,19 @@ fn flat_box(x: u8) -> Option<Box3> {
 fn greatest(tree: &Tree) -> Option<i64> {
     let root = tree.root()?;
     Some(tree.node_box(root).hi().x)
+}
+
+// The trees updated to items, which are at most 2^20.
+fn updated<R: AllocGlobal + Threads + Sync>(
+    rt: &R,
+    old: &Hierarchy,
+    flags: BuildFlags,
+    items: &[Option<Box3>],
+) -> Result<Hierarchy, AllocError>
+    requires { length items.now ≤ 2 ^ 20 }
+{
+    let items = items.to_vec(rt.alloc())?;
+    old.updated(rt, rt.alloc(), flags, items)
 }
 
 // The last of five boxes moves to the front, and then becomes inactive.
@@ -36,8 +52,8 @@ fn refits_and_builds_anew(rt: HostRuntime) -> Result<(), AllocError> {
     ];
     let gone = [flat_box(4), flat_box(5), flat_box(6), flat_box(7), None];
     let old = Hierarchy::build(&rt, rt.alloc(), flags, &olds)?;
-    let refit = old.updated(&rt, rt.alloc(), flags, moved.to_vec(rt.alloc())?)?;
-    let anew = old.updated(&rt, rt.alloc(), flags, gone.to_vec(rt.alloc())?)?;
+    let refit = updated(&rt, &old, flags, &moved)?;
+    let anew = updated(&rt, &old, flags, &gone)?;
     assert!(rt; old.has_activity(&moved) && !old.has_activity(&gone));
     assert!(rt; refit.order() == old.order() && refit.tree().is_tree_over(&moved));
     assert!(rt; greatest(refit.tree()) == Some(7) && refit.tree().nodes() == 3);
