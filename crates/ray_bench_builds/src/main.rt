@@ -2,14 +2,14 @@
 //! of times, by its words, so that it can be timed from outside. `ray_bench_builds bottom 10`
 //! builds ten times a bottom structure of 524,288 triangles with 32-bit indices, `ray_bench_builds
 //! update 10` updates it as often, each time the structure that the update before made,
-//! `ray_bench_builds tree 10` builds as often a tree over their cells' boxes, and `ray_bench_builds top 10` a top structure
-//! of 65,536 instances; `fast` builds trees by keys over the same boxes, and `wide` makes a wide
-//! tree of one; `climb` refits one by a seat, `climb-by-four` by four, and `climb-by-none` only
-//! makes what they share. Each prints how often it built, of how many, and how many of them are
-//! active, or how many leaves or nodes there are. `ray_bench_builds open 10` serializes a bottom structure
-//! of 1,048,576 triangles, opens the form ten times, and prints of how many bytes it is and how
-//! often it opened. Without words it does a little of each. Other words give the line `bad-words`
-//! and status 3.
+//! `ray_bench_builds tree 10` builds as often a tree over their cells' boxes, and
+//! `ray_bench_builds top 10` a top structure of 65,536 instances; `fast` builds trees by keys over
+//! the same boxes, and `wide` makes a wide tree of one; `climb` refits one by a seat,
+//! `climb-by-four` by four, and `climb-by-none` only makes what they share. Each prints how often
+//! it built, of how many, and how many of them are active, or how many leaves or nodes there are.
+//! `ray_bench_builds open 10` serializes a bottom structure of 1,048,576 triangles, opens the form
+//! ten times, and prints of how many bytes it is and how often it opened. Without words it does a
+//! little of each. Other words give the line `bad-words` and status 3.
 //!
 //! What is timed are the public calls of ray_bottom, ray_top, ray_tree, ray_morton, ray_climb,
 //! ray_wide and ray_serial; what these do is their contracts' to say. It stands on them and on

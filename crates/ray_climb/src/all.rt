@@ -130,7 +130,8 @@ fn by_four<R: Threads + Sync>(rt: &R, climb: &Climb, mut seat: ClimbSeat, leaves
         rt,
         move || by_one(climb, seat, 0, middle),
         move || -> ClimbSeat
-            requires { IsSync R.row × (middle ≤ leaves) × HasTodo climb.now.id middle leaves other }
+            requires { IsSync R.row × (middle ≤ leaves)
+                × HasTodo climb.now.id middle leaves other }
             ensures { HasDone climb.entry.now.id middle leaves result }
         { by_three(rt, climb, other, middle, leaves) },
     );

@@ -42,7 +42,8 @@ impl Model for Climb {
       refit = c.refit;
     } };
 
-    ghost invariant = { λ c. (c.table.shared.table_id.words ≡ words_of (length c.refit.tree.nodes))
+    ghost invariant = { λ c.
+        (c.table.shared.table_id.words ≡ words_of (length c.refit.tree.nodes))
         × (c.table.shared.table_id.slots ≡ 0) × (c.table.shared.key ≡ c.refit) };
 }
 
@@ -163,8 +164,8 @@ impl Climb {
     }
 
     /// Puts the leaves that `from` has still to climb from behind those of `into`, and so those
-    /// from which it has climbed. The refusal, which would hand `from` back, never comes (`ok`): a join
-    /// takes no memory.
+    /// from which it has climbed. The refusal, which would hand `from` back, never comes (`ok`): a
+    /// join takes no memory.
     pub fn join(&self, into: &mut ClimbSeat, from: ClimbSeat) -> Result<(), ClimbSeat>
         requires own { into.old.id ≡ self.now.id }
         requires from { from.id ≡ self.now.id }

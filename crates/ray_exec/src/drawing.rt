@@ -112,7 +112,8 @@ fn draw_all<R: Threads + Sync, G: Gate>(
     requires ready { AreReady rec.now (memory_of state.now) pieces.now }
     requires own { seat.old.table ≡ claims.now.table }
     ensures same { seat.new.table ≡ seat.old.table }
-    ensures outs { IfOk result (λ v. All (IsDrawn rec.now (memory_of state.now) pieces.now) v.items) }
+    ensures outs { IfOk result (λ v.
+        All (IsDrawn rec.now (memory_of state.now) pieces.now) v.items) }
 {
     let mut outs = Vec::new(alloc);
     while let Some(number) = claims.draw(seat) {
