@@ -1,12 +1,12 @@
-ghost use Rattle.std.specs.Prelude.{◌≡◌, ◌+◌, ◌≤◌, IfOk, OnOk, None};
+ghost use Rattle.std.specs.Prelude.{◌≡◌, ◌+◌, ◌≤◌, IfOk, OnOk, None, option_map};
 ghost use Rattle.ray_nearest.specs.Answer.{answer_in};
 ghost use Rattle.ray_nearest.specs.Scene.{IsScene, distance_of, opened_in};
 ghost use Rattle.ray_nearest.specs.Taking.{IsKnown, IsNext, Takes};
-ghost use Rattle.ray_nearest.specs.Turns.{turn_at};
+ghost use Rattle.ray_nearest.specs.TurnLaws.{turn_of};
 
 use crate::scene::Scene;
-use crate::turn::Turn;
 use crate::turns::{Turns, is_within};
+use crate::waiting::{Kept, Waiting};
 use ray_flags::RayFlags;
 use ray_geom::{Ratio, Steps};
 use ray_query::{Client, Commit, Query, parts_law, passing_law};
@@ -47,14 +47,14 @@ pub fn walk<S: Scene, C: Client, L: Ledger>(
 }
 
 // The next turn, if one is to be taken.
-fn next_turn(query: &Query, turns: &mut Turns) -> Option<Turn>
-    ensures { IsNext query.now.state turns.old result turns.new }
+fn next_turn(query: &Query, turns: &mut Turns) -> Option<Waiting>
+    ensures { IsNext query.now.state turns.old (option_map turn_of result) turns.new }
 {
     if query.over() {
         return None;
     }
     let turn = turns.pop()?;
-    if is_within(distance_of(query), turn_at(&turn)) {
+    if is_within(distance_of(query), turn.at) {
         Some(turn)
     } else {
         None
@@ -66,21 +66,23 @@ fn take<S: Scene, C: Client, L: Ledger>(
     scene: &mut S,
     client: &C,
     query: &mut Query,
-    turn: Turn,
+    turn: Waiting,
     turns: &mut Turns,
     steps: &mut Steps<L>,
 ) -> Result<(), NoMemory>
-    requires known { IsKnown (S.IsNode scene.old) turn }
+    requires known { IsKnown (S.IsNode scene.old) (turn_of turn) }
     requires answered { query.old.asked ≡ None }
-    ensures taken { OnOk result (Takes (C.meaning client.now) (S.scene scene.old) turn
+    ensures taken { OnOk result (Takes (C.meaning client.now) (S.scene scene.old) (turn_of turn)
         query.old turns.old steps.old query.new turns.new steps.new) }
     ensures rising { steps.old ≤ steps.new }
     ensures kept { scene.new ≡ scene.old }
 {
-    match turn {
-        Turn::Node(_, node) => scene.open(node, distance_of(query), turns, steps),
-        Turn::Candidate(found) => {
-            query.play_one(client, found);
+    let Waiting { kept, .. } = turn;
+    match kept {
+        Kept::Node(node) => scene.open(node, distance_of(query), turns, steps),
+        Kept::Candidate(found) => {
+            query.play_one(client, *found);
+            turns.keep(found);
             Ok(())
         }
     }
@@ -92,14 +94,4 @@ fn distance_of(query: &Query) -> Option<Ratio>
 {
     let commit = query.committed()?;
     Some(Ratio::of(commit.t))
-}
-
-// At which distance a turn comes.
-fn turn_at(turn: &Turn) -> Ratio
-    ensures { result ≡ turn_at turn.now }
-{
-    match turn {
-        Turn::Node(entry, _) => *entry,
-        Turn::Candidate(found) => Ratio::of(found.t),
-    }
 }

@@ -1,12 +1,12 @@
-ghost use Rattle.std.specs.Prelude.{◌≡◌, ◌++◌, [], OnOk};
+ghost use Rattle.std.specs.Prelude.{◌≡◌, ◌++◌, [], OnOk, option_map};
 ghost use Rattle.std.specs.List.Sorted.{IsPermutation};
 ghost use Rattle.ray_nearest.specs.declared.turn.Turn.TheVariants.{Node, Candidate};
 ghost use Rattle.ray_nearest.specs.Scene.{is_within};
+ghost use Rattle.ray_nearest.specs.TurnLaws.{turn_of};
 ghost use Rattle.ray_nearest.specs.Turns.{IsTaken, turn_within};
 
 use crate::node::WalkNode;
-use crate::turn::Turn;
-use crate::waiting::Waiting;
+use crate::waiting::{Waiting, boxed};
 use ray_geom::Ratio;
 use ray_query::Found;
 use std::alloc::{AllocError as NoMemory, Global};
@@ -14,11 +14,12 @@ use std::collections::BinaryHeap;
 use std::marker::Model;
 
 /// The turns that wait in a walk, of which the first is taken. It keeps its memory from one walk to
-/// the next, but for what was found, which takes some of its own while it waits. Contracts see it
-/// as the list of the turns, in no order of their own. (Own.)
+/// the next, that of what was found and played among it. Contracts see it as the list of the turns,
+/// in no order of their own. (Own.)
 #[derive(Drop)]
 pub struct Turns {
     heap: BinaryHeap<Waiting>,
+    spare: Vec<Box<Found>>,
     alloc: Global,
 }
 
@@ -42,6 +43,7 @@ impl Turns {
     {
         Turns {
             heap: BinaryHeap::new(alloc),
+            spare: Vec::new(alloc),
             alloc,
         }
     }
@@ -75,18 +77,25 @@ impl Turns {
             (IsPermutation (turn_within limit (Candidate found) ++ self.old) self.new) }
     {
         if is_within(limit, Ratio::of(found.t)) {
-            let waiting = Waiting::candidate(self.alloc, found)?;
-            self.heap.push(waiting)?;
+            let found = boxed(self.alloc, &mut self.spare, found)?;
+            self.heap.push(Waiting::candidate(found))?;
         }
         Ok(())
     }
 
-    /// Takes a turn before which none of the others comes. None exactly where none waits.
-    pub fn pop(&mut self) -> Option<Turn>
-        ensures { IsTaken self.old result self.new }
+    // Takes a turn before which none of the others comes. None exactly where none waits.
+    pub(crate) fn pop(&mut self) -> Option<Waiting>
+        ensures { IsTaken self.old (option_map turn_of result) self.new }
     {
         let first = self.heap.pop()?;
-        Some(first.into_turn())
+        Some(first)
+    }
+
+    // Keeps the box of what was played for what is found next. Without memory it is dropped.
+    pub(crate) fn keep(&mut self, found: Box<Found>)
+        ensures { self.new ≡ self.old }
+    {
+        let _refused = self.spare.push(found);
     }
 }
 

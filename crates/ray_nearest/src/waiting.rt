@@ -5,7 +5,6 @@ ghost use Rattle.ray_nearest.specs.Turns.{turn_at};
 
 use crate::node::WalkNode;
 use crate::tie::tie_of;
-use crate::turn::Turn;
 use ray_geom::Ratio;
 use ray_query::Found;
 use std::alloc::{AllocError as NoMemory, Global};
@@ -14,7 +13,7 @@ use std::cmp::Ordering;
 // A turn that waits, with its distance. Of two the one that comes first is the greater.
 #[derive(Drop)]
 pub(crate) struct Waiting {
-    at: Ratio,
+    pub(crate) at: Ratio,
     pub(crate) kept: Kept,
     pub(crate) ghost same: { at ≡ turn_at (kept_turn at kept) },
 }
@@ -39,26 +38,30 @@ impl Waiting {
     }
 
     // The turn of what was found.
-    pub(crate) fn candidate(alloc: Global, found: Found) -> Result<Waiting, NoMemory>
-        ensures { IfOk result (λ w. kept_turn w.at w.kept ≡ Candidate found) }
+    pub(crate) fn candidate(found: Box<Found>) -> Waiting
+        ensures { kept_turn result.at result.kept ≡ Candidate found.value }
     {
-        let at = Ratio::of(found.t);
-        let found = Box::new(alloc, found)?;
-        Ok(Waiting {
-            at,
+        Waiting {
+            at: Ratio::of(found.t),
             kept: Kept::Candidate(found),
-        })
-    }
-
-    // The turn itself.
-    pub(crate) fn into_turn(self) -> Turn
-        ensures { result ≡ kept_turn self.at self.kept }
-    {
-        let Waiting { at, kept } = self;
-        match kept {
-            Kept::Node(node) => Turn::Node(at, node),
-            Kept::Candidate(found) => Turn::Candidate(Box::into_inner(found)),
         }
+    }
+}
+
+// What was found in a box: in one that is spare, or in a new one.
+pub(crate) fn boxed(
+    alloc: Global,
+    spare: &mut Vec<Box<Found>>,
+    found: Found,
+) -> Result<Box<Found>, NoMemory>
+    ensures { IfOk result (λ kept. kept.value ≡ found) }
+{
+    match spare.pop() {
+        Some(mut kept) => {
+            *kept = found;
+            Ok(kept)
+        }
+        None => Ok(Box::new(alloc, found)?),
     }
 }
 

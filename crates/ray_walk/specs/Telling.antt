@@ -14,7 +14,7 @@ instance_of i = record { matrix = i.matrix; custom = i.custom; mask = i.mask; sb
 
 -- a placed geometry of the program as a value
 abbrev pub placed_value : PlacedHere → Placed
-placed_value at = record { number = at.number; instance = instance_of at.instance; geometry = at.geometry; opaque = at.opaque }
+placed_value at = record { number = at.number; instance = instance_of at.instance.now; geometry = at.geometry; opaque = at.opaque }
 
 -- an instance may be placed: its flags agree, and its transform keeps the bounds of the structure that stands under its id
 pub record IsPlaceable (bottoms : Structures) (i : InstanceValue) : Type 0 where

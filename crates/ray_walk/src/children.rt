@@ -1,5 +1,5 @@
 //! What is below a wide node of a structure, and its root.
-ghost use Rattle.std.specs.Prelude.{◌≡◌, ◌↔◌, ◌<◌, IsTrue, OnOk, SomeIff, false, length};
+ghost use Rattle.std.specs.Prelude.{◌≡◌, ◌↔◌, ◌<◌, IsTrue, OnOk, SomeIff, length};
 ghost use Rattle.std.specs.List.{flat_map};
 ghost use Rattle.ray_geom.specs.Boxes.{IsBox};
 ghost use Rattle.ray_geom.specs.Vector.{vec3};
@@ -8,7 +8,7 @@ ghost use Rattle.ray_nearest.specs.Adding.{AddsNode, AddsOne};
 ghost use Rattle.ray_tree.specs.Trees.{box_at};
 ghost use Rattle.ray_wide.specs.Wides.{children_in, lane_box};
 ghost use Rattle.ray_window.specs.Windows.{window_of};
-ghost use Rattle.ray_walk.specs.Aims.{AddsThrough, AreLeftOut, AreTrees, HasBox, HasLane};
+ghost use Rattle.ray_walk.specs.Aims.{AddsThrough, AreTrees, HasBox, HasLane};
 ghost use Rattle.ray_walk.specs.Traced.{entry_in, no_box};
 ghost use Rattle.ray_walk.specs.WideScene.{child, inner_at, leaf_at};
 
@@ -41,8 +41,9 @@ pub(crate) fn push_children(
     let met = overlap8(lanes, window);
     let children = trees.wide.children(w);
     for k in 0..8_u32 {
-        let below = children[k as usize];
-        push_if_met(trees, lanes, k, limit, has_bit(met, k), below, turns)?;
+        if has_bit(met, k) {
+            push_below(trees, lanes, k, limit, children[k as usize], turns)?;
+        }
     }
     Ok(())
 }
@@ -55,26 +56,20 @@ fn has_bit(number: u8, k: u32) -> bool
     (number >> k) % 2 == 1
 }
 
-// Adds the turn of a child by its lane, unless it is known that the ray doesn't meet it within the
-// limit.
-fn push_if_met(
+// Adds the turn of a child by its lane, unless the ray doesn't meet it within the limit.
+fn push_below(
     trees: &Trees<'_, '_>,
     lanes: &Lanes8,
     k: u32,
     limit: Option<Ratio>,
-    met: bool,
     below: WideRef,
     turns: &mut Turns,
 ) -> Result<(), NoMemory>
     requires few { k < 8 }
     requires lane { HasLane trees.now.tree.now trees.now.wide.now lanes.now k below }
-    requires left_out { met ≡ false → AreLeftOut limit trees.now (child trees.now.level below) }
     ensures { OnOk result (AddsThrough limit trees.now
         (child trees.now.level below) turns.old turns.new) }
 {
-    if !met {
-        return Ok(());
-    }
     match below {
         WideRef::Empty => Ok(()),
         WideRef::Leaf(n) => push_lane(trees, lanes, k, limit, leaf_at(trees.level, n), turns),

@@ -20,13 +20,13 @@ use std::sync::ledger::Ledger;
 // What the ray finds of one primitive of a geometry. It takes one step.
 pub(crate) fn find<L: Ledger>(
     bottom: &Bottom,
-    at: &Placed,
+    at: &Placed<'_>,
     primitive: u32,
     ray: &Ray,
     flags: RayFlags,
     steps: &mut Steps<L>,
 ) -> Option<Found>
-    requires { KeepsBounds at.now.instance.matrix (bounds_of bottom.now.geometries) }
+    requires { KeepsBounds at.now.instance.now.matrix (bounds_of bottom.now.geometries) }
     ensures value { option_to_list result
         ≡ found_at ray.now flags bottom.now.geometries (placed_value at.now) primitive }
     ensures step { steps.new ≡ steps.old + 1 }
@@ -42,13 +42,13 @@ pub(crate) fn find<L: Ledger>(
 // What the ray finds of a primitive at a leaf, by the copy of its points. It takes one step.
 pub(crate) fn find_item<L: Ledger>(
     bottom: &Bottom,
-    at: &Placed,
+    at: &Placed<'_>,
     item: &LeafItem,
     ray: &Ray,
     flags: RayFlags,
     steps: &mut Steps<L>,
 ) -> Option<Found>
-    requires kept { KeepsBounds at.now.instance.matrix (bounds_of bottom.now.geometries) }
+    requires kept { KeepsBounds at.now.instance.now.matrix (bounds_of bottom.now.geometries) }
     requires held { IsItemOf bottom.now.geometries item.now }
     requires there { at.now.geometry ≡ item.now.place.geometry }
     ensures value { option_to_list result ≡ found_at ray.now flags bottom.now.geometries
@@ -60,7 +60,7 @@ pub(crate) fn find_item<L: Ledger>(
 }
 
 // What is found where this is met, unless the ray passes over it.
-fn admit(at: &Placed, primitive: u32, meet: Meet, flags: RayFlags) -> Option<Found>
+fn admit(at: &Placed<'_>, primitive: u32, meet: Meet, flags: RayFlags) -> Option<Found>
     ensures { option_to_list result
         ≡ admitted flags (placed_value at.now) primitive (Some (meet_value meet)) }
 {
@@ -71,7 +71,7 @@ fn admit(at: &Placed, primitive: u32, meet: Meet, flags: RayFlags) -> Option<Fou
 }
 
 // What is found of a triangle that is hit, unless the ray passes over it.
-fn admit_triangle(at: &Placed, primitive: u32, hit: &TriHit, flags: RayFlags) -> Option<Found>
+fn admit_triangle(at: &Placed<'_>, primitive: u32, hit: &TriHit, flags: RayFlags) -> Option<Found>
     ensures { option_to_list result
         ≡ admitted flags (placed_value at.now) primitive (Some (Hit (hit_value hit.now))) }
 {
@@ -83,7 +83,7 @@ fn admit_triangle(at: &Placed, primitive: u32, hit: &TriHit, flags: RayFlags) ->
 }
 
 // What is found of a box that is met, unless the ray passes over it.
-fn admit_box(at: &Placed, primitive: u32, span: &Span, flags: RayFlags) -> Option<Found>
+fn admit_box(at: &Placed<'_>, primitive: u32, span: &Span, flags: RayFlags) -> Option<Found>
     ensures { option_to_list result
         ≡ admitted flags (placed_value at.now) primitive (Some (Through (span_value span.now))) }
 {
@@ -94,7 +94,7 @@ fn admit_box(at: &Placed, primitive: u32, span: &Span, flags: RayFlags) -> Optio
 }
 
 // What is found of a triangle that is hit.
-fn triangle(at: &Placed, primitive: u32, hit: &TriHit) -> Found
+fn triangle(at: &Placed<'_>, primitive: u32, hit: &TriHit) -> Found
     ensures { result ≡ found_triangle (placed_value at.now) primitive (hit_value hit.now) }
 {
     Found {
@@ -114,7 +114,7 @@ fn triangle(at: &Placed, primitive: u32, hit: &TriHit) -> Found
 }
 
 // What is found of a box that is met.
-fn aabb(at: &Placed, primitive: u32, span: &Span) -> Found
+fn aabb(at: &Placed<'_>, primitive: u32, span: &Span) -> Found
     ensures { result ≡ found_box (placed_value at.now) primitive (span_value span.now) }
 {
     Found {

@@ -137,7 +137,7 @@ fn add_geometry<L: Ledger>(
     let opaque = effective(bottom.opaque(geometry), instance.flags, flags);
     let at = Placed {
         number,
-        instance: *instance,
+        instance,
         geometry,
         opaque,
     };
@@ -156,13 +156,13 @@ fn add_geometry<L: Ledger>(
 fn add_primitives<L: Ledger>(
     found: &mut Vec<Found>,
     bottom: &Bottom,
-    at: &Placed,
+    at: &Placed<'_>,
     count: u32,
     ray: &Ray,
     flags: RayFlags,
     steps: &mut Steps<L>,
 ) -> Result<(), NoMemory>
-    requires { KeepsBounds at.now.instance.matrix (bounds_of bottom.now.geometries) }
+    requires { KeepsBounds at.now.instance.now.matrix (bounds_of bottom.now.geometries) }
     ensures value { OnOk result (found.new.items ≡ found.old.items
         ++ joined (found_at ray.now flags bottom.now.geometries (placed_value at.now)) count) }
     ensures rising { steps.old ≤ steps.new }

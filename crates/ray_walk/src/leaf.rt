@@ -155,7 +155,7 @@ fn find_in<L: Ledger>(
     );
     let at = Placed {
         number: i,
-        instance: looked.instance,
+        instance: &looked.instance,
         geometry: place.geometry,
         opaque,
     };

@@ -1,5 +1,6 @@
 use Rattle.std.proofs.Common.{◌∙◌, subst, sym}
 use Rattle.ray_nearest.specs.Taking.{IsKnown, Takes}
+use Rattle.ray_nearest.specs.TurnLaws.{turn_of}
 use Rattle.ray_nearest.proofs.Underway.{answers, begins, bounds, goes_on, known, lighter}
 use Rattle.ray_nearest.proofs.nearest.walk.Goals as goal
 
@@ -13,18 +14,18 @@ loop-turn-init g c = record {
 
 pub take-requires-clause-known : goal.take-requires-clause-known
 take-requires-clause-known g c =
-    subst (λ scene. IsKnown (g.S.Scene.IsNode scene) c.in-Some.turn) (sym c.loop-turn.invariant.kept)
+    subst (λ scene. IsKnown (g.S.Scene.IsNode scene) (turn_of c.in-Some.turn)) (sym c.loop-turn.invariant.kept)
     (known (g.S.Scene.IsNode c.args.scene.now) (g.S.Scene.scene c.args.scene.now) c.requires.scene c.passing_law.ensures.left_out
     (g.C.Client.meaning c.args.client.now) c.args.ray c.args.flags c.args.steps.now
-    c.in-Some.turn c.loop-turn.turns c.next_turn.new.turns c.loop-turn.query c.loop-turn.steps c.loop-turn.invariant.underway c.in-Some.ensures)
+    (turn_of c.in-Some.turn) c.loop-turn.turns c.next_turn.new.turns c.loop-turn.query c.loop-turn.steps c.loop-turn.invariant.underway c.in-Some.ensures)
 
 pub loop-turn-smaller : goal.loop-turn-smaller
 loop-turn-smaller g c =
     lighter (g.S.Scene.IsNode c.args.scene.now) (g.S.Scene.scene c.args.scene.now) c.requires.scene c.passing_law.ensures.left_out
     (g.C.Client.meaning c.args.client.now) c.args.ray c.args.flags c.args.steps.now
-    c.in-Some.turn c.loop-turn.turns c.next_turn.new.turns c.take.new.turns c.loop-turn.query c.take.new.query c.loop-turn.steps c.take.new.steps
+    (turn_of c.in-Some.turn) c.loop-turn.turns c.next_turn.new.turns c.take.new.turns c.loop-turn.query c.take.new.query c.loop-turn.steps c.take.new.steps
     c.loop-turn.invariant.underway c.in-Some.ensures
-    (subst (λ scene. Takes (g.C.Client.meaning c.args.client.now) (g.S.Scene.scene scene) c.in-Some.turn c.loop-turn.query c.next_turn.new.turns
+    (subst (λ scene. Takes (g.C.Client.meaning c.args.client.now) (g.S.Scene.scene scene) (turn_of c.in-Some.turn) c.loop-turn.query c.next_turn.new.turns
     c.loop-turn.steps c.take.new.query c.take.new.turns c.take.new.steps) c.loop-turn.invariant.kept c.in_ok-take.ensures.taken)
 
 pub loop-turn-preserved : goal.loop-turn-preserved
@@ -32,9 +33,9 @@ loop-turn-preserved g c = record {
   kept = c.take.ensures.kept ∙ c.loop-turn.invariant.kept;
   underway = goes_on (g.S.Scene.IsNode c.args.scene.now) (g.S.Scene.scene c.args.scene.now) c.requires.scene c.passing_law.ensures.left_out
       (g.C.Client.meaning c.args.client.now) c.args.ray c.args.flags c.args.steps.now
-      c.in-Some.turn c.loop-turn.turns c.next_turn.new.turns c.take.new.turns c.loop-turn.query c.take.new.query c.loop-turn.steps c.take.new.steps
+      (turn_of c.in-Some.turn) c.loop-turn.turns c.next_turn.new.turns c.take.new.turns c.loop-turn.query c.take.new.query c.loop-turn.steps c.take.new.steps
       c.loop-turn.invariant.underway c.in-Some.ensures
-      (subst (λ scene. Takes (g.C.Client.meaning c.args.client.now) (g.S.Scene.scene scene) c.in-Some.turn c.loop-turn.query c.next_turn.new.turns
+      (subst (λ scene. Takes (g.C.Client.meaning c.args.client.now) (g.S.Scene.scene scene) (turn_of c.in-Some.turn) c.loop-turn.query c.next_turn.new.turns
       c.loop-turn.steps c.take.new.query c.take.new.turns c.take.new.steps) c.loop-turn.invariant.kept c.in_ok-take.ensures.taken);
 }
 

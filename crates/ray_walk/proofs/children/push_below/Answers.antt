@@ -7,14 +7,8 @@ use Rattle.ray_nearest.specs.Adding.{AddsNode, AddsOne}
 use Rattle.ray_walk.specs.Aims.{AddsThrough, HasLane}
 use Rattle.ray_walk.specs.Traced.{entry_in}
 use Rattle.ray_walk.specs.WideScene.{child}
-use Rattle.ray_walk.proofs.Pushing.{left-out, pushed-inner, pushed-leaf}
-use Rattle.ray_walk.proofs.children.push_if_met.Goals as goal
-
-pub returns-then-not-met : goal.returns-then-not-met
-returns-then-not-met c =
-    let t = c.args.trees.now in
-    let turns = c.args.turns.now in
-    left-out t c.args.limit turns turns (child t.level c.args.below) (c.requires.left_out (let e = c.if-not-met.true in cc)) turns
+use Rattle.ray_walk.proofs.Pushing.{pushed-inner, pushed-leaf}
+use Rattle.ray_walk.proofs.children.push_below.Goals as goal
 
 pub returns-in-Leaf : goal.returns-in-Leaf
 returns-in-Leaf c =
