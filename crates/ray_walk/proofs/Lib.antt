@@ -38,3 +38,4 @@ pub mod WideAnswer
 pub mod BoxLimits
 pub mod LeftOut
 pub mod Pushing
+mod Bits

@@ -1,5 +1,5 @@
 -- What the calls of a scene add to the turns that wait.
-use Rattle.std.proofs.Common.{ℕ, ◌≡◌, ◌+◌, ◌++◌, ◌<◌, Option, Some, None, List, [], ◌∷◌, length, map, take, drop, slice_index_or, refl, sym, ap, subst, ◌∙◌, inl}
+use Rattle.std.proofs.Common.{ℕ, zero, suc, ◌≡◌, ◌+◌, ◌++◌, ◌<◌, ◌≤◌, Option, Some, None, List, [], ◌∷◌, length, map, take, drop, slice_index_or, refl, sym, ap, subst, ◌∙◌, inl, arith}
 use Rattle.std.specs.Prelude.{All, false, option_map, option_and_then, slice_get}
 use Rattle.std.specs.List.{flat_map}
 use Rattle.std.proofs.lemmas.List.{append-nil, drop-map, length-map, take-map, take_more}
@@ -150,6 +150,19 @@ Adds-flat P F xs k d old mid new small before one =
     ap (flat_map F) (take_more xs k d small) ∙ (flat_map-append F (take k xs) (y ∷ [])
     ∙ ap (λ ys. flat_map F (take k xs) ++ ys) (flat_map-cons F y [] ∙ append-nil (F y))) in
     subst (λ ys. Adds P ys old new) (sym more) (Adds-append P (flat_map F (take k xs)) (F y) old mid new before one)
+
+-- the children from a number on that are left out add nothing
+pub Adds-skip : (t : Trees) (limit : Option Ratio) (cs : List WideRef) (d : WideRef) (old now : List Turn) (k n : ℕ) → k + n ≤ length cs
+    → ((j : ℕ) → k ≤ j → j < k + n → AreLeftOut limit t (child t.level (slice_index_or cs j d)))
+    → AddsThrough limit t (flat_map (child t.level) (take k cs)) old now
+    → AddsThrough limit t (flat_map (child t.level) (take (k + n) cs)) old now
+Adds-skip t limit cs d old now k zero within out before =
+    subst (λ m. AddsThrough limit t (flat_map (child t.level) (take m cs)) old now) (omega arith) before
+Adds-skip t limit cs d old now k (suc n) within out before =
+    subst (λ m. AddsThrough limit t (flat_map (child t.level) (take m cs)) old now) (omega arith)
+    (Adds-flat (AddsNode limit (entry_through t)) (child t.level) cs (k + n) d old now now (omega (arith, within))
+    (Adds-skip t limit cs d old now k n (omega (arith, within)) (λ j from below. out j from (omega (arith, below))) before)
+    (left-out t limit old now (child t.level (slice_index_or cs (k + n) d)) (out (k + n) (omega arith) (omega arith)) now))
 
 -- ---- what is found
 

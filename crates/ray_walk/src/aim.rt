@@ -44,6 +44,18 @@ pub(crate) fn window_at(aim: &mut Aim, limit: Option<Ratio>) -> Window
             return seen.window;
         }
     }
+    new_window(aim, limit)
+}
+
+// The same where another one was asked for last, or none. That is seldom, and stands apart so that
+// the test of it can stand where it is needed.
+#[inline(never)]
+fn new_window(aim: &mut Aim, limit: Option<Ratio>) -> Window
+    requires { IsAimed aim.old }
+    ensures value { result ≡ window_of aim.old.ray limit }
+    ensures ray { aim.new.ray ≡ aim.old.ray }
+    ensures aimed { IsAimed aim.new }
+{
     let window = window_of(&aim.ray, limit);
     aim.seen = Some(Seen { limit, window });
     window

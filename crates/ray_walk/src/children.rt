@@ -1,5 +1,5 @@
 //! What is below a wide node of a structure, and its root.
-ghost use Rattle.std.specs.Prelude.{◌≡◌, ◌↔◌, ◌<◌, IsTrue, OnOk, SomeIff, length};
+ghost use Rattle.std.specs.Prelude.{ℕ, ◌≡◌, ◌<◌, ◌≤◌, OnOk, SomeIff, length};
 ghost use Rattle.std.specs.List.{flat_map};
 ghost use Rattle.ray_geom.specs.Boxes.{IsBox};
 ghost use Rattle.ray_geom.specs.Vector.{vec3};
@@ -40,20 +40,28 @@ pub(crate) fn push_children(
     let lanes = trees.wide.lanes(w);
     let met = overlap8(lanes, window);
     let children = trees.wide.children(w);
-    for k in 0..8_u32 {
-        if has_bit(met, k) {
-            push_below(trees, lanes, k, limit, children[k as usize], turns)?;
-        }
+    let mut k = next_bit(met, 0);
+    while k < 8 {
+        push_below(trees, lanes, k, limit, children[k as usize], turns)?;
+        k = next_bit(met, k + 1);
     }
     Ok(())
 }
 
-// Whether bit k of a number is set.
-fn has_bit(number: u8, k: u32) -> bool
-    requires { k < 8 }
-    ensures { IsTrue result ↔ HasBit number k }
+// The first bit of a number that is set, of those from a place on; 8 where none is.
+fn next_bit(number: u8, from: u32) -> u32
+    requires { from ≤ 8 }
+    ensures from { from ≤ result }
+    ensures most { result ≤ 8 }
+    ensures set { result < 8 → HasBit number result }
+    ensures clear { (k : ℕ) → from ≤ k → k < result → ¬ HasBit number k }
 {
-    (number >> k) % 2 == 1
+    let rest = u32::from(number) >> from;
+    if rest == 0 {
+        8
+    } else {
+        (from + rest.trailing_zeros()).min(8)
+    }
 }
 
 // Adds the turn of a child by its lane, unless the ray doesn't meet it within the limit.

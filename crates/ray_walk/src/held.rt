@@ -51,7 +51,9 @@ fn is_of(held: &Option<Held<'_>>, i: u32) -> bool
     }
 }
 
-// The instance of a number, with the ray in its object's space.
+// The instance of a number, with the ray in its object's space. Most nodes are of the instance that
+// is held already, so this stands apart.
+#[inline(never)]
 fn held_for<'a>(view: &View<'a>, i: u32) -> Option<Held<'a>>
     ensures { IsHolding view.now i result }
 {

@@ -1,22 +1,41 @@
-use Rattle.std.proofs.Common.{List, ◌<◌, ◌∙◌, ◌+◌, ap, length, subst, sym, take, arith}
+use Rattle.std.proofs.Common.{ℕ, Option, List, [], ◌≡◌, ◌-◌, ◌<◌, ◌∙◌, ◌+◌, ap, length, subst, sym, take, arith}
 use Rattle.std.specs.List.{flat_map}
-use Rattle.std.specs.Prelude.{slice_index_or}
+use Rattle.std.specs.Prelude.{◌↔◌, false, slice_index_or}
+use Rattle.std.proofs.lemmas.List.Elements.{All-nil}
 use Rattle.std.proofs.lemmas.Bool.Decides.{nat_tests}
 use Rattle.ray_lanes.specs.declared.lanes.Lanes8.{Lanes8}
 use Rattle.ray_lanes.specs.declared.lanes.Window.{Window}
-use Rattle.ray_lanes.specs.Overlap.{Overlaps}
+use Rattle.ray_lanes.specs.Overlap.{HasBit, Overlaps}
 use Rattle.ray_wide.specs.declared.node.WideRef.{WideRef}
 use Rattle.ray_wide.specs.declared.node.WideRef.TheVariants as wides
-use Rattle.ray_wide.specs.Wides.{child_at, children_in}
+use Rattle.ray_wide.specs.Wides.{child_at, children_in, lanes_in}
 use Rattle.ray_window.specs.Windows.{window_of}
-use Rattle.ray_nearest.specs.declared.turn.Turn.{Turn}
 use Rattle.ray_nearest.specs.Adding.{AddsNode}
-use Rattle.ray_walk.specs.Aims.{AddsThrough, AreLeftOut, HasLane, entry_through}
+use Rattle.ray_nearest.specs.Scene.{is_open}
+use Rattle.ray_walk.specs.Aims.{AddsThrough, AreLeftOut, AreTrees, HasLane, entry_through}
+use Rattle.ray_geom.specs.declared.ratio.Ratio.{Ratio}
+use Rattle.ray_geom.specs.ObjectRay.{IsObjectRay}
+use Rattle.ray_walk.specs.declared.trees.Trees.{Trees}
 use Rattle.ray_walk.specs.WideScene.{child}
 use Rattle.ray_walk.proofs.LeftOut.{any-default, child-out, lane-at}
-use Rattle.ray_walk.proofs.Pushing.{Adds-flat, left-out}
+use Rattle.ray_walk.proofs.Pushing.{Adds-flat, Adds-skip, left-out}
 use Rattle.ray_walk.proofs.children.push_children.Goals as goal
-use Rattle.ray_walk.proofs.children.push_children.Goals.{then-has_bit+in_ok-push_below, else-has_bit}
+
+-- a child whose bit isn't set is left out
+out : (trees : Trees) (window : Window) (w : ℕ) (limit : Option Ratio) (lanes : Lanes8) (met : ℕ) (cs : List WideRef) → AreTrees trees.tree.now trees.wide.now
+    → IsObjectRay trees.ray.now → window ≡ window_of trees.ray.now limit → w < length trees.wide.now.nodes → lanes ≡ lanes_in trees.wide.now.nodes w
+    → ((j : ℕ) → j < 8 → HasBit met j ↔ Overlaps lanes window j) → cs ≡ children_in trees.wide.now.nodes w
+    → (j : ℕ) → j < 8 → (HasBit met j → ⊥) → AreLeftOut limit trees (child trees.level (slice_index_or cs j (wides.Leaf 0)))
+out trees window w limit lanes met cs over ray_is window_is node lanes_is met_is cs_is j few clear =
+    let nodes = trees.wide.now.nodes in
+    let eight = (over.over.collapsed.each w node).eight in
+    let at = any-default (children_in nodes w) j wides.Empty (wides.Leaf 0) (omega (arith, eight, few))
+    ∙ ap (λ (xs : List WideRef). slice_index_or xs j (wides.Leaf 0)) (sym cs_is) in
+    subst (λ (b : WideRef). AreLeftOut limit trees (child trees.level b)) at
+    (child-out trees.tree.now trees.wide.now over trees.ray.now ray_is limit trees.level w j node few
+    (λ o. clear ((met_is j few).1
+    (subst (λ (x : Window). Overlaps lanes x j) (sym window_is)
+    (subst (λ (l : Lanes8). Overlaps l (window_of trees.ray.now limit) j) (sym lanes_is) o)))))
 
 pub push_below-requires-clause-lane : goal.push_below-requires-clause-lane
 push_below-requires-clause-lane c =
@@ -32,37 +51,45 @@ push_below-requires-clause-lane c =
     (subst (λ (l : Lanes8). HasLane t.tree.now t.wide.now l k (child_at (children_in nodes w) k)) (sym c.lanes-lanes.ensures)
     (lane-at t.tree.now t.wide.now c.requires.trees w k c.requires.node few))
 
+pub loop-k-init : goal.loop-k-init
+loop-k-init c =
+    let t = c.args.trees.now in
+    let w = c.args.w in
+    let children = c.children-children.result.now in
+    let first : ℕ = c.next_bit-k.result in
+    let most = c.next_bit-k.ensures.most in
+    let full : length children ≡ 8 = ap (λ (cs : List WideRef). length cs) c.children-children.ensures ∙ (c.requires.trees.over.collapsed.each w c.requires.node).eight in
+    record {
+      most = most;
+      so_far = subst (λ n. AddsThrough c.args.limit t (flat_map (child t.level) (take n children)) c.args.turns.now c.args.turns.now) (omega arith)
+          (Adds-skip t c.args.limit children (wides.Leaf 0) c.args.turns.now c.args.turns.now 0 first (omega (arith, full, most))
+          (λ j after below. out t c.args.window.now w c.args.limit c.lanes-lanes.result.now c.overlap8-met.result children c.requires.trees
+          c.det-det.ensures.limits c.requires.window c.requires.node c.lanes-lanes.ensures c.overlap8-met.ensures c.children-children.ensures
+          j (omega (arith, below, most)) (c.next_bit-k.ensures.clear j after (omega (arith, below))))
+          (left-out t c.args.limit c.args.turns.now c.args.turns.now [] (All-nil (λ m. is_open c.args.limit (entry_through t m) ≡ false)) c.args.turns.now));
+    }
+
 pub loop-k-preserved : goal.loop-k-preserved
 loop-k-preserved c =
     let t = c.args.trees.now in
     let w = c.args.w in
     let k = c.loop-k.k in
-    let nodes = t.wide.now.nodes in
     let children = c.children-children.result.now in
-    let few : k < 8 = (let h = c.loop-k-test.true in grind (arith, nat_tests)) in
-    let eight = (c.requires.trees.over.collapsed.each w c.requires.node).eight in
-    let full = ap (λ (cs : List WideRef). length cs) c.children-children.ensures ∙ eight in
-    let within : k < length children = omega (arith, full, few) in
+    let next = c.next_bit-k-in-loop-k.result in
+    let most = c.next_bit-k-in-loop-k.ensures.most in
+    let later = c.next_bit-k-in-loop-k.ensures.from in
     let before = c.args.turns.now in
-    let IsSoFar = λ (ts : List Turn). AddsThrough c.args.limit t (flat_map (child t.level) (take (k + 1) children)) before ts in
-    elim c.if-has_bit.branch [
-      then-has_bit+in_ok-push_below b ↦
-        subst IsSoFar (sym b.turns-is)
-        (Adds-flat (AddsNode c.args.limit (entry_through t)) (child t.level) children k (wides.Leaf 0) before c.loop-k.turns b.push_below.new.turns
-        within c.loop-k.invariant b.in_ok-push_below.ensures)
-    | else-has_bit b ↦
-        let at = any-default (children_in nodes w) k wides.Empty (wides.Leaf 0) (omega (arith, eight, few))
-        ∙ ap (λ (cs : List WideRef). slice_index_or cs k (wides.Leaf 0)) (sym c.children-children.ensures) in
-        let out = subst (λ (b : WideRef). AreLeftOut c.args.limit t (child t.level b)) at
-        (child-out t.tree.now t.wide.now c.requires.trees t.ray.now c.det-det.ensures.limits c.args.limit t.level w k c.requires.node few
-        (λ o.
-        let met = (c.overlap8-met.ensures k few).1
-        (subst (λ (x : Window). Overlaps c.lanes-lanes.result.now x k) (sym c.requires.window)
-        (subst (λ (l : Lanes8). Overlaps l (window_of t.ray.now c.args.limit) k) (sym c.lanes-lanes.ensures) o)) in
-        let is = c.has_bit.ensures.1 met in
-        let not = b.if-has_bit.false in
-        cc)) in
-        subst IsSoFar (sym b.turns-is)
-        (Adds-flat (AddsNode c.args.limit (entry_through t)) (child t.level) children k (wides.Leaf 0) before c.loop-k.turns c.loop-k.turns
-        within c.loop-k.invariant (left-out t c.args.limit before before (child t.level (slice_index_or children k (wides.Leaf 0))) out c.loop-k.turns))
-    ]
+    let now = c.push_below.new.turns in
+    let few : k < 8 = (let h = c.loop-k-test.true in grind (arith, nat_tests)) in
+    let full : length children ≡ 8 = ap (λ (cs : List WideRef). length cs) c.children-children.ensures ∙ (c.requires.trees.over.collapsed.each w c.requires.node).eight in
+    let pushed = Adds-flat (AddsNode c.args.limit (entry_through t)) (child t.level) children k (wides.Leaf 0) before c.loop-k.turns now
+    (omega (arith, full, few)) c.loop-k.invariant.so_far c.in_ok-push_below.ensures in
+    let gap : k + 1 + (next - (k + 1)) ≡ next = omega (arith, later) in
+    record {
+      most = most;
+      so_far = subst (λ n. AddsThrough c.args.limit t (flat_map (child t.level) (take n children)) before now) gap
+          (Adds-skip t c.args.limit children (wides.Leaf 0) before now (k + 1) (next - (k + 1)) (omega (arith, full, most, later))
+          (λ j after below. out t c.args.window.now w c.args.limit c.lanes-lanes.result.now c.overlap8-met.result children c.requires.trees
+          c.det-det.ensures.limits c.requires.window c.requires.node c.lanes-lanes.ensures c.overlap8-met.ensures c.children-children.ensures
+          j (omega (arith, below, gap, most)) (c.next_bit-k-in-loop-k.ensures.clear j after (omega (arith, below, gap)))) pushed);
+    }

@@ -1,4 +1,4 @@
-use Rattle.std.proofs.Common.{take}
+use Rattle.std.proofs.Common.{◌-◌, ◌≤◌, take}
 use Rattle.std.specs.List.{flat_map}
 use Rattle.ray_walk.specs.Aims.{AddsThrough}
 use Rattle.ray_walk.specs.WideScene.{child}
@@ -6,4 +6,10 @@ use Rattle.ray_walk.proofs.children.push_children.Given as goal
 
 -- the children so far
 abbrev pub invariant-loop-k : goal.invariant-loop-k
-invariant-loop-k l = AddsThrough l.fn.limit l.fn.trees (flat_map (child l.fn.trees.level) (take l.k l.children)) l.fn.turns l.turns
+invariant-loop-k l = record {
+  most : l.k ≤ 8;
+  so_far : AddsThrough l.fn.limit l.fn.trees (flat_map (child l.fn.trees.level) (take l.k l.children)) l.fn.turns l.turns;
+}
+
+abbrev pub decreases-loop-k : goal.decreases-loop-k
+decreases-loop-k l = 8 - l.k
