@@ -37,8 +37,18 @@ pub(crate) fn hold<'a>(view: &View<'a>, held: &mut Option<Held<'a>>, i: u32)
     ensures { IsHolding view.now i held.new }
 {
     if !is_of(held, i) {
-        *held = held_for(view, i);
+        hold_another(view, held, i);
     }
+}
+
+// The same where another one is held, or none. Most nodes are of the instance that is held already,
+// so this stands apart.
+#[inline(never)]
+fn hold_another<'a>(view: &View<'a>, held: &mut Option<Held<'a>>, i: u32)
+    requires { IfSome held.old (IsHeld view.now) }
+    ensures { IsHolding view.now i held.new }
+{
+    *held = held_for(view, i);
 }
 
 // Whether the instance that is held is that of a number.
@@ -51,9 +61,7 @@ fn is_of(held: &Option<Held<'_>>, i: u32) -> bool
     }
 }
 
-// The instance of a number, with the ray in its object's space. Most nodes are of the instance that
-// is held already, so this stands apart.
-#[inline(never)]
+// The instance of a number, with the ray in its object's space.
 fn held_for<'a>(view: &View<'a>, i: u32) -> Option<Held<'a>>
     ensures { IsHolding view.now i result }
 {
