@@ -4,8 +4,8 @@ use mathlib.Core.Logic.{inl, inr}
 use Rattle.ray_query.specs.declared.candidate.Candidate.{Candidate}
 use Rattle.ray_query.specs.declared.decision.Decision.TheVariants.{Confirm, Ignore}
 use Rattle.ray_query.specs.Deciding.{GivesOne, MayGive, fits}
-use Rattle.ray_tests.proofs.walk.traced_by_second.OwnLists as lists
-use Rattle.ray_tests.proofs.walk.traced_by_second.Goals as goal
+use Rattle.ray_tests_structures.proofs.walk.traced_by_second.OwnLists as lists
+use Rattle.ray_tests_structures.proofs.walk.traced_by_second.Goals as goal
 
 -- what the function of each entry gives is one decision
 abbrev DecidesAt : (v : lists.own-1.I) → (lists.own-1.entry v).0.Denot → Type 0

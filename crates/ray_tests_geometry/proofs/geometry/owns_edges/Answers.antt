@@ -6,7 +6,7 @@ use Rattle.ray_geom.specs.declared.vec3.Vec3.{Vec3}
 use Rattle.ray_geom.specs.Vector.{vec3}
 use Rattle.ray_geom.specs.Scene.{RayValue, TriValue, ray_value, tri_value}
 use Rattle.ray_geom.specs.Crossing.{Crossing}
-use Rattle.ray_tests.proofs.geometry.owns_edges.Goals as goal
+use Rattle.ray_tests_geometry.proofs.geometry.owns_edges.Goals as goal
 
 abbrev near : Vec3
 near = vec3 (pos 0) (pos 0) (pos 0)

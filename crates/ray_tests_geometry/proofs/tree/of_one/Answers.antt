@@ -2,7 +2,7 @@ use Rattle.std.proofs.Common.{◌∙◌, ◌++◌, ◌∷◌, [], Some, ap, sym,
 use Rattle.ray_tree.specs.declared.node.Node.TheVariants.{Leaf}
 use Rattle.ray_tree.specs.Trees.{TreeOver, tree_value}
 use Rattle.ray_tree.proofs.OneItem.{one_tree}
-use Rattle.ray_tests.proofs.tree.of_one.Goals as goal
+use Rattle.ray_tests_geometry.proofs.tree.of_one.Goals as goal
 
 pub of_parts-requires-clause-over : goal.of_parts-requires-clause-over
 of_parts-requires-clause-over c =
