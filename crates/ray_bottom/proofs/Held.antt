@@ -4,12 +4,13 @@ use Rattle.std.specs.Prelude.{All, IfSome, slice_get}
 use Rattle.std.specs.List.{filter_map, cons_option, flat_map}
 use Rattle.std.proofs.lemmas.List.Elements.{All-cons, All-tail, All-nil}
 use Rattle.std.proofs.lemmas.List.Concat.{flat_map-cons}
-use Rattle.ray_geom.specs.Scene.{RayValue, TriValue}
+use Rattle.ray_geom.specs.declared.vec3.Vec3.{Vec3}
+use Rattle.ray_geom.specs.Scene.{RayValue, TriValue, tri_value}
 use Rattle.ray_geom.specs.HitValue.{hit_of}
 use Rattle.ray_geom.specs.ObjectRay.{ObjectRayValue, object_of}
 use Rattle.ray_prune.specs.BoxReach.{span_of}
 use Rattle.ray_geom.specs.Boxes.{BoxValue}
-use Rattle.ray_geom.specs.Transform.{MatrixValue, world_tri}
+use Rattle.ray_geom.specs.Transform.{MatrixValue, image_of, world_tri}
 use Rattle.ray_geom.specs.LeastBoxes.{box_of_tri, HoldsBoxes, IsLeast}
 use Rattle.ray_geom.proofs.LeastBoxes.{IsLeastOf-boxes, IsLeast-tri, IsIn-part}
 use Rattle.ray_prune.proofs.Corners.{IsShort-image}
@@ -85,6 +86,10 @@ pub hit_in_world-is : (ray : RayValue) (m : MatrixValue) (tri world : TriValue) 
     option_map Hit (hit_of ray world) ≡ hit_in_world ray m tri
 unfolding hit_in_world
 hit_in_world-is ray m tri world e = ap (λ (w : TriValue). option_map Hit (hit_of ray w)) e
+
+-- a transform that leaves each point where it is leaves a triangle as it is
+pub world_tri-stays : (m : MatrixValue) (tri : TriValue) → ((v : Vec3) → image_of m v ≡ v) → tri ≡ world_tri m tri
+world_tri-stays m tri stays i = tri_value (sym (stays tri.v0) i) (sym (stays tri.v1) i) (sym (stays tri.v2) i)
 
 pub span_in_object-is : (ray : RayValue) (m : MatrixValue) (box : BoxValue) (object : ObjectRayValue) → object ≡ object_of ray m →
     option_map Through (span_of object box) ≡ span_in_object ray m box

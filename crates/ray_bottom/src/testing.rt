@@ -86,7 +86,7 @@ fn tri_of(a: Point32, b: Point32, c: Point32) -> Tri
     requires { IsTri (tri_value a b c) }
     ensures { result ≡ tri_value a b c }
 {
-    Tri::new(a.wide(), b.wide(), c.wide()).unwrap()
+    Tri::of_vertices(a.wide(), b.wide(), c.wide())
 }
 
 // The box with these corners.
@@ -94,7 +94,7 @@ fn box_of(lo: Point32, hi: Point32) -> Box3
     requires { IsBox (box_value lo hi) }
     ensures { result ≡ box_value lo hi }
 {
-    Box3::new(lo.wide(), hi.wide()).unwrap()
+    Box3::of_corners(lo.wide(), hi.wide())
 }
 
 // What the ray meets of one primitive of a geometry.
@@ -153,12 +153,16 @@ fn test_box(b: &KeptBox, ray: &Ray, m: &Matrix) -> Option<Meet>
     span(&b, ray, m)
 }
 
-// The hit of the world triangle of a triangle.
+// The hit of the world triangle of a triangle. Many instances stand where their objects are.
 fn hit(tri: &Tri, ray: &Ray, m: &Matrix) -> Option<Meet>
     requires { KeepsTri m.now tri.now }
     ensures { option_map meet_value result ≡ hit_in_world ray.now m.now tri.now }
 {
-    world_hit(ray, &world(m, tri))
+    if m.is_identity() {
+        world_hit(ray, tri)
+    } else {
+        world_hit(ray, &world(m, tri))
+    }
 }
 
 // The hit of a triangle of the world.
@@ -177,7 +181,7 @@ fn world(m: &Matrix, tri: &Tri) -> Tri
     ensures { result ≡ world_tri m.now tri.now }
 {
     let [a, b, c] = tri.vertices();
-    Tri::new(kept_image(m, a), kept_image(m, b), kept_image(m, c)).unwrap()
+    Tri::of_vertices(kept_image(m, a), kept_image(m, b), kept_image(m, c))
 }
 
 // The span of a box of the object's space.

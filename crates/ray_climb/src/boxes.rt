@@ -18,7 +18,7 @@ fn box_of(low: u64, high: u64) -> Box3
     requires { IsBox (box_value (corner_of low) (corner_of high)) }
     ensures { result ≡ box_value (corner_of low) (corner_of high) }
 {
-    Box3::new(corner(low), corner(high)).unwrap()
+    Box3::of_corners(corner(low), corner(high))
 }
 
 // The box of a node.

@@ -27,7 +27,7 @@ pub fn kept_image(m: &Matrix, v: Vec3) -> Vec3
     ensures value { result ≡ image_of m.now v }
     ensures limits { IsShort (2 ^ 19) result }
 {
-    m.apply(v).unwrap()
+    m.image(v)
 }
 
 /// The law of bounds that are kept: where the images of the eight corners of a box are within the

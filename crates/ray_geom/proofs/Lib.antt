@@ -2,6 +2,7 @@ pub mod Bounds
 pub mod Odd
 pub mod Fractions
 pub mod Ring
+pub mod Identity
 pub mod Determinant
 pub mod Signs
 pub mod Triple

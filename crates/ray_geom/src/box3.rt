@@ -38,6 +38,15 @@ impl Box3 {
         }
     }
 
+    /// The box with these corners, which are known to be within the limits and in order: nothing is
+    /// checked.
+    pub fn of_corners(lo: Vec3, hi: Vec3) -> Box3
+        requires { IsBox (box_value lo hi) }
+        ensures { result ≡ box_value lo hi }
+    {
+        Box3 { lo, hi }
+    }
+
     /// The least corner, as `new` was given it.
     pub fn lo(&self) -> Vec3
         ensures value { result ≡ self.now.lo }

@@ -18,8 +18,9 @@
 //!
 //! [`Frac`] and [`Ratio`] have a total order by value. [`Ray::new`], [`Tri::new`], [`Box3::new`]
 //! and [`Matrix::new`] refuse exactly what is beyond the limits of `specs/Scene`, `specs/Boxes` and
-//! `specs/Transform`, and the accessors say these limits in a clause `limits`. [`Steps`] counts in
-//! contracts alone.
+//! `specs/Transform`, and the accessors say these limits in a clause `limits`. Numbers that are
+//! known to be within them are taken unchecked by [`Tri::of_vertices`], [`Box3::of_corners`] and
+//! [`Matrix::of_words`]. [`Steps`] counts in contracts alone.
 //!
 //! It stands on the standard library and on no other crate. No call takes memory.
 #![tactic(auto)]

@@ -1,4 +1,5 @@
-ghost use Rattle.std.specs.Prelude.{◌≡◌, ◌≢◌, ◌*◌, ◌^◌, ◌+ℤ◌, pos, SomeIff};
+ghost use Rattle.std.specs.Prelude.{◌≡◌, ◌≢◌, ◌*◌, ◌^◌, ◌+ℤ◌, ◌↔◌, pos, IsTrue, SomeIff};
+ghost use Rattle.ray_geom.specs.declared.vec3.Vec3.{Vec3};
 ghost use Rattle.ray_geom.specs.Vector.{IsWithin, IsShort, cross_of, dot_of};
 ghost use Rattle.ray_geom.specs.Transform.{IsMatrix, matrix_of, matrix_value, rows_of, table_of, identity_value, det_of, image_of};
 ghost use Rattle.ray_geom.specs.Equality.{matrix_eq, matrix_eq-laws, matrix_eq-equivalence};
@@ -74,6 +75,21 @@ impl Matrix {
         )
     }
 
+    /// The transform of the twelve numbers of a record, which are known to be within the limits:
+    /// nothing is checked.
+    pub fn of_words(words: [i32; 12]) -> Matrix
+        requires { IsMatrix (matrix_of (table_of words)) }
+        ensures { result ≡ matrix_of (table_of words) }
+    {
+        let [ax, ay, az, tx, bx, by, bz, ty, cx, cy, cz, tz] = words;
+        Matrix {
+            a: Vec3::from_words([ax, ay, az]),
+            b: Vec3::from_words([bx, by, bz]),
+            c: Vec3::from_words([cx, cy, cz]),
+            t: Vec3::from_words([tx, ty, tz]),
+        }
+    }
+
     /// The transform that leaves each point where it is.
     pub fn identity() -> Matrix
         ensures { result ≡ identity_value }
@@ -114,16 +130,33 @@ impl Matrix {
         requires { IsShort (2 ^ 19) v }
         ensures { let image = image_of self.now v in SomeIff result (IsShort (2 ^ 19) image) image }
     {
-        let image = Vec3 {
-            x: place(self.a, v, self.t.x),
-            y: place(self.b, v, self.t.y),
-            z: place(self.c, v, self.t.z),
-        };
+        let image = self.image(v);
         if is_short(image, 1 << 19) {
             Some(image)
         } else {
             None
         }
+    }
+
+    /// M v + T, which may be beyond the limits of points.
+    pub fn image(&self, v: Vec3) -> Vec3
+        requires { IsShort (2 ^ 19) v }
+        ensures { result ≡ image_of self.now v }
+    {
+        Vec3 {
+            x: place(self.a, v, self.t.x),
+            y: place(self.b, v, self.t.y),
+            z: place(self.c, v, self.t.z),
+        }
+    }
+
+    /// Whether it leaves each point where it is.
+    #[tactic(auto, using(crate::specs::Equality::identical))]
+    pub fn is_identity(&self) -> bool
+        ensures value { IsTrue result ↔ self.now ≡ identity_value }
+        ensures stays { IsTrue result → (v : Vec3) → image_of self.now v ≡ v }
+    {
+        *self == Matrix::identity()
     }
 }
 

@@ -39,6 +39,15 @@ impl Tri {
         }
     }
 
+    /// The triangle with these vertices, which are known to be within the limits: nothing is
+    /// checked.
+    pub fn of_vertices(v0: Vec3, v1: Vec3, v2: Vec3) -> Tri
+        requires { IsTri (tri_value v0 v1 v2) }
+        ensures { result ≡ tri_value v0 v1 v2 }
+    {
+        Tri { v0, v1, v2 }
+    }
+
     /// The vertices in order, as `new` was given them.
     pub fn vertices(&self) -> [Vec3; 3]
         ensures value { result ≡ vertices_of self.now }

@@ -1,8 +1,8 @@
 -- Words of private calls alone, which a reader of the public contracts needs not: the order of the heap of turns, and its laws. They
 -- stand in specs/, since the `impl`s cite them.
-use Rattle.std.specs.Prelude.{◌≡◌, Bool, true, false, List, map, refl}
+use Rattle.std.specs.Prelude.{◌≡◌, Bool, true, false, All, List, map, refl}
 use Rattle.std.specs.Cmp.{IsTotalOrder, IsPartialOrder, IsEquivalence, IsPartialEquivalence, Agrees, bool_cmp_total, partial_order_from_agreeing_total, partial_equiv_from_equiv}
-use Rattle.std.specs.Ordering.{as_partial_cmp, bool_cmp, eq_by_cmp, nat_cmp, ordering_then}
+use Rattle.std.specs.Ordering.{as_partial_cmp, bool_cmp, eq_by_cmp, is_lt, nat_cmp, ordering_then}
 use Rattle.std.specs.declared.cmp.Ordering.{Ordering}
 use Rattle.std.proofs.lemmas.Cmp.{nat_cmp_total, on_total, then_total, back_total, eq_by_cmp_equiv}
 use Rattle.ray_geom.specs.FracLaws.{frac_cmp-total}
@@ -64,6 +64,10 @@ waiting_cmp x y = turn_cmp (turn_of y) (turn_of x)
 
 pub waiting_cmp-total : IsTotalOrder waiting_cmp
 waiting_cmp-total = back_total (on_total turn_of turn_cmp-total)
+
+-- none of some that wait comes before one
+abbrev pub IsFirst : Waiting → List Waiting → Type 0
+IsFirst w others = All (λ other. is_lt (waiting_cmp w other) ≡ false) others
 
 abbrev pub waiting_eq : Waiting → Waiting → Bool
 waiting_eq = eq_by_cmp waiting_cmp

@@ -1,8 +1,11 @@
-ghost use Rattle.std.specs.Prelude.{◌≡◌, ◌++◌, [], OnOk, option_map};
+ghost use Rattle.std.specs.Prelude.{◌≡◌, ◌++◌, ◌∷◌, [], IfSome, IsTrue, OnOk, option_map};
+ghost use Rattle.std.specs.BinaryHeap.{IsHeap, heap_items};
+ghost use Rattle.std.specs.List.{cons_option};
 ghost use Rattle.std.specs.List.Sorted.{IsPermutation};
+ghost use Rattle.std.specs.Ordering.{is_lt};
 ghost use Rattle.ray_nearest.specs.declared.turn.Turn.TheVariants.{Node, Candidate};
 ghost use Rattle.ray_nearest.specs.Scene.{is_within};
-ghost use Rattle.ray_nearest.specs.TurnLaws.{turn_of};
+ghost use Rattle.ray_nearest.specs.TurnLaws.{IsFirst, turn_of, waiting_cmp};
 ghost use Rattle.ray_nearest.specs.Turns.{IsTaken, turn_within};
 
 use crate::node::WalkNode;
@@ -12,28 +15,34 @@ use ray_query::Found;
 use std::alloc::{AllocError as NoMemory, Global};
 use std::collections::BinaryHeap;
 use std::marker::Model;
+use std::mem;
 
 /// The turns that wait in a walk, of which the first is taken. It keeps its memory from one walk to
 /// the next, that of what was found and played among it. Contracts see it as the list of the turns,
 /// in no order of their own. (Own.)
 #[derive(Drop)]
 pub struct Turns {
+    // The turn that is taken next, if it is known. Most nodes have one child that is met, which is
+    // the next turn; it needs no place in the heap.
+    next: Option<Waiting>,
     heap: BinaryHeap<Waiting>,
     spare: Vec<Box<Found>>,
     alloc: Global,
 }
 
 impl Model for Turns {
-    ghost use Rattle.std.specs.Prelude.{List};
+    ghost use Rattle.std.specs.Prelude.{List, IfSome};
     ghost use Rattle.std.specs.BinaryHeap.{IsHeap, heap_items};
+    ghost use Rattle.std.specs.List.{cons_option};
     ghost use Rattle.ray_nearest.specs.declared.turn.Turn.{Turn};
-    ghost use Rattle.ray_nearest.specs.TurnLaws.{turns_of, waiting_cmp};
+    ghost use Rattle.ray_nearest.specs.TurnLaws.{IsFirst, turns_of, waiting_cmp};
 
     ghost Value = { List Turn };
 
-    ghost view = { λ t. turns_of (heap_items t.heap) };
+    ghost view = { λ t. turns_of (cons_option t.next (heap_items t.heap)) };
 
-    ghost invariant = { λ t. IsHeap waiting_cmp (heap_items t.heap) };
+    ghost invariant = { λ t. IsHeap waiting_cmp (heap_items t.heap)
+        × IfSome t.next (λ w. IsFirst w (heap_items t.heap)) };
 }
 
 impl Turns {
@@ -42,6 +51,7 @@ impl Turns {
         ensures { result ≡ [] }
     {
         Turns {
+            next: None,
             heap: BinaryHeap::new(alloc),
             spare: Vec::new(alloc),
             alloc,
@@ -52,6 +62,7 @@ impl Turns {
     pub fn clear(&mut self)
         ensures { self.new ≡ [] }
     {
+        self.next = None;
         self.heap.clear();
     }
 
@@ -66,7 +77,7 @@ impl Turns {
             (IsPermutation (turn_within limit (Node entry node) ++ self.old) self.new) }
     {
         if is_within(limit, entry) {
-            self.heap.push(Waiting::node(entry, node))?;
+            self.push(Waiting::node(entry, node))?;
         }
         Ok(())
     }
@@ -78,17 +89,35 @@ impl Turns {
     {
         if is_within(limit, Ratio::of(found.t)) {
             let found = boxed(self.alloc, &mut self.spare, found)?;
-            self.heap.push(Waiting::candidate(found))?;
+            self.push(Waiting::candidate(found))?;
         }
         Ok(())
+    }
+
+    // Adds a turn.
+    fn push(&mut self, waiting: Waiting) -> Result<(), NoMemory>
+        ensures { OnOk result (IsPermutation (turn_of waiting ∷ self.old) self.new) }
+    {
+        match place(&mut self.next, &self.heap, waiting) {
+            Some(later) => {
+                self.heap.push(later)?;
+                Ok(())
+            }
+            None => Ok(()),
+        }
     }
 
     // Takes a turn before which none of the others comes. None exactly where none waits.
     pub(crate) fn pop(&mut self) -> Option<Waiting>
         ensures { IsTaken self.old (option_map turn_of result) self.new }
     {
-        let first = self.heap.pop()?;
-        Some(first)
+        match self.next.take() {
+            Some(next) => Some(next),
+            None => {
+                let first = self.heap.pop()?;
+                Some(first)
+            }
+        }
     }
 
     // Keeps the box of what was played for what is found next. Without memory it is dropped.
@@ -97,6 +126,56 @@ impl Turns {
     {
         let _refused = self.spare.push(found);
     }
+}
+
+// Makes a turn the next one, if it comes before all others. Gives the one that belongs into the
+// heap, if there is one.
+fn place(
+    next: &mut Option<Waiting>,
+    heap: &BinaryHeap<Waiting>,
+    waiting: Waiting,
+) -> Option<Waiting>
+    requires heap { IsHeap waiting_cmp (heap_items heap.now) }
+    requires next { IfSome next.old (λ w. IsFirst w (heap_items heap.now)) }
+    ensures same { IsPermutation (waiting ∷ cons_option next.old (heap_items heap.now))
+        (cons_option next.new (cons_option result (heap_items heap.now))) }
+    ensures next { IfSome next.new (λ w. IsFirst w (cons_option result (heap_items heap.now))) }
+{
+    match next {
+        Some(first) => {
+            if comes_before(&waiting, first) {
+                Some(mem::replace(first, waiting))
+            } else {
+                Some(waiting)
+            }
+        }
+        None => {
+            if is_first(heap, &waiting) {
+                *next = Some(waiting);
+                None
+            } else {
+                Some(waiting)
+            }
+        }
+    }
+}
+
+// Whether none of those in a heap comes before one.
+fn is_first(heap: &BinaryHeap<Waiting>, waiting: &Waiting) -> bool
+    requires { IsHeap waiting_cmp (heap_items heap.now) }
+    ensures { IsTrue result → IsFirst waiting.now (heap_items heap.now) }
+{
+    match heap.peek() {
+        Some(other) => !comes_before(other, waiting),
+        None => true,
+    }
+}
+
+// Whether a turn comes before another.
+fn comes_before(waiting: &Waiting, other: &Waiting) -> bool
+    ensures { result ≡ is_lt (waiting_cmp other.now waiting.now) }
+{
+    other.cmp(waiting).is_lt()
 }
 
 // Whether a distance is within a limit.

@@ -55,7 +55,7 @@ fn image(m: &Matrix, p: Vec3) -> Vec3
     requires kept { IsShort (2 ^ 19) (image_of m.now p) }
     ensures { result ≡ image_of m.now p }
 {
-    m.apply(p).unwrap()
+    m.image(p)
 }
 
 // The union of what there is so far and the box of one point more.

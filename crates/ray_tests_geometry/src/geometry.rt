@@ -85,6 +85,8 @@ fn limits_transforms(rt: HostRuntime) {
     assert_eq!(rt; matrix.rows(), turned);
     assert_eq!(rt; matrix.apply(at(1, 2, 3)), Some(at(5, 34, -23)));
     assert_eq!(rt; matrix.apply(at(262144, 0, 0)), None);
+    assert_eq!(rt; matrix.image(at(262144, 0, 0)), at(524289, 2, 262147));
+    assert!(rt; Matrix::identity().is_identity() && !matrix.is_identity());
 }
 
 #[test]

@@ -89,7 +89,7 @@ impl Placed {
     pub(crate) fn matrix(&self) -> Matrix
         ensures { result ≡ self.now.matrix }
     {
-        Matrix::from_words(self.rows).unwrap()
+        Matrix::of_words(self.rows)
     }
 }
 

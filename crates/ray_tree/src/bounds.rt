@@ -42,7 +42,7 @@ impl Bounds {
     pub fn wide(&self) -> Box3
         ensures { result ≡ self.now }
     {
-        Box3::new(self.lo.wide(), self.hi.wide()).unwrap()
+        Box3::of_corners(self.lo.wide(), self.hi.wide())
     }
 
     // The least box of two boxes.

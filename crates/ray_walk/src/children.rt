@@ -1,5 +1,5 @@
 //! What is below a wide node of a structure, and its root.
-ghost use Rattle.std.specs.Prelude.{ℕ, ◌≡◌, ◌<◌, ◌≤◌, OnOk, SomeIff, length};
+ghost use Rattle.std.specs.Prelude.{ℕ, ◌≡◌, ◌<◌, ◌≤◌, OnOk, length};
 ghost use Rattle.std.specs.List.{flat_map};
 ghost use Rattle.ray_geom.specs.Boxes.{IsBox};
 ghost use Rattle.ray_geom.specs.Vector.{vec3};
@@ -99,18 +99,16 @@ fn push_lane(
     ensures { let box = lane_box lanes.now k in OnOk result (AddsOne
         (AddsNode limit (λ n. entry_in trees.now.ray.now box) node) turns.old turns.new) }
 {
-    match lane_box(lanes, k) {
-        Some(bounds) => push_met(turns, limit, trees.ray, &bounds, node),
-        None => Ok(()),
-    }
+    push_met(turns, limit, trees.ray, &lane_box(lanes, k), node)
 }
 
-// The box of a lane, if it is within the limits.
-fn lane_box(lanes: &Lanes8, k: u32) -> Option<Box3>
-    requires { k < 8 }
-    ensures { let box = lane_box lanes.now k in SomeIff result (IsBox box) box }
+// The box of a lane.
+fn lane_box(lanes: &Lanes8, k: u32) -> Box3
+    requires few { k < 8 }
+    requires limits { IsBox (lane_box lanes.now k) }
+    ensures { result ≡ lane_box lanes.now k }
 {
-    Box3::new(corner(&lanes.lo, k), corner(&lanes.hi, k))
+    Box3::of_corners(corner(&lanes.lo, k), corner(&lanes.hi, k))
 }
 
 // A corner of the box of a lane.

@@ -1,7 +1,12 @@
 use Rattle.std.proofs.Common.{◌∙◌}
-use Rattle.ray_bottom.proofs.Held.{hit_in_world-is}
+use Rattle.ray_bottom.proofs.Held.{hit_in_world-is, world_tri-stays}
 use Rattle.ray_bottom.proofs.testing.hit.Goals as goal
 
-pub returns : goal.returns
-returns c =
+pub returns-then-is_identity : goal.returns-then-is_identity
+returns-then-is_identity c =
+    let (m, tri) = (c.args.m.now, c.args.tri.now) in
+    c.world_hit.ensures ∙ hit_in_world-is c.args.ray.now m tri tri (world_tri-stays m tri (c.is_identity.ensures.stays c.then-is_identity))
+
+pub returns-else-is_identity : goal.returns-else-is_identity
+returns-else-is_identity c =
     c.world_hit.ensures ∙ hit_in_world-is c.args.ray.now c.args.m.now c.args.tri.now c.world.result c.world.ensures

@@ -5,8 +5,8 @@ use Rattle.ray_nearest.specs.Adding.{AddsNode, AddsOne}
 use Rattle.ray_walk.specs.Traced.{entry_in}
 use Rattle.ray_walk.proofs.children.push_lane.Goals as goal
 
-pub returns-in-Some : goal.returns-in-Some
-returns-in-Some c =
+pub returns : goal.returns
+returns c =
     on_ok_weaker c.push_met.result
     (λ one. subst (λ (b : BoxValue). AddsOne (AddsNode c.args.limit (λ n. entry_in c.args.trees.now.ray.now b) c.args.node) c.args.turns.now c.push_met.new.turns)
-    c.in-Some.ensures.1 one) c.push_met.ensures
+    c.lane_box.ensures one) c.push_met.ensures
