@@ -1,4 +1,4 @@
-ghost use Rattle.std.specs.Prelude.{◌≡◌, ◌↔◌, ◌<◌, All, IfOk, IfSome, [], None, Some, length, map, slice_get, option_map};
+ghost use Rattle.std.specs.Prelude.{◌≡◌, ◌↔◌, ◌+◌, ◌<◌, ◌≤◌, All, IfOk, IfSome, [], None, Some, length, map, slice_get, option_map};
 ghost use Rattle.ray_geom.specs.LeastBoxes.{HoldsBoxes, IsLeast};
 ghost use Rattle.ray_bytes.specs.StructureSizes.{compacted_size};
 ghost use Rattle.ray_bottom.specs.Contents.{bounds_of, total_of, active_of, active_boxes};
@@ -7,6 +7,7 @@ ghost use Rattle.ray_bottom.specs.LeafItems.{IsItemOf, items_below, place_of_ite
 ghost use Rattle.ray_bottom.specs.Slots.{IsSound};
 ghost use Rattle.ray_bottom.specs.Trees.{without_tree, items_of, places_below};
 ghost use Rattle.ray_tree.specs.Trees.{TreeOver};
+ghost use Rattle.ray_wide.specs.Subtrees.{IsWideLeaf};
 ghost use Rattle.ray_wide.specs.Wides.{WideOver};
 
 use crate::contents::Contents;
@@ -18,7 +19,7 @@ use ray_flags::{BuildFlags, Kind};
 use ray_geom::Box3;
 use ray_hierarchy::Hierarchy;
 use ray_tree::{Node, Tree};
-use ray_wide::Wide;
+use ray_wide::{Wide, WideLeaf};
 use std::alloc::{AllocError as NoMemory, Global};
 use std::marker::Model;
 
@@ -119,6 +120,33 @@ impl Bottom {
         ensures held { All (IsItemOf self.now.geometries) result.now }
     {
         self.items_below(leaf)
+    }
+
+    /// The same, of a leaf as the wide tree names it: the binary tree isn't asked.
+    pub fn items_of_leaf(&self, leaf: WideLeaf) -> &[LeafItem]
+        requires { IsWideLeaf self.now.tree.nodes leaf }
+        ensures places { map place_of_item result.now ≡ places_below self.now leaf.node }
+        ensures held { All (IsItemOf self.now.geometries) result.now }
+    {
+        self.items_between(leaf)
+    }
+
+    // The same, as it is kept.
+    fn items_between(&self, leaf: WideLeaf) -> &[LeafItem]
+        requires { IsWideLeaf self.now.tree.nodes leaf }
+        ensures { result.now ≡ items_below self.now leaf.node }
+    {
+        self.fits(leaf);
+        let first = leaf.first as usize;
+        &self.leaf_items[first..first + leaf.count as usize]
+    }
+
+    // The places of a leaf are among those of the tree.
+    fn fits(&self, _leaf: WideLeaf)
+        requires { IsWideLeaf self.now.tree.nodes _leaf }
+        ensures { _leaf.first + _leaf.count ≤ length self.now.tree.order }
+    {
+        self.tree().shape();
     }
 
     // The same, as it is kept.

@@ -1,6 +1,6 @@
 use ray_geom::{Box3, Vec3};
 use ray_tree::build_median;
-use ray_wide::{Wide, WideRef, collapse};
+use ray_wide::{Wide, WideLeaf, WideRef, collapse};
 use std::alloc::{AllocError as NoMemory, Global};
 
 // So many boxes in a row: box i is from (i, 0, 0) to (i, 1, 1).
@@ -39,14 +39,23 @@ fn collapsed(alloc: Global, many: u32) -> Result<Option<(usize, usize, WideRef)>
     Ok(Some((wide.nodes(), children(&wide), wide.root())))
 }
 
+// The leaf of a tree of one node, over so many items.
+fn one_leaf(count: u32) -> WideLeaf {
+    WideLeaf {
+        node: 0,
+        first: 0,
+        count,
+    }
+}
+
 #[test]
 fn collapses_rows(rt: HostRuntime) -> Result<(), NoMemory> {
     // 5 boxes have two leaves, 9 have three, 64 have sixteen: eight children of two leaves each.
     // 1,000 in halves come to 256 leaves of 3 or 4: eight children of eight of four leaves each.
     let rows = [
         (0, 0, 0, WideRef::Empty),
-        (1, 0, 0, WideRef::Leaf(0)),
-        (4, 0, 0, WideRef::Leaf(0)),
+        (1, 0, 0, WideRef::Leaf(one_leaf(1))),
+        (4, 0, 0, WideRef::Leaf(one_leaf(4))),
         (5, 1, 2, WideRef::Inner(0)),
         (9, 1, 3, WideRef::Inner(0)),
         (64, 9, 8, WideRef::Inner(0)),

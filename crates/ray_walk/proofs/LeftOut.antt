@@ -98,7 +98,7 @@ entry-inner tree wide object (Object i) w = refl
 -- the root has a box, and so has each child
 pub root-box : (tree : TreeValue) (wide : WideValue) (root : WideRef) → IsRoot tree.nodes wide.tops root → HasBox tree wide root
 root-box tree wide wides.Empty is = tt
-root-box tree wide (wides.Leaf n) (leaf, first, few) = subst (λ m. m < length tree.nodes) (sym first) leaf.small
+root-box tree wide (wides.Leaf leaf) (is, first, few) = is.node.small
 root-box tree wide (wides.Inner w) (top, first, some, start) = (
   omega (arith, first, some),
   subst (λ m. m < length tree.nodes) (sym (ap (top_at wide.tops) first ∙ start)) top.small,
@@ -107,33 +107,38 @@ root-box tree wide (wides.Inner w) (top, first, some, start) = (
 module _ (tree : TreeValue) (wide : WideValue) (trees : AreTrees tree wide) where
   child-box : (from : ℕ) (c : WideRef) → IsChild tree.nodes wide.tops from c → HasBox tree wide c
   child-box from wides.Empty is = tt
-  child-box from (wides.Leaf n) is = is.small
+  child-box from (wides.Leaf leaf) is = is.node.small
   child-box from (wides.Inner v) is =
       let topped = trees.over.collapsed.topped in
       let within = is.1 in
       (within, (trees.over.collapsed.each v (omega (arith, topped, within))).top.small)
 
-  pub box-at : (w k : ℕ) → w < length wide.nodes → k < 8 → HasBox tree wide (child_at (children_in wide.nodes w) k)
-  box-at w k small few =
+  is-child : (w k : ℕ) → w < length wide.nodes → k < 8 → IsChild tree.nodes wide.tops (w + 1) (child_at (children_in wide.nodes w) k)
+  is-child w k small few =
       let node = trees.over.collapsed.each w small in
       let eight = node.eight in
-      child-box (w + 1) (child_at (children_in wide.nodes w) k)
-      (All-get_or (IsChild tree.nodes wide.tops (w + 1)) (children_in wide.nodes w) k wides.Empty (omega (arith, eight, few)) node.each)
+      All-get_or (IsChild tree.nodes wide.tops (w + 1)) (children_in wide.nodes w) k wides.Empty (omega (arith, eight, few)) node.each
 
-  lane-by : (w k : ℕ) → w < length wide.nodes → k < 8 → (c : WideRef) → child_at (children_in wide.nodes w) k ≡ c → HasBox tree wide c
-      → HasLane tree wide (lanes_in wide.nodes w) k c
-  lane-by w k small few wides.Empty is box = tt
-  lane-by w k small few (wides.Leaf n) is box = record {
-    same = lane-is tree wide.tops (lanes_in wide.nodes w) k (wides.Leaf n) (subst (IsLane tree wide.tops (lanes_in wide.nodes w) k) is (trees.over.lanes w k small few)) refl;
-    limits = trees.limits n box;
-  }
-  lane-by w k small few (wides.Inner v) is box = record {
+  pub box-at : (w k : ℕ) → w < length wide.nodes → k < 8 → HasBox tree wide (child_at (children_in wide.nodes w) k)
+  box-at w k small few = child-box (w + 1) (child_at (children_in wide.nodes w) k) (is-child w k small few)
+
+  lane-by : (w k : ℕ) → w < length wide.nodes → k < 8 → (c : WideRef) → child_at (children_in wide.nodes w) k ≡ c
+      → IsChild tree.nodes wide.tops (w + 1) c → HasBox tree wide c → HasLane tree wide (lanes_in wide.nodes w) k c
+  lane-by w k small few wides.Empty is one box = tt
+  lane-by w k small few (wides.Leaf leaf) is one box = (
+    record {
+      same = lane-is tree wide.tops (lanes_in wide.nodes w) k (wides.Leaf leaf) (subst (IsLane tree wide.tops (lanes_in wide.nodes w) k) is (trees.over.lanes w k small few)) refl;
+      limits = trees.limits leaf.node box;
+    },
+    one,
+  )
+  lane-by w k small few (wides.Inner v) is one box = record {
     same = lane-is tree wide.tops (lanes_in wide.nodes w) k (wides.Inner v) (subst (IsLane tree wide.tops (lanes_in wide.nodes w) k) is (trees.over.lanes w k small few)) refl;
     limits = trees.limits (top_at wide.tops v) box.1;
   }
 
   pub lane-at : (w k : ℕ) → w < length wide.nodes → k < 8 → HasLane tree wide (lanes_in wide.nodes w) k (child_at (children_in wide.nodes w) k)
-  lane-at w k small few = lane-by w k small few (child_at (children_in wide.nodes w) k) refl (box-at w k small few)
+  lane-at w k small few = lane-by w k small few (child_at (children_in wide.nodes w) k) refl (is-child w k small few) (box-at w k small few)
 
   module _ (object : ObjectRayValue) (ray : IsObjectRay object) (limit : Option Ratio) (level : Level) (w k : ℕ) (small : w < length wide.nodes) (few : k < 8)
       (none : Overlaps (lanes_in wide.nodes w) (window_of object limit) k → ⊥) where
@@ -148,9 +153,9 @@ module _ (tree : TreeValue) (wide : WideValue) (trees : AreTrees tree wide) wher
 
     out-by : (c : WideRef) → child_at (children_in wide.nodes w) k ≡ c → HasBox tree wide c → All IsOut (child level c)
     out-by wides.Empty is box = All-nil IsOut
-    out-by (wides.Leaf n) is box =
-        All-cons IsOut (leaf_at level n) []
-        (ap (is_open limit) (entry-leaf tree wide object level n) ∙ out-at (wides.Leaf n) is refl box) (All-nil IsOut)
+    out-by (wides.Leaf leaf) is box =
+        All-cons IsOut (leaf_at level leaf.node) []
+        (ap (is_open limit) (entry-leaf tree wide object level leaf.node) ∙ out-at (wides.Leaf leaf) is refl box) (All-nil IsOut)
     out-by (wides.Inner v) is box =
         All-cons IsOut (inner_at level v) []
         (ap (is_open limit) (entry-inner tree wide object level v) ∙ out-at (wides.Inner v) is refl box.1) (All-nil IsOut)

@@ -122,14 +122,15 @@ IsOfObject s p n = entry_by p.bottom.tree p.bottom.wide (object_of s.ray p.insta
 
 pub world-entries : (s : Traced) (c : WideRef) → All (IsOfWorld s) (child World c)
 world-entries s wides.Empty = All-nil (IsOfWorld s)
-world-entries s (wides.Leaf n) = All-cons (IsOfWorld s) (TopLeaf n) [] refl (All-nil (IsOfWorld s))
+world-entries s (wides.Leaf leaf) = All-cons (IsOfWorld s) (TopLeaf leaf.node) [] refl (All-nil (IsOfWorld s))
 world-entries s (wides.Inner w) = All-cons (IsOfWorld s) (TopInner w) [] refl (All-nil (IsOfWorld s))
 
 pub object-entries : (s : Traced) (i : ℕ) (p : Placement) → placement_at s i ≡ Some p → (c : WideRef)
     → All (IsOfObject s p) (child (Object i) c)
 object-entries s i p is wides.Empty = All-nil (IsOfObject s p)
-object-entries s i p is (wides.Leaf n) =
-    All-cons (IsOfObject s p) (Leaf i n) [] (sym (ap (λ (o : Option Placement). option_and_then (λ (q : Placement). entry_of_placement s.ray q n) o) is)) (All-nil (IsOfObject s p))
+object-entries s i p is (wides.Leaf leaf) =
+    All-cons (IsOfObject s p) (Leaf i leaf.node) []
+    (sym (ap (λ (o : Option Placement). option_and_then (λ (q : Placement). entry_of_placement s.ray q leaf.node) o) is)) (All-nil (IsOfObject s p))
 object-entries s i p is (wides.Inner w) =
     All-cons (IsOfObject s p) (Inner i w) [] (sym (ap (λ (o : Option Placement). option_and_then (λ (q : Placement). entry_of_placement s.ray q (subtree_of w o)) o) is)) (All-nil (IsOfObject s p))
 

@@ -13,6 +13,7 @@ use Rattle.ray_tree.specs.Shapes.{node_at}
 use Rattle.ray_tree.specs.Trees.{TreeValue, IsShape, shape_at}
 use Rattle.ray_tree.specs.Local.{IsLeaf}
 use Rattle.ray_tree.specs.Waits.{weight}
+use Rattle.ray_wide.specs.declared.node.WideLeaf.{WideLeaf}
 use Rattle.ray_wide.specs.declared.node.WideRef.{WideRef}
 use Rattle.ray_wide.specs.declared.node.WideRef.TheVariants as wides
 use Rattle.ray_wide.specs.Subtrees.{leaves_at}
@@ -53,7 +54,7 @@ module _ {Y : Type 0} (tree : TreeValue) (shape : IsShape tree) (G L : ℕ → L
 -- ---- a wide tree over its leaves
 
 module _ {Y : Type 0} (tree : TreeValue) (wide : WideValue) (shape : IsShape tree) (over : IsCollapsed wide tree.nodes) (G : WideRef → List Y) (L : ℕ → List Y)
-    (empty : G wides.Empty ≡ []) (leaf : (n : ℕ) → n < length tree.nodes → G (wides.Leaf n) ≡ L n)
+    (empty : G wides.Empty ≡ []) (leaf : (leaf : WideLeaf) → leaf.node < length tree.nodes → G (wides.Leaf leaf) ≡ L leaf.node)
     (inner : (w : ℕ) → w < length wide.nodes → G (wides.Inner w) ≡ flat_map G (children_in wide.nodes w)) where
   of-children : (from : ℕ) → ((c : WideRef) → IsChild tree.nodes wide.tops from c → G c ≡ flat_map L (leaves_for tree.nodes wide.tops c))
       → (cs : List WideRef) → All (IsChild tree.nodes wide.tops from) cs → flat_map G cs ≡ flat_map L (leaves_below tree.nodes wide.tops cs)
@@ -67,7 +68,8 @@ module _ {Y : Type 0} (tree : TreeValue) (wide : WideValue) (shape : IsShape tre
   at-child : (from : ℕ) → ((w : ℕ) → from ≤ w → w < length wide.nodes → (c : WideRef) → IsChild tree.nodes wide.tops (w + 1) c → G c ≡ flat_map L (leaves_for tree.nodes wide.tops c))
       → (c : WideRef) → IsChild tree.nodes wide.tops from c → G c ≡ flat_map L (leaves_for tree.nodes wide.tops c)
   at-child from each wides.Empty is = empty
-  at-child from each (wides.Leaf n) is = leaf n is.small ∙ (sym (flat-one L n) ∙ sym (ap (flat_map L) (one_leaf tree shape n is)))
+  at-child from each (wides.Leaf l) is =
+      leaf l is.node.small ∙ (sym (flat-one L l.node) ∙ sym (ap (flat_map L) (one_leaf tree shape l.node is.node)))
   at-child from each (wides.Inner w) is =
       let topped = over.topped in
       let low = is.0 in
@@ -102,10 +104,10 @@ module _ {X Y : Type 0} (tree : TreeValue) (wide : WideValue) (over : IsCollapse
     (F : X → List Y) (root : X) (gives : 0 < length tree.nodes → F root ≡ flat_map L (leaves_at tree.nodes 0)) where
   by-root : (r : WideRef) → IsRoot tree.nodes wide.tops r → G r ≡ flat_map F (root_in tree.nodes root)
   by-root wides.Empty (none, few) = empty ∙ sym (no-root F tree.nodes root none)
-  by-root (wides.Leaf n) (leaf, first, few) =
-      let is : IsChild tree.nodes wide.tops 0 (wides.Leaf n) = subst (λ m. IsChild tree.nodes wide.tops 0 (wides.Leaf m)) (sym first) leaf in
-      wide_gives (wides.Leaf n) is
-      ∙ (ap (λ m. flat_map L (leaves_at tree.nodes m)) first ∙ (sym (gives leaf.small) ∙ sym (some-root F tree.nodes root leaf.small)))
+  by-root (wides.Leaf l) (is, first, few) =
+      let small : 0 < length tree.nodes = subst (λ m. m < length tree.nodes) first is.node.small in
+      wide_gives (wides.Leaf l) is
+      ∙ (ap (λ m. flat_map L (leaves_at tree.nodes m)) first ∙ (sym (gives small) ∙ sym (some-root F tree.nodes root small)))
   by-root (wides.Inner w) (top, first, some, start) =
       wide_gives (wides.Inner w) (omega arith, omega (arith, first, some))
       ∙ (ap (λ m. flat_map L (leaves_for tree.nodes wide.tops (wides.Inner m))) first

@@ -59,7 +59,7 @@ nested-as {outer} {inner} {o} {i} out within nests = subst (λ x. Nests x inner)
 pub lane-is : (tree : TreeValue) (ts : List ℕ) (lanes : Lanes8) (k : ℕ) (c : WideRef) → IsLane tree ts lanes k c → is_there c ≡ true
     → lane_box lanes k ≡ box_at tree no_box (node_for ts c)
 lane-is tree ts lanes k wides.Empty lane there = absurd (cc)
-lane-is tree ts lanes k (wides.Leaf n) lane there = lane no_box
+lane-is tree ts lanes k (wides.Leaf leaf) lane there = lane no_box
 lane-is tree ts lanes k (wides.Inner v) lane there = lane no_box
 
 module _ (tree : TreeValue) (wide : WideValue) (items : List (Option BoxValue)) (tree_over : TreeOver tree items) (over : WideOver wide tree) where
@@ -131,11 +131,11 @@ module _ (s : Traced) (w : IsWalkable s) where
   under-top : (v k : ℕ) → v < length s.top.wide.nodes → k < 8 → (c : WideRef) → child_at (children_in s.top.wide.nodes v) k ≡ c
       → IsChild s.top.tree.nodes s.top.wide.tops (v + 1) c → All (IsUnder (TopInner v)) (child World c)
   under-top v k small few wides.Empty is child = All-nil (IsUnder (TopInner v))
-  under-top v k small few (wides.Leaf n) is child =
-      All-one (IsUnder (TopInner v)) (TopLeaf n) (record {
-        known = record { there = child.small };
+  under-top v k small few (wides.Leaf leaf) is child =
+      All-one (IsUnder (TopInner v)) (TopLeaf leaf.node) (record {
+        known = record { there = child.node.small };
         lower = omega arith;
-        nests = nests-child s.top.tree s.top.wide (tops.items_of (tops.without_tree s.top)) w.over w.wide (object_of s.ray identity_value) v k small few (wides.Leaf n) is refl;
+        nests = nests-child s.top.tree s.top.wide (tops.items_of (tops.without_tree s.top)) w.over w.wide (object_of s.ray identity_value) v k small few (wides.Leaf leaf) is refl;
       })
   under-top v k small few (wides.Inner u) is child =
       let topped = w.wide.collapsed.topped in
@@ -153,13 +153,13 @@ module _ (s : Traced) (w : IsWalkable s) where
     under-bottom : (v k : ℕ) → v < length p.bottom.wide.nodes → k < 8 → (c : WideRef) → child_at (children_in p.bottom.wide.nodes v) k ≡ c
         → IsChild p.bottom.tree.nodes p.bottom.wide.tops (v + 1) c → All (IsUnder (Inner i v)) (child (Object i) c)
     under-bottom v k small few wides.Empty is child = All-nil (IsUnder (Inner i v))
-    under-bottom v k small few (wides.Leaf n) is child =
+    under-bottom v k small few (wides.Leaf leaf) is child =
         let rank = ap (rank_by v) placed in
-        All-one (IsUnder (Inner i v)) (Leaf i n) (record {
-          known = record { placement = p; is_it = placed; there = child.small };
+        All-one (IsUnder (Inner i v)) (Leaf i leaf.node) (record {
+          known = record { placement = p; is_it = placed; there = child.node.small };
           lower = omega (arith, rank);
-          nests = nested-as (entry-inner i v p placed) (entry-leaf i n p placed)
-              (nests-child p.bottom.tree p.bottom.wide (bottoms.items_of p.bottom.geometries) sound.over sound.wide (object_of s.ray p.instance.matrix) v k small few (wides.Leaf n) is refl);
+          nests = nested-as (entry-inner i v p placed) (entry-leaf i leaf.node p placed)
+              (nests-child p.bottom.tree p.bottom.wide (bottoms.items_of p.bottom.geometries) sound.over sound.wide (object_of s.ray p.instance.matrix) v k small few (wides.Leaf leaf) is refl);
         })
     under-bottom v k small few (wides.Inner u) is child =
         let topped = sound.wide.collapsed.topped in
@@ -180,11 +180,12 @@ module _ (s : Traced) (w : IsWalkable s) where
   module _ (n : ℕ) (there : n < length s.top.tree.nodes) (j : ℕ) (m : Member j (items_at s.top.tree n)) (p : Placement) (placed : placement_at s j ≡ Some p) where
     under-root : (c : WideRef) → IsRoot p.bottom.tree.nodes p.bottom.wide.tops c → All (IsUnder (TopLeaf n)) (child (Object j) c)
     under-root wides.Empty root = All-nil (IsUnder (TopLeaf n))
-    under-root (wides.Leaf k) (leaf, first, few) =
-        All-one (IsUnder (TopLeaf n)) (Leaf j k) (record {
-          known = record { placement = p; is_it = placed; there = subst (λ q. q < length p.bottom.tree.nodes) (sym first) leaf.small };
+    under-root (wides.Leaf leaf) (is, first, few) =
+        let small : 0 < length p.bottom.tree.nodes = subst (λ q. q < length p.bottom.tree.nodes) first is.node.small in
+        All-one (IsUnder (TopLeaf n)) (Leaf j leaf.node) (record {
+          known = record { placement = p; is_it = placed; there = is.node.small };
           lower = omega arith;
-          nests = subst (λ q. Nests (top_entry s n) (bottom_entry s j q)) (sym first) (nests_root s n j p w there m placed leaf.small);
+          nests = subst (λ q. Nests (top_entry s n) (bottom_entry s j q)) (sym first) (nests_root s n j p w there m placed small);
         })
     under-root (wides.Inner v) (top, first, some, start) =
         let sound = sound-at j p placed in
@@ -222,8 +223,8 @@ module _ (s : Traced) (w : IsWalkable s) where
 
   top-known : (c : WideRef) → IsRoot s.top.tree.nodes s.top.wide.tops c → All (IsWideNode s) (child World c)
   top-known wides.Empty root = All-nil (IsWideNode s)
-  top-known (wides.Leaf n) (leaf, first, few) =
-      All-one (IsWideNode s) (TopLeaf n) (record { there = subst (λ q. q < length s.top.tree.nodes) (sym first) leaf.small })
+  top-known (wides.Leaf leaf) (is, first, few) =
+      All-one (IsWideNode s) (TopLeaf leaf.node) (record { there = is.node.small })
   top-known (wides.Inner v) (top, first, some, start) =
       let topped = w.wide.collapsed.topped in
       All-one (IsWideNode s) (TopInner v) (record { there = omega (arith, topped, first, some) })

@@ -7,6 +7,7 @@ use Rattle.ray_tree.specs.declared.node.Node.{Node}
 use Rattle.ray_tree.specs.declared.node.Node.TheVariants as nodes
 use Rattle.ray_tree.specs.Shapes.{node_at}
 use Rattle.ray_tree.specs.Trees.{IsShape}
+use Rattle.ray_wide.specs.declared.node.WideLeaf.{WideLeaf}
 use Rattle.ray_wide.specs.declared.node.WideRef.{WideRef}
 use Rattle.ray_wide.specs.declared.node.WideRef.TheVariants as wides
 use Rattle.ray_wide.specs.Wides.{WideOver, children_in}
@@ -76,8 +77,9 @@ module _ {Y : Type 0} (s : Traced) (w : IsWalkable s) (binary : AreParts (IsNode
         ∙ (ap (λ (o : Option Placement). flat_map from_b (children_of i n o)) placed
         ∙ (ap (λ (node : Node). flat_map from_b (children i p.bottom.tree node)) e ∙ two from_b (ref i p.bottom.tree l) (ref i p.bottom.tree r))))
 
-    child-leaf : (n : ℕ) → n < length p.bottom.tree.nodes → flat_map from_w (child (Object i) (wides.Leaf n)) ≡ hb (Leaf i n)
-    child-leaf n there =
+    child-leaf : (leaf : WideLeaf) → leaf.node < length p.bottom.tree.nodes → flat_map from_w (child (Object i) (wides.Leaf leaf)) ≡ hb (Leaf i leaf.node)
+    child-leaf leaf there =
+        let n = leaf.node in
         flat-one from_w (Leaf i n)
         ∙ (given-is (IsWideNode s) (wide_parts s) broad hw (Leaf i n) (record { placement = p; is_it = placed; there = there })
         ∙ (append-nil (hw (Leaf i n)) ∙ same i n))
@@ -128,8 +130,8 @@ module _ {Y : Type 0} (s : Traced) (w : IsWalkable s) (binary : AreParts (IsNode
       ∙ (given-below (IsNode s) (parts_of s) binary hb (TopInner n) (record { there = there }) (of_b.top_inner n)
       ∙ (ap (λ (node : Node). flat_map from_b (top_children s.top.tree node)) e ∙ two from_b (top_ref s.top.tree l) (top_ref s.top.tree r)))
 
-  top-child-leaf : (n : ℕ) → n < length s.top.tree.nodes → flat_map from_w (child World (wides.Leaf n)) ≡ from_b (TopLeaf n)
-  top-child-leaf n there = flat-one from_w (TopLeaf n) ∙ top-leaf-same n there
+  top-child-leaf : (leaf : WideLeaf) → leaf.node < length s.top.tree.nodes → flat_map from_w (child World (wides.Leaf leaf)) ≡ from_b (TopLeaf leaf.node)
+  top-child-leaf leaf there = flat-one from_w (TopLeaf leaf.node) ∙ top-leaf-same leaf.node there
 
   top-child-inner : (v : ℕ) → v < length s.top.wide.nodes
       → flat_map from_w (child World (wides.Inner v)) ≡ flat_map (λ (c : WideRef). flat_map from_w (child World c)) (children_in s.top.wide.nodes v)

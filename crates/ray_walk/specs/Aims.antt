@@ -8,6 +8,7 @@ use Rattle.ray_geom.specs.ObjectRay.{ObjectRayValue}
 use Rattle.ray_tree.specs.Trees.{TreeValue, box_at}
 use Rattle.ray_wide.specs.declared.node.WideRef.{WideRef}
 use Rattle.ray_wide.specs.declared.node.WideRef.TheVariants as wides
+use Rattle.ray_wide.specs.Subtrees.{IsWideLeaf}
 use Rattle.ray_wide.specs.Wides.{WideValue, WideOver, lane_box, top_at}
 use Rattle.ray_lanes.specs.declared.lanes.Lanes8.{Lanes8}
 use Rattle.ray_lanes.specs.declared.lanes.Window.{Window}
@@ -48,17 +49,17 @@ pub record AreTrees (tree : TreeValue) (wide : WideValue) : Type 0 where
 -- a child has a box
 abbrev pub HasBox : TreeValue → WideValue → WideRef → Type 0
 HasBox tree wide wides.Empty = Unit {0}
-HasBox tree wide (wides.Leaf n) = n < length tree.nodes
+HasBox tree wide (wides.Leaf leaf) = leaf.node < length tree.nodes
 HasBox tree wide (wides.Inner w) = (w < length wide.tops) × (top_at wide.tops w < length tree.nodes)
 
--- a child has the box of its lane
+-- a child has the box of its lane, and a leaf its places
 pub record HasLaneBox (lanes : Lanes8) (k : ℕ) (box : BoxValue) : Type 0 where
   pub same : lane_box lanes k ≡ box
   pub limits : IsBox box
 
 abbrev pub HasLane : TreeValue → WideValue → Lanes8 → ℕ → WideRef → Type 0
 HasLane tree wide lanes k wides.Empty = Unit {0}
-HasLane tree wide lanes k (wides.Leaf n) = HasLaneBox lanes k (box_at tree no_box n)
+HasLane tree wide lanes k (wides.Leaf leaf) = HasLaneBox lanes k (box_at tree no_box leaf.node) × IsWideLeaf tree.nodes leaf
 HasLane tree wide lanes k (wides.Inner w) = HasLaneBox lanes k (box_at tree no_box (top_at wide.tops w))
 
 -- from where a ray is in the box of a node of these trees

@@ -14,6 +14,7 @@ use Rattle.ray_query.specs.declared.found.Found.{Found}
 use Rattle.ray_nearest.specs.declared.node.WalkNode.{WalkNode}
 use Rattle.ray_nearest.specs.declared.turn.Turn.{Turn}
 use Rattle.ray_nearest.specs.Adding.{Adds, AddsFound, AddsNode}
+use Rattle.ray_wide.specs.Subtrees.{IsWideLeaf}
 use Rattle.ray_walk.specs.Candidates.{found_at, placed}
 use Rattle.ray_walk.specs.declared.aim.Aim.{Aim}
 use Rattle.ray_walk.specs.declared.held.Held.{Held}
@@ -48,12 +49,14 @@ placement_value looked = record { instance = instance_of looked.instance; bottom
 pub record IsInWorld (s : Traced) (world : Aim) : Type 0 where
   pub ray_is : world.ray ≡ object_of s.ray identity_value
   pub aimed : IsAimed world
+  pub recent : IfSome world.recent (IsWideLeaf s.top.tree.nodes)
 
 -- an instance of a number that is looked at: it is placed, and the ray is in its object's space
 pub record IsLookedAt (s : Traced) (number : ℕ) (looked : Looked) (aim : Aim) : Type 0 where
   pub placed : placement_at s number ≡ Some (placement_value looked)
   pub ray_is : aim.ray ≡ object_of s.ray looked.instance.matrix
   pub aimed : IsAimed aim
+  pub recent : IfSome aim.recent (IsWideLeaf looked.bottom.now.tree.nodes)
 
 -- one that is held
 abbrev pub IsHeld : Traced → Held → Type 0

@@ -44,7 +44,7 @@ inner_at (Object i) w = Inner i w
 -- a child of a wide node, or the root
 abbrev pub child : Level → WideRef → List WalkNode
 child level wides.Empty = []
-child level (wides.Leaf n) = leaf_at level n ∷ []
+child level (wides.Leaf leaf) = leaf_at level leaf.node ∷ []
 child level (wides.Inner w) = inner_at level w ∷ []
 
 abbrev pub root_by : ℕ → Option Placement → List WalkNode

@@ -1,9 +1,10 @@
-ghost use Rattle.std.specs.Prelude.{◌≡◌, IsTrue, ◌↔◌};
+ghost use Rattle.std.specs.Prelude.{◌≡◌, IsTrue, None, ◌↔◌};
 ghost use Rattle.ray_window.specs.Windows.{window_of};
 ghost use Rattle.ray_walk.specs.Aims.{IsAimed, IsSameLimit};
 
 use ray_geom::{ObjectRay, Ratio};
 use ray_lanes::Window;
+use ray_wide::WideLeaf;
 use ray_window::window_of;
 
 /// A ray in the space of a structure, with the window that was asked for last.
@@ -13,6 +14,8 @@ pub(crate) struct Aim {
     pub(crate) ray: ObjectRay,
     /// Its window up to a limit, where one was asked for.
     pub(crate) seen: Option<Seen>,
+    /// The leaf of the structure whose turn was added last. Most often it is opened next.
+    pub(crate) recent: Option<WideLeaf>,
 }
 
 /// The window of a ray up to a limit.
@@ -27,8 +30,13 @@ impl Aim {
     pub(crate) fn new(ray: ObjectRay) -> Aim
         ensures ray { result.ray ≡ ray }
         ensures aimed { IsAimed result }
+        ensures recent { result.recent ≡ None }
     {
-        Aim { ray, seen: None }
+        Aim {
+            ray,
+            seen: None,
+            recent: None,
+        }
     }
 }
 
@@ -37,6 +45,7 @@ pub(crate) fn window_at(aim: &mut Aim, limit: Option<Ratio>) -> Window
     requires { IsAimed aim.old }
     ensures value { result ≡ window_of aim.old.ray limit }
     ensures ray { aim.new.ray ≡ aim.old.ray }
+    ensures recent { aim.new.recent ≡ aim.old.recent }
     ensures aimed { IsAimed aim.new }
 {
     if let Some(seen) = aim.seen {
@@ -54,6 +63,7 @@ fn new_window(aim: &mut Aim, limit: Option<Ratio>) -> Window
     requires { IsAimed aim.old }
     ensures value { result ≡ window_of aim.old.ray limit }
     ensures ray { aim.new.ray ≡ aim.old.ray }
+    ensures recent { aim.new.recent ≡ aim.old.recent }
     ensures aimed { IsAimed aim.new }
 {
     let window = window_of(&aim.ray, limit);

@@ -1,11 +1,12 @@
 //! What is below a wide node of a structure, and its root.
-ghost use Rattle.std.specs.Prelude.{ℕ, ◌≡◌, ◌<◌, ◌≤◌, OnOk, length};
+ghost use Rattle.std.specs.Prelude.{ℕ, ◌≡◌, ◌<◌, ◌≤◌, IfSome, OnOk, length};
 ghost use Rattle.std.specs.List.{flat_map};
 ghost use Rattle.ray_geom.specs.Boxes.{IsBox};
 ghost use Rattle.ray_geom.specs.Vector.{vec3};
 ghost use Rattle.ray_lanes.specs.Overlap.{HasBit, of_box};
 ghost use Rattle.ray_nearest.specs.Adding.{AddsNode, AddsOne};
 ghost use Rattle.ray_tree.specs.Trees.{box_at};
+ghost use Rattle.ray_wide.specs.Subtrees.{IsWideLeaf};
 ghost use Rattle.ray_wide.specs.Wides.{children_in, lane_box};
 ghost use Rattle.ray_window.specs.Windows.{window_of};
 ghost use Rattle.ray_walk.specs.Aims.{AddsThrough, AreTrees, HasBox, HasLane};
@@ -18,23 +19,27 @@ use ray_geom::{Box3, ObjectRay, Ratio, Vec3};
 use ray_lanes::{Lanes8, Window, overlap8};
 use ray_nearest::{NoMemory, Turns, WalkNode};
 use ray_prune::reach_box;
-use ray_wide::WideRef;
+use ray_wide::{WideLeaf, WideRef};
 
 // Adds the turns of the children of a wide node, of which the ray meets the boxes within the
-// limit. Of those that the window doesn't overlap nothing more is asked.
+// limit. Of those that the window doesn't overlap nothing more is asked. The last leaf among the
+// others is kept, since its places stand here, beside its box, and are far away else.
 pub(crate) fn push_children(
     trees: &Trees<'_, '_>,
     window: &Window,
     w: u32,
     limit: Option<Ratio>,
+    recent: &mut Option<WideLeaf>,
     turns: &mut Turns,
 ) -> Result<(), NoMemory>
     requires trees { AreTrees trees.now.tree.now trees.now.wide.now }
     requires window { window.now ≡ window_of trees.now.ray.now limit }
     requires node { w < length trees.now.wide.now.nodes }
-    ensures { let children = children_in trees.now.wide.now.nodes w in
+    requires recent { IfSome recent.old (IsWideLeaf trees.now.tree.now.nodes) }
+    ensures added { let children = children_in trees.now.wide.now.nodes w in
         OnOk result (AddsThrough limit trees.now
         (flat_map (child trees.now.level) children) turns.old turns.new) }
+    ensures recent { IfSome recent.new (IsWideLeaf trees.now.tree.now.nodes) }
 {
     let _det = trees.ray.det();
     let lanes = trees.wide.lanes(w);
@@ -42,7 +47,7 @@ pub(crate) fn push_children(
     let children = trees.wide.children(w);
     let mut k = next_bit(met, 0);
     while k < 8 {
-        push_below(trees, lanes, k, limit, children[k as usize], turns)?;
+        push_below(trees, lanes, k, limit, children[k as usize], recent, turns)?;
         k = next_bit(met, k + 1);
     }
     Ok(())
@@ -71,16 +76,23 @@ fn push_below(
     k: u32,
     limit: Option<Ratio>,
     below: WideRef,
+    recent: &mut Option<WideLeaf>,
     turns: &mut Turns,
 ) -> Result<(), NoMemory>
     requires few { k < 8 }
     requires lane { HasLane trees.now.tree.now trees.now.wide.now lanes.now k below }
-    ensures { OnOk result (AddsThrough limit trees.now
+    requires recent { IfSome recent.old (IsWideLeaf trees.now.tree.now.nodes) }
+    ensures added { OnOk result (AddsThrough limit trees.now
         (child trees.now.level below) turns.old turns.new) }
+    ensures recent { IfSome recent.new (IsWideLeaf trees.now.tree.now.nodes) }
 {
     match below {
         WideRef::Empty => Ok(()),
-        WideRef::Leaf(n) => push_lane(trees, lanes, k, limit, leaf_at(trees.level, n), turns),
+        WideRef::Leaf(leaf) => {
+            *recent = Some(leaf);
+            let node = leaf_at(trees.level, leaf.node);
+            push_lane(trees, lanes, k, limit, node, turns)
+        }
         WideRef::Inner(w) => push_lane(trees, lanes, k, limit, inner_at(trees.level, w), turns),
     }
 }
@@ -138,7 +150,10 @@ pub(crate) fn push_child(
 {
     match below {
         WideRef::Empty => Ok(()),
-        WideRef::Leaf(n) => push_box(trees, limit, n, leaf_at(trees.level, n), turns),
+        WideRef::Leaf(leaf) => {
+            let node = leaf_at(trees.level, leaf.node);
+            push_box(trees, limit, leaf.node, node, turns)
+        }
         WideRef::Inner(w) => {
             let top = trees.wide.subtree(w);
             push_box(trees, limit, top, inner_at(trees.level, w), turns)

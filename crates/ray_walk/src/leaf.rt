@@ -1,11 +1,12 @@
 //! What is found in a leaf of the structure of an instance.
-ghost use Rattle.std.specs.Prelude.{◌≡◌, ◌+◌, ◌<◌, ◌≤◌, OnOk, Some, length};
+ghost use Rattle.std.specs.Prelude.{◌≡◌, ◌+◌, ◌<◌, ◌≤◌, All, IfSome, OnOk, Some, length, map};
 ghost use Rattle.std.specs.Option.{option_to_list};
 ghost use Rattle.ray_contents.specs.Bounds.{KeepsBounds};
 ghost use Rattle.ray_bottom.specs.Contents.{bounds_of};
-ghost use Rattle.ray_bottom.specs.LeafItems.{IsItemOf};
+ghost use Rattle.ray_bottom.specs.LeafItems.{IsItemOf, place_of_item};
 ghost use Rattle.ray_bottom.specs.Trees.{places_below};
 ghost use Rattle.ray_flags.specs.Admission.{AsksBoth, ForcesBoth};
+ghost use Rattle.ray_wide.specs.Subtrees.{IsWideLeaf};
 ghost use Rattle.ray_nearest.specs.Adding.{Adds, AddsFound};
 ghost use Rattle.ray_geom.specs.ObjectRay.{object_of};
 ghost use Rattle.ray_window.specs.Windows.{window_of};
@@ -18,12 +19,13 @@ use crate::held::Looked;
 use crate::meeting::meets_points;
 use crate::placed::Placed;
 use crate::view::View;
-use ray_bottom::LeafItem;
+use ray_bottom::{Bottom, LeafItem};
 use ray_flags::{RayFlags, effective};
 use ray_geom::{Ratio, Ray, Steps};
 use ray_lanes::Window;
 use ray_nearest::{NoMemory, Turns};
 use ray_query::Found;
+use ray_wide::WideLeaf;
 use std::sync::ledger::Ledger;
 
 // Adds the turns of what is found in a leaf, a step for each primitive.
@@ -47,7 +49,27 @@ pub(crate) fn open_leaf<L: Ledger>(
     ensures looked { IsLookedAt view.now i looked.now aim.new }
 {
     let window = window_at(aim, limit);
-    add_items(view, looked, &window, i, n, limit, turns, steps)
+    let items = items_of(looked.bottom, aim.recent, n);
+    add_items(view, looked, &window, i, n, items, limit, turns, steps)
+}
+
+// The items of a leaf, by its places, if it is the leaf whose turn was added last.
+fn items_of<'a>(bottom: &'a Bottom, recent: Option<WideLeaf>, n: u32) -> &'a [LeafItem]
+    requires within { n < length bottom.now.tree.nodes }
+    requires recent { IfSome recent (IsWideLeaf bottom.now.tree.nodes) }
+    ensures places { map place_of_item result.now ≡ places_below bottom.now n }
+    ensures held { All (IsItemOf bottom.now.geometries) result.now }
+{
+    match recent {
+        Some(leaf) => {
+            if leaf.node == n {
+                bottom.items_of_leaf(leaf)
+            } else {
+                bottom.leaf_items(n)
+            }
+        }
+        None => bottom.leaf_items(n),
+    }
 }
 
 // The same, by the window of the ray up to the limit.
@@ -56,7 +78,8 @@ fn add_items<L: Ledger>(
     looked: &Looked<'_>,
     window: &Window,
     i: u32,
-    n: u32,
+    _n: u32,
+    items: &[LeafItem],
     limit: Option<Ratio>,
     turns: &mut Turns,
     steps: &mut Steps<L>,
@@ -64,14 +87,15 @@ fn add_items<L: Ledger>(
     requires is_it { placement_at view.now i ≡ Some (placement_value looked.now) }
     requires window { window.now ≡ window_of
         (object_of view.now.ray looked.now.instance.matrix) limit }
-    requires within { n < length looked.now.bottom.now.tree.nodes }
+    requires places { map place_of_item items.now ≡ places_below looked.now.bottom.now _n }
+    requires held { All (IsItemOf looked.now.bottom.now.geometries) items.now }
     ensures found { OnOk result (AddsFoundAt limit view.now i (placement_value looked.now)
-        (places_below looked.now.bottom.now n) turns.old turns.new) }
+        (places_below looked.now.bottom.now _n) turns.old turns.new) }
     ensures steps { OnOk result (steps.new
-        ≡ steps.old + length (places_below looked.now.bottom.now n)) }
+        ≡ steps.old + length (places_below looked.now.bottom.now _n)) }
     ensures rising { steps.old ≤ steps.new }
 {
-    for item in looked.bottom.leaf_items(n) {
+    for item in items {
         add_item(view, looked, window, i, item, limit, turns, steps)?;
     }
     Ok(())

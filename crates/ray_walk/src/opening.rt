@@ -80,7 +80,8 @@ fn open_world(
 {
     view.known();
     let window = window_at(aim, limit);
-    push_children(&world(view, &aim.ray), &window, w, limit, turns)
+    let trees = world(view, &aim.ray);
+    push_children(&trees, &window, w, limit, &mut aim.recent, turns)
 }
 
 // ---- instances
@@ -163,7 +164,7 @@ fn open_object(
     view.known();
     let window = window_at(aim, limit);
     let trees = object(i, looked, &aim.ray);
-    push_children(&trees, &window, w, limit, turns)
+    push_children(&trees, &window, w, limit, &mut aim.recent, turns)
 }
 
 // ---- all nodes

@@ -25,7 +25,7 @@ use Rattle.ray_wide.proofs.Reaching.{child_reached}
 -- the node for which a child stands, which is there
 abbrev pub node_for : List ℕ → WideRef → ℕ
 node_for tops Empty = 0
-node_for tops (Leaf n) = n
+node_for tops (Leaf leaf) = leaf.node
 node_for tops (Inner w) = top_at tops w
 
 -- what a child is, where there is one
@@ -37,7 +37,7 @@ record IsBoxed (tree : TreeValue) (tops : List ℕ) (lanes : Lanes8) (k : ℕ) (
 is-boxed : (tree : TreeValue) (wide : WideValue) (lanes : Lanes8) (k from : ℕ) (c : WideRef) → IsCollapsed wide tree.nodes
     → IsChild tree.nodes wide.tops from c → IsLane tree wide.tops lanes k c → is_there c ≡ true → IsBoxed tree wide.tops lanes k c
 is-boxed tree wide lanes k from Empty over child lane there = absurd (true≢false (sym there))
-is-boxed tree wide lanes k from (Leaf n) over child lane there = record { small = child.small; leaves = refl; lane = lane }
+is-boxed tree wide lanes k from (Leaf leaf) over child lane there = record { small = child.node.small; leaves = refl; lane = lane }
 is-boxed tree wide lanes k from (Inner w) over child lane there =
     let topped = over.topped in
     let within = child.1 in

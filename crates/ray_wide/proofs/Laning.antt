@@ -73,7 +73,8 @@ is-lane tree tops from children k c boxed inner small is child = by c is child
 
     by : (c : WideRef) → child_at children k ≡ c → IsChild tree.nodes tops from c → IsLane tree tops (lanes_by (lanes_for tree tops children)) k c
     by Empty e h = padded-beside (lanes_for tree tops children) k there (at Empty e)
-    by (Leaf n) e h = λ d. lane-beside (lanes_for tree tops children) k there ∙ ap box_of_lane (at (Leaf n) e) ∙ box-is tree d n boxed h.small
+    by (Leaf leaf) e h = λ d.
+        lane-beside (lanes_for tree tops children) k there ∙ ap box_of_lane (at (Leaf leaf) e) ∙ box-is tree d leaf.node boxed h.node.small
     by (Inner w) e h = λ d.
         lane-beside (lanes_for tree tops children) k there ∙ ap box_of_lane (at (Inner w) e)
         ∙ box-is tree d (top_at tops w) boxed (All-get_or (IsInnerNode tree.nodes) tops w 0 h.1 inner).small

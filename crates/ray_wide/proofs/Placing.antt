@@ -86,7 +86,8 @@ inners-weight nodes (n ∷ ns) =
 -- each is a child
 is-child : (nodes : List Node) (tops : List ℕ) (from at n : ℕ) (node : Node) → node_at nodes n ≡ node → n < length nodes → from ≤ at
     → (0 < length (inner_by n node) → at < length tops) → IsChild nodes tops from (ref_by at n node)
-is-child nodes tops from at n (LeafNode first count) is small le within = record { small = small; leaf = subst IsLeaf (sym is) tt }
+is-child nodes tops from at n (LeafNode first count) is small le within =
+    record { node = record { small = small; leaf = subst IsLeaf (sym is) tt }; same = is }
 is-child nodes tops from at n (InnerNode l r) is small le within = (le, within (omega arith))
 
 pub are-children : (nodes : List Node) (tops : List ℕ) (from at : ℕ) (ns : List ℕ) → All (IsNode nodes) ns → from ≤ at

@@ -11,9 +11,10 @@ use Rattle.ray_tree.specs.Trees.{TreeValue, IsShape, times, leaves_of}
 use Rattle.ray_tree.specs.Local.{IsLeaf}
 use Rattle.ray_tree.proofs.Under.{shape_suc, shape_zero}
 use Rattle.ray_tree.proofs.Counting.{one}
+use Rattle.ray_wide.specs.declared.node.WideLeaf.{WideLeaf}
 use Rattle.ray_wide.specs.declared.node.WideRef.{WideRef}
 use Rattle.ray_wide.specs.declared.node.WideRef.TheVariants.{Leaf, Inner, Empty}
-use Rattle.ray_wide.specs.Subtrees.{IsLeafNode, leaves_at}
+use Rattle.ray_wide.specs.Subtrees.{leaves_at}
 use Rattle.ray_wide.specs.Wides.{WideValue, IsCollapsed, IsChild, IsRoot, leaves_for, leaves_below, children_in, top_at}
 use Rattle.ray_wide.specs.Ways.{all_from, step_from, leaves_in, leaves_from, AreReached}
 use Rattle.ray_wide.proofs.Subtrees.{one_leaf}
@@ -35,7 +36,7 @@ by-step : (tree : TreeValue) (wide : WideValue) (from : ℕ) (below : WideRef �
     → ((w : ℕ) → from ≤ w → w < length wide.nodes → (c : WideRef) → IsChild tree.nodes wide.tops (w + 1) c → below c ≡ leaves_for tree.nodes wide.tops c)
     → (c : WideRef) → IsChild tree.nodes wide.tops from c → step_from below wide c ≡ leaves_for tree.nodes wide.tops c
 by-step tree wide from below shape over each Empty is = refl
-by-step tree wide from below shape over each (Leaf n) is = sym (one_leaf tree shape n is)
+by-step tree wide from below shape over each (Leaf leaf) is = sym (one_leaf tree shape leaf.node is.node)
 by-step tree wide from below shape over each (Inner w) is =
     let topped = over.topped in
     let low = is.0 in
@@ -67,15 +68,15 @@ inner-reached tree wide shape over w small =
     ∙ sym node.whole
     ∙ sym (all-children tree.nodes wide.tops (w + 1) (leaves_from wide) (λ c h. child_reached tree wide shape over (w + 1) c h) (children_in wide.nodes w) node.each)
 
-leaf-reached : (wide : WideValue) (n : ℕ) → leaves_from wide (Leaf n) ≡ n ∷ []
-leaf-reached wide n =
+leaf-reached : (wide : WideValue) (leaf : WideLeaf) → leaves_from wide (Leaf leaf) ≡ leaf.node ∷ []
+leaf-reached wide leaf =
     let same : length wide.nodes + 1 ≡ suc (length wide.nodes) = omega arith in
-    ap (λ k. leaves_in k wide (Leaf n)) same ∙ in_suc (length wide.nodes) wide (Leaf n)
+    ap (λ k. leaves_in k wide (Leaf leaf)) same ∙ in_suc (length wide.nodes) wide (Leaf leaf)
 
 -- from the root
 root-child : (nodes : List Node) (tops : List ℕ) (root : WideRef) → IsRoot nodes tops root → IsChild nodes tops 0 root
 root-child nodes tops Empty is = tt
-root-child nodes tops (Leaf n) is = subst (IsLeafNode nodes) (sym is.1) is.0
+root-child nodes tops (Leaf leaf) is = is.0
 root-child nodes tops (Inner w) is = let at = is.1 in let some = is.2 in (omega arith, omega arith)
 
 no-node : (nodes : List Node) (n : ℕ) → length nodes ≡ 0 → leaves_at nodes n ≡ []
@@ -83,7 +84,7 @@ no-node nodes n none = ap (λ k. tips (shape_in k nodes n)) none ∙ ap tips (sh
 
 root-leaves : (nodes : List Node) (tops : List ℕ) (root : WideRef) → IsRoot nodes tops root → leaves_for nodes tops root ≡ leaves_at nodes 0
 root-leaves nodes tops Empty is = sym (no-node nodes 0 is.0)
-root-leaves nodes tops (Leaf n) is = ap (leaves_at nodes) is.1
+root-leaves nodes tops (Leaf leaf) is = ap (leaves_at nodes) is.1
 root-leaves nodes tops (Inner w) is = ap (leaves_at nodes) (ap (top_at tops) is.1 ∙ is.3)
 
 pub root_reached : (tree : TreeValue) (wide : WideValue) → IsShape tree → IsCollapsed wide tree.nodes → leaves_from wide wide.root ≡ leaves_of tree

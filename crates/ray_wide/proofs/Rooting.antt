@@ -40,7 +40,8 @@ first_growing tree shape root tops is_root is_tops =
 -- the root when all is made
 root-by : (node : Node) (ns : List Node) (tops : List ℕ) → length (first_tops (root_by node)) ≤ length tops
     → (length (first_tops (root_by node)) ≡ 0 → length tops ≡ 0) → top_at tops 0 ≡ 0 → IsRoot (node ∷ ns) tops (root_by node)
-root-by (LeafNode first count) ns tops more none start = (record { small = omega arith; leaf = tt }, refl, none refl)
+root-by (LeafNode first count) ns tops more none start =
+    (record { node = record { small = omega arith; leaf = tt }; same = refl }, refl, none refl)
 root-by (InnerNode l r) ns tops more none start = (record { small = omega arith; inner = tt }, refl, omega arith, start)
 
 root-of : (nodes : List Node) (tops : List ℕ) → length (first_tops (root_of nodes)) ≤ length tops
@@ -64,5 +65,5 @@ all_made nodes root wides tops0 tops is_root is_first growing made more none =
 -- there is a root exactly where there is a node
 pub is_rooted : (nodes : List Node) (tops : List ℕ) (root : WideRef) → IsRoot nodes tops root → IsTrue (is_there root) ↔ (0 < length nodes)
 is_rooted nodes tops Empty is = let none = is.0 in (λ e. absurd (true≢false (sym e)), λ some. absurd (omega arith))
-is_rooted nodes tops (Leaf n) is = let small = is.0.small in (λ e. omega arith, λ some. refl)
+is_rooted nodes tops (Leaf leaf) is = let small = is.0.node.small in (λ e. omega arith, λ some. refl)
 is_rooted nodes tops (Inner w) is = let small = is.0.small in (λ e. omega arith, λ some. refl)

@@ -10,7 +10,7 @@ use Rattle.ray_wide.specs.declared.node.WideRef.{WideRef}
 use Rattle.ray_wide.specs.declared.node.WideRef.TheVariants.{Leaf, Inner, Empty}
 use Rattle.ray_wide.specs.declared.node.WideNode.{WideNode}
 use Rattle.ray_wide.specs.declared.cut.Branch.{Branch}
-use Rattle.ray_wide.specs.Subtrees.{IsInnerNode, leaves_at}
+use Rattle.ray_wide.specs.Subtrees.{IsInnerNode, leaves_at, wide_leaf}
 use Rattle.ray_wide.specs.Wides.{IsNodeOver, children_in, top_at, child_at}
 
 -- the leaves of several subtrees, one after the other
@@ -49,7 +49,7 @@ inners_of nodes (n ∷ ns) = inner_by n (node_at nodes n) ++ inners_of nodes ns
 
 -- a subtree as a child, where the next wide node is number `at`
 abbrev pub ref_by : ℕ → ℕ → Node → WideRef
-ref_by at n (LeafNode first count) = Leaf n
+ref_by at n (LeafNode first count) = Leaf (wide_leaf n first count)
 ref_by at n (InnerNode left right) = Inner at
 
 -- subtrees as children, the inner ones being wide nodes from number `at` on
@@ -77,7 +77,7 @@ left_over nodes wides tops = sum_by (weight_at nodes) (drop (length wides) tops)
 
 -- the root of a wide tree
 abbrev pub root_by : Node → WideRef
-root_by (LeafNode first count) = Leaf 0
+root_by (LeafNode first count) = Leaf (wide_leaf 0 first count)
 root_by (InnerNode left right) = Inner 0
 
 abbrev pub root_of : List Node → WideRef
@@ -87,5 +87,5 @@ root_of (node ∷ nodes) = root_by node
 -- the subtrees for which wide nodes are made first
 abbrev pub first_tops : WideRef → List ℕ
 first_tops Empty = []
-first_tops (Leaf n) = []
+first_tops (Leaf leaf) = []
 first_tops (Inner w) = 0 ∷ []

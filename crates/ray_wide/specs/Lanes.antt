@@ -43,7 +43,7 @@ lane_at tree n = if nat_lt n (length tree.nodes) then lane_of (box_at tree no_bo
 -- that of a child
 abbrev pub lane_for : TreeValue → List ℕ → WideRef → Lane
 lane_for tree tops Empty = padded_lane
-lane_for tree tops (Leaf n) = lane_at tree n
+lane_for tree tops (Leaf leaf) = lane_at tree leaf.node
 lane_for tree tops (Inner w) = lane_at tree (top_at tops w)
 
 -- those of several children

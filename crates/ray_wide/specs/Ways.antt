@@ -4,6 +4,7 @@ use Rattle.ray_geom.specs.Boxes.{BoxValue, IsPart}
 use Rattle.ray_tree.specs.Shapes.{holds}
 use Rattle.ray_tree.specs.Trees.{TreeValue, shape_at, box_at, item_at, item_box, times, leaves_of}
 use Rattle.ray_tree.specs.Local.{IsLeafAt}
+use Rattle.ray_wide.specs.declared.node.WideLeaf.{WideLeaf}
 use Rattle.ray_wide.specs.declared.node.WideRef.{WideRef}
 use Rattle.ray_wide.specs.declared.node.WideRef.TheVariants.{Leaf, Inner, Empty}
 use Rattle.ray_wide.specs.Wides.{WideValue, children_in, lanes_in, child_at, is_there, top_at, lane_box}
@@ -16,7 +17,7 @@ all_from below (child ∷ children) = below child ++ all_from below children
 -- the leaves to which ways lead from a child, where it is known of the children of wide nodes
 abbrev pub step_from : (WideRef → List ℕ) → WideValue → WideRef → List ℕ
 step_from below wide Empty = []
-step_from below wide (Leaf n) = n ∷ []
+step_from below wide (Leaf leaf) = leaf.node ∷ []
 step_from below wide (Inner w) = all_from below (children_in wide.nodes w)
 
 -- over at most so many nodes, one leaf for each way
@@ -32,7 +33,7 @@ leaves_from wide child = leaves_in (length wide.nodes + 1) wide child
 -- the left, and to each leaf leads one
 pub record AreReached (wide : WideValue) (tree : TreeValue) : Type 0 where
   pub inner : (w : ℕ) → w < length wide.nodes → leaves_from wide (Inner w) ≡ all_from (leaves_from wide) (children_in wide.nodes w)
-  pub leaf : (n : ℕ) → leaves_from wide (Leaf n) ≡ n ∷ []
+  pub leaf : (leaf : WideLeaf) → leaves_from wide (Leaf leaf) ≡ leaf.node ∷ []
   pub same : leaves_from wide wide.root ≡ leaves_of tree
   pub once : (n : ℕ) → IsLeafAt tree n → times n (leaves_from wide wide.root) ≡ 1
 

@@ -12,7 +12,7 @@ use Rattle.ray_tree.specs.Trees.{TreeValue, box_at}
 use Rattle.ray_wide.specs.declared.node.WideRef.{WideRef}
 use Rattle.ray_wide.specs.declared.node.WideRef.TheVariants.{Leaf, Inner, Empty}
 use Rattle.ray_wide.specs.declared.node.WideNode.{WideNode}
-use Rattle.ray_wide.specs.Subtrees.{IsLeafNode, IsInnerNode, leaves_at}
+use Rattle.ray_wide.specs.Subtrees.{IsInnerNode, IsWideLeaf, leaves_at}
 
 -- a wide tree: its root, its nodes, and for each of these the node of the binary tree for whose subtree it stands
 pub record WideValue : Type 0 where
@@ -43,13 +43,13 @@ top_at tops w = slice_index_or tops w 0
 -- there is a child
 abbrev pub is_there : WideRef → Bool
 is_there Empty = false
-is_there (Leaf n) = true
+is_there (Leaf leaf) = true
 is_there (Inner w) = true
 
 -- the leaves of the subtree for which a child stands, from the left
 abbrev pub leaves_for : List Node → List ℕ → WideRef → List ℕ
 leaves_for nodes tops Empty = []
-leaves_for nodes tops (Leaf n) = leaves_at nodes n
+leaves_for nodes tops (Leaf leaf) = leaves_at nodes leaf.node
 leaves_for nodes tops (Inner w) = leaves_at nodes (top_at tops w)
 
 -- those of several children, one after the other
@@ -60,7 +60,7 @@ leaves_below nodes tops (child ∷ children) = leaves_for nodes tops child ++ le
 -- a child is a leaf of the binary tree, or a wide node from number `from` on
 abbrev pub IsChild : List Node → List ℕ → ℕ → WideRef → Type 0
 IsChild nodes tops from Empty = Unit {0}
-IsChild nodes tops from (Leaf n) = IsLeafNode nodes n
+IsChild nodes tops from (Leaf leaf) = IsWideLeaf nodes leaf
 IsChild nodes tops from (Inner w) = (from ≤ w) × (w < length tops)
 
 -- the children of wide node w: 2 to 8 in eight places, each wide one after its parent, and their leaves, one after
@@ -75,7 +75,7 @@ pub record IsNodeOver (nodes : List Node) (tops : List ℕ) (w : ℕ) (children 
 -- the root: nothing where the tree has no node, its leaf where it has no other node, else wide node 0
 abbrev pub IsRoot : List Node → List ℕ → WideRef → Type 0
 IsRoot nodes tops Empty = (length nodes ≡ 0) × (length tops ≡ 0)
-IsRoot nodes tops (Leaf n) = IsLeafNode nodes 0 × (n ≡ 0) × (length tops ≡ 0)
+IsRoot nodes tops (Leaf leaf) = IsWideLeaf nodes leaf × (leaf.node ≡ 0) × (length tops ≡ 0)
 IsRoot nodes tops (Inner w) = IsInnerNode nodes 0 × (w ≡ 0) × (0 < length tops) × (top_at tops 0 ≡ 0)
 
 -- a wide tree is over the leaves of a binary one, of which only the nodes are asked
@@ -94,7 +94,7 @@ lane_box lanes k =
 -- lane k is the tree's box of the leaves for which a child stands, or padded where there is no child
 abbrev pub IsLane : TreeValue → List ℕ → Lanes8 → ℕ → WideRef → Type 0
 IsLane tree tops lanes k Empty = IsPadded lanes k
-IsLane tree tops lanes k (Leaf n) = (d : BoxValue) → lane_box lanes k ≡ box_at tree d n
+IsLane tree tops lanes k (Leaf leaf) = (d : BoxValue) → lane_box lanes k ≡ box_at tree d leaf.node
 IsLane tree tops lanes k (Inner w) = (d : BoxValue) → lane_box lanes k ≡ box_at tree d (top_at tops w)
 
 -- a wide tree is over a binary one: over its leaves, each lane being so

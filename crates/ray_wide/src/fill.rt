@@ -106,7 +106,7 @@ fn lane_for(tree: &Tree, tops: &[u32], child: WideRef) -> Lane
 {
     match child {
         WideRef::Empty => padded_lane(),
-        WideRef::Leaf(n) => lane_at(tree, n),
+        WideRef::Leaf(leaf) => lane_at(tree, leaf.node),
         WideRef::Inner(w) => lane_at(tree, top_at(tops, w)),
     }
 }

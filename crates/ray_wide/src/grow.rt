@@ -7,7 +7,7 @@ ghost use Rattle.ray_wide.specs.Cuts.{IsGrowing, IsNode, nodes_in, left_over};
 ghost use Rattle.ray_wide.specs.Cuts.{inner_by, inners_of, ref_by, refs_of, eight_of};
 
 use crate::cut::{Branch, cut_of};
-use crate::node::{WideNode, WideRef};
+use crate::node::{WideLeaf, WideNode, WideRef};
 use arrayvec::ArrayVec;
 use ray_tree::{Node, Tree};
 use std::alloc::AllocError as NoMemory;
@@ -82,7 +82,11 @@ fn place_one(tree: &Tree, n: u32, tops: &mut Vec<u32>) -> Result<WideRef, NoMemo
         ++ inner_by n (node_at tree.now.nodes n)) }
 {
     match tree.node(n) {
-        Node::Leaf { .. } => Ok(WideRef::Leaf(n)),
+        Node::Leaf { first, count } => Ok(WideRef::Leaf(WideLeaf {
+            node: n,
+            first,
+            count,
+        })),
         Node::Inner { .. } => {
             let at = tops.len() as u32;
             tops.push(n)?;

@@ -16,7 +16,7 @@
 //! It stands on `ray_tree` for the binary trees, on `ray_lanes` for the lanes, on `ray_geom` for
 //! boxes, and on `arrayvec` for the subtrees that are to become children. The children themselves
 //! are an array with empty places, since a vector of eight with its length would take a node beyond
-//! 256 bytes.
+//! 320 bytes.
 #![tactic(auto)]
 
 mod cut;
@@ -27,6 +27,6 @@ mod node;
 mod wide;
 
 pub use crate::laws::{lane_law, nesting_law, root_law, way_law};
-pub use crate::node::{WideNode, WideRef};
+pub use crate::node::{WideLeaf, WideNode, WideRef};
 pub use crate::wide::{Wide, collapse};
 pub use std::alloc::AllocError as NoMemory;

@@ -2,11 +2,23 @@ ghost use Rattle.std.specs.Prelude.{◌≡◌};
 
 use ray_lanes::{Lanes8, PADDED_HI, PADDED_LO};
 
+/// A leaf of the binary tree, with the places of its items, so that a walk that comes from the wide
+/// node needs not ask the binary tree. (Own.)
+#[derive(Clone, Copy, Debug, PartialEq, Eq)]
+pub struct WideLeaf {
+    /// The number of its node in the binary tree.
+    pub node: u32,
+    /// The first of its places.
+    pub first: u32,
+    /// How many there are: 1 to 4.
+    pub count: u32,
+}
+
 /// What stands at one of the eight places of a wide node, or at the root. (Own.)
 #[derive(Clone, Copy, Debug, Default, PartialEq, Eq)]
 pub enum WideRef {
-    /// A leaf of the binary tree, by the number of its node there.
-    Leaf(u32),
+    /// A leaf of the binary tree.
+    Leaf(WideLeaf),
     /// A wide node, by its number.
     Inner(u32),
     /// Nothing.
@@ -14,7 +26,7 @@ pub enum WideRef {
     Empty,
 }
 
-/// A node of a wide tree, in 256 bytes. (Own.)
+/// A node of a wide tree, in 320 bytes. (Own.)
 #[derive(Clone, Copy, Debug)]
 pub struct WideNode {
     /// The box of each child; where there is none the lane is padded.
@@ -38,5 +50,5 @@ impl WideNode {
     }
 }
 
-// A node takes no more than four lines of 64 bytes.
-const _: () = prove!(size_of::<WideNode>() <= 256);
+// A node takes no more than five lines of 64 bytes.
+const _: () = prove!(size_of::<WideNode>() <= 320);

@@ -5,7 +5,7 @@ ghost use Rattle.ray_wide.specs.Cuts.{root_of, first_tops};
 
 use crate::fill::fill_all;
 use crate::grow::grow;
-use crate::node::{WideNode, WideRef};
+use crate::node::{WideLeaf, WideNode, WideRef};
 use ray_lanes::Lanes8;
 use ray_tree::{Node, Tree};
 use std::alloc::{AllocError as NoMemory, Global};
@@ -65,7 +65,11 @@ fn root_of(tree: &Tree) -> WideRef
         return WideRef::Empty;
     }
     match tree.node(0) {
-        Node::Leaf { .. } => WideRef::Leaf(0),
+        Node::Leaf { first, count } => WideRef::Leaf(WideLeaf {
+            node: 0,
+            first,
+            count,
+        }),
         Node::Inner { .. } => WideRef::Inner(0),
     }
 }

@@ -13,7 +13,7 @@ returns-in-Leaf c =
     let new = c.push_box.new.turns in
     on_ok_weaker c.push_box.result
     (λ one. subst (λ (b : WideRef). AddsThrough c.args.limit t (child t.level b) old new) (sym c.in-Leaf.is)
-    (pushed-leaf t c.args.limit old new c.in-Leaf.n c.leaf_at.result c.leaf_at.ensures one)) c.push_box.ensures
+    (pushed-leaf t c.args.limit old new c.in-Leaf.leaf.node c.leaf_at-node.result c.leaf_at-node.ensures one)) c.push_box.ensures
 
 pub returns-in-Inner : goal.returns-in-Inner
 returns-in-Inner c =

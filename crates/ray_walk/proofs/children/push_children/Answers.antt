@@ -8,6 +8,7 @@ use Rattle.ray_lanes.specs.declared.lanes.Window.{Window}
 use Rattle.ray_lanes.specs.Overlap.{HasBit, Overlaps}
 use Rattle.ray_wide.specs.declared.node.WideRef.{WideRef}
 use Rattle.ray_wide.specs.declared.node.WideRef.TheVariants as wides
+use Rattle.ray_wide.specs.Subtrees.{wide_leaf}
 use Rattle.ray_wide.specs.Wides.{child_at, children_in, lanes_in}
 use Rattle.ray_window.specs.Windows.{window_of}
 use Rattle.ray_nearest.specs.Adding.{AddsNode}
@@ -25,12 +26,12 @@ use Rattle.ray_walk.proofs.children.push_children.Goals as goal
 out : (trees : Trees) (window : Window) (w : ℕ) (limit : Option Ratio) (lanes : Lanes8) (met : ℕ) (cs : List WideRef) → AreTrees trees.tree.now trees.wide.now
     → IsObjectRay trees.ray.now → window ≡ window_of trees.ray.now limit → w < length trees.wide.now.nodes → lanes ≡ lanes_in trees.wide.now.nodes w
     → ((j : ℕ) → j < 8 → HasBit met j ↔ Overlaps lanes window j) → cs ≡ children_in trees.wide.now.nodes w
-    → (j : ℕ) → j < 8 → (HasBit met j → ⊥) → AreLeftOut limit trees (child trees.level (slice_index_or cs j (wides.Leaf 0)))
+    → (j : ℕ) → j < 8 → (HasBit met j → ⊥) → AreLeftOut limit trees (child trees.level (slice_index_or cs j (wides.Leaf (wide_leaf 0 0 0))))
 out trees window w limit lanes met cs over ray_is window_is node lanes_is met_is cs_is j few clear =
     let nodes = trees.wide.now.nodes in
     let eight = (over.over.collapsed.each w node).eight in
-    let at = any-default (children_in nodes w) j wides.Empty (wides.Leaf 0) (omega (arith, eight, few))
-    ∙ ap (λ (xs : List WideRef). slice_index_or xs j (wides.Leaf 0)) (sym cs_is) in
+    let at = any-default (children_in nodes w) j wides.Empty (wides.Leaf (wide_leaf 0 0 0)) (omega (arith, eight, few))
+    ∙ ap (λ (xs : List WideRef). slice_index_or xs j (wides.Leaf (wide_leaf 0 0 0))) (sym cs_is) in
     subst (λ (b : WideRef). AreLeftOut limit trees (child trees.level b)) at
     (child-out trees.tree.now trees.wide.now over trees.ray.now ray_is limit trees.level w j node few
     (λ o. clear ((met_is j few).1
@@ -45,8 +46,8 @@ push_below-requires-clause-lane c =
     let k = c.loop-k.k in
     let few : k < 8 = (let h = c.loop-k-test.true in grind (arith, nat_tests)) in
     let eight = (c.requires.trees.over.collapsed.each w c.requires.node).eight in
-    let at = any-default (children_in nodes w) k wides.Empty (wides.Leaf 0) (omega (arith, eight, few))
-    ∙ ap (λ (cs : List WideRef). slice_index_or cs k (wides.Leaf 0)) (sym c.children-children.ensures) in
+    let at = any-default (children_in nodes w) k wides.Empty (wides.Leaf (wide_leaf 0 0 0)) (omega (arith, eight, few))
+    ∙ ap (λ (cs : List WideRef). slice_index_or cs k (wides.Leaf (wide_leaf 0 0 0))) (sym c.children-children.ensures) in
     subst (λ (b : WideRef). HasLane t.tree.now t.wide.now c.lanes-lanes.result.now k b) at
     (subst (λ (l : Lanes8). HasLane t.tree.now t.wide.now l k (child_at (children_in nodes w) k)) (sym c.lanes-lanes.ensures)
     (lane-at t.tree.now t.wide.now c.requires.trees w k c.requires.node few))
@@ -62,11 +63,12 @@ loop-k-init c =
     record {
       most = most;
       so_far = subst (λ n. AddsThrough c.args.limit t (flat_map (child t.level) (take n children)) c.args.turns.now c.args.turns.now) (omega arith)
-          (Adds-skip t c.args.limit children (wides.Leaf 0) c.args.turns.now c.args.turns.now 0 first (omega (arith, full, most))
+          (Adds-skip t c.args.limit children (wides.Leaf (wide_leaf 0 0 0)) c.args.turns.now c.args.turns.now 0 first (omega (arith, full, most))
           (λ j after below. out t c.args.window.now w c.args.limit c.lanes-lanes.result.now c.overlap8-met.result children c.requires.trees
           c.det-det.ensures.limits c.requires.window c.requires.node c.lanes-lanes.ensures c.overlap8-met.ensures c.children-children.ensures
           j (omega (arith, below, most)) (c.next_bit-k.ensures.clear j after (omega (arith, below))))
           (left-out t c.args.limit c.args.turns.now c.args.turns.now [] (All-nil (λ m. is_open c.args.limit (entry_through t m) ≡ false)) c.args.turns.now));
+      recent = c.requires.recent;
     }
 
 pub loop-k-preserved : goal.loop-k-preserved
@@ -82,14 +84,15 @@ loop-k-preserved c =
     let now = c.push_below.new.turns in
     let few : k < 8 = (let h = c.loop-k-test.true in grind (arith, nat_tests)) in
     let full : length children ≡ 8 = ap (λ (cs : List WideRef). length cs) c.children-children.ensures ∙ (c.requires.trees.over.collapsed.each w c.requires.node).eight in
-    let pushed = Adds-flat (AddsNode c.args.limit (entry_through t)) (child t.level) children k (wides.Leaf 0) before c.loop-k.turns now
-    (omega (arith, full, few)) c.loop-k.invariant.so_far c.in_ok-push_below.ensures in
+    let pushed = Adds-flat (AddsNode c.args.limit (entry_through t)) (child t.level) children k (wides.Leaf (wide_leaf 0 0 0)) before c.loop-k.turns now
+    (omega (arith, full, few)) c.loop-k.invariant.so_far c.in_ok-push_below.ensures.added in
     let gap : k + 1 + (next - (k + 1)) ≡ next = omega (arith, later) in
     record {
       most = most;
       so_far = subst (λ n. AddsThrough c.args.limit t (flat_map (child t.level) (take n children)) before now) gap
-          (Adds-skip t c.args.limit children (wides.Leaf 0) before now (k + 1) (next - (k + 1)) (omega (arith, full, most, later))
+          (Adds-skip t c.args.limit children (wides.Leaf (wide_leaf 0 0 0)) before now (k + 1) (next - (k + 1)) (omega (arith, full, most, later))
           (λ j after below. out t c.args.window.now w c.args.limit c.lanes-lanes.result.now c.overlap8-met.result children c.requires.trees
           c.det-det.ensures.limits c.requires.window c.requires.node c.lanes-lanes.ensures c.overlap8-met.ensures c.children-children.ensures
           j (omega (arith, below, gap, most)) (c.next_bit-k-in-loop-k.ensures.clear j after (omega (arith, below, gap)))) pushed);
+      recent = c.push_below.ensures.recent;
     }

@@ -15,7 +15,7 @@ pub loop-item-preserved : goal.loop-item-preserved
 loop-item-preserved g c =
     let s = c.args.view.now in
     let p = placement_value c.args.looked.now in
-    let items = c.leaf_items-item-items.result.now in
+    let items = c.args.items.now in
     let k = c.loop-item.item-index in
     let below : k < length items = (let t = c.loop-item-test.true in grind (arith, nat_tests)) in
     record {
@@ -30,8 +30,8 @@ loop-item-preserved g c =
 pub returns-clause-found : goal.returns-clause-found
 returns-clause-found g c =
     let F = found_at_place c.args.view.now c.args.i (placement_value c.args.looked.now) in
-    let items = c.leaf_items-item-items.result.now in
+    let items = c.args.items.now in
     let whole = take_all c.loop-item.item-index items c.loop-item-test.false in
     subst (λ xs. Adds (AddsFound c.args.limit) xs c.args.turns.now c.loop-item.turns)
-    (ap (flat_map (λ (it : LeafItem). F it.place)) whole ∙ (sym (flat_map-map F place_of_item items) ∙ ap (flat_map F) c.leaf_items-item-items.ensures.places))
+    (ap (flat_map (λ (it : LeafItem). F it.place)) whole ∙ (sym (flat_map-map F place_of_item items) ∙ ap (flat_map F) c.requires.places))
     c.loop-item.invariant.found

@@ -8,6 +8,6 @@ use Rattle.ray_walk.proofs.leaf.add_items.Given as goal
 -- the items so far
 abbrev pub invariant-loop-item : goal.invariant-loop-item
 invariant-loop-item g l = record {
-  found : Adds (AddsFound l.fn.limit) (flat_map (λ it. found_at_place l.fn.view l.fn.i (placement_value l.fn.looked) it.place) (take l.item-index l.item-items)) l.fn.turns l.turns;
+  found : Adds (AddsFound l.fn.limit) (flat_map (λ it. found_at_place l.fn.view l.fn.i (placement_value l.fn.looked) it.place) (take l.item-index l.items)) l.fn.turns l.turns;
   steps : l.steps ≡ l.fn.steps + l.item-index;
 }

@@ -34,4 +34,4 @@ returns-clause-opened c =
     (subst (λ (w : WideValue). AddsWide c.args.limit s (flat_map (child (Object i)) (children_in w.nodes c.args.w)) old new) told.wide
     (through-object s t c.args.limit old new (λ level. flat_map (child level) children) i p told.tree told.wide
     (told.ray ∙ (c.window_at-window.ensures.ray ∙ c.requires.looked.ray_is)) told.level
-    (all-entries (IsOfObject s p) (Object i) children (object-entries s i p c.requires.looked.placed)) added))) c.push_children.ensures
+    (all-entries (IsOfObject s p) (Object i) children (object-entries s i p c.requires.looked.placed)) added))) c.push_children.ensures.added
