@@ -72,7 +72,8 @@ fn items_of<'a>(bottom: &'a Bottom, recent: Option<WideLeaf>, n: u32) -> &'a [Le
     }
 }
 
-// The same, by the window of the ray up to the limit.
+// The same of these items, by the window of the ray up to the limit. The leaf's number stands in
+// contracts alone.
 fn add_items<L: Ledger>(
     view: &View<'_>,
     looked: &Looked<'_>,
