@@ -176,6 +176,30 @@ roomy-same structures slots more id kind roomy room = record {
   no_stray = λ q c there. roomy.no_stray q c (sym (room.same q) ∙ there);
 }
 
+-- and where a live bottom structure comes to hold contents
+made-live : (found : Option Structure) (form : Form) → form_in found ≡ Some form → (s : Structure) × (found ≡ Some s) × (s.form ≡ form)
+made-live None form e = absurd cc
+made-live (Some s) form e = (s, refl, some-id s.form form e)
+
+filled-room : (b : Bool) (bottom : bottom_trees.BottomWithTree) (x y : Option (Option bottom_trees.BottomWithTree))
+    → x ≡ (if b then Some (Some bottom) else y) → is_some y ≡ true → is_some x ≡ true
+filled-room true bottom x y e h = ap is_some e
+filled-room false bottom x y e h = ap is_some e ∙ h
+
+pub roomy-filled : (structures : Ids Structure) (slots more : Slots) (id : ℕ) (bottom : bottom_trees.BottomWithTree) → IsRoomy structures slots
+    → IsMade kinds.Bottom (form_in (look structures id)) → Changes id (Some (Some bottom)) slots more → IsRoomy structures more
+roomy-filled structures slots more id bottom roomy made c = record {
+  room = λ q s found kind. filled-room (q == id) bottom (slot_at q more) (slot_at q slots) (c.each q) (roomy.room q s found kind);
+  no_stray = λ q contents there.
+      let live = made-live (look structures id) made.form made.is_it in
+      elim (cases_eq q id) [
+        | inl e ↦ (live.0, ap (look structures) e ∙ live.1, ap (λ (f : Form). f.kind) live.2 ∙ made.same_kind)
+        | inr differs ↦
+            let same = c.each q ∙ cond-false (q == id) (Some (Some bottom)) (slot_at q slots) (ne_eqb q id differs) in
+            roomy.no_stray q contents (sym (ap stands same) ∙ there)
+      ];
+}
+
 -- and where a structure comes to hold a top structure, since its form stays
 abbrev kind_in : Option Structure → StructureKind
 kind_in None = kinds.Top
