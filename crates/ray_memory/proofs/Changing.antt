@@ -1,5 +1,5 @@
 -- The memory of a state once something was made or destroyed, and once bytes or contents were stored.
-use Rattle.std.proofs.Common.{ℕ, ◌≡◌, List, [], length, Option, Some, None, Bool, true, false, refl, ap, sym, subst, ◌∙◌, inl, inr, arith}
+use Rattle.std.proofs.Common.{ℕ, ◌≡◌, List, [], length, Option, Some, None, is_some, Bool, true, false, refl, ap, sym, subst, ◌∙◌, inl, inr, arith}
 use Rattle.std.specs.Prelude.{slice_get, option_map, option_and_then, unwrap_or, ◌==◌, ◌&&◌, ◌-◌, nat_lt, if◌then◌else◌, Result, Ok, Err, OnOk}
 use Rattle.std.proofs.lemmas.Bool.Decides.{nat_tests}
 use Rattle.std.proofs.lemmas.Bool.{cases_eq, cases_lt, cond-true, cond-false, eq-eqb, ne_eqb}
