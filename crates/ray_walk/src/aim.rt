@@ -14,7 +14,8 @@ pub(crate) struct Aim {
     pub(crate) ray: ObjectRay,
     /// Its window up to a limit, where one was asked for.
     pub(crate) seen: Option<Seen>,
-    /// The leaf of the structure whose turn was added last. Most often it is opened next.
+    /// The leaf of the structure that was met last as a child of a wide node, by its window at
+    /// least. Most often it is opened next.
     pub(crate) recent: Option<WideLeaf>,
 }
 

@@ -53,7 +53,7 @@ pub(crate) fn open_leaf<L: Ledger>(
     add_items(view, looked, &window, i, n, items, limit, turns, steps)
 }
 
-// The items of a leaf, by its places, if it is the leaf whose turn was added last.
+// The items of a leaf, by its places, if it is the leaf that was kept.
 fn items_of<'a>(bottom: &'a Bottom, recent: Option<WideLeaf>, n: u32) -> &'a [LeafItem]
     requires within { n < length bottom.now.tree.nodes }
     requires recent { IfSome recent (IsWideLeaf bottom.now.tree.nodes) }
