@@ -12,7 +12,7 @@ use Rattle.ray_bytes.specs.declared.data_fault.DataFault.{DataFault}
 use Rattle.ray_bytes.specs.declared.format.Format.{Format}
 use Rattle.ray_bytes.specs.Views as views
 use Rattle.ray_primitives.specs.declared.triangle_info.TriangleInfo.{TriangleInfo}
-use Rattle.ray_bottom.specs.Contents as bottoms
+use Rattle.ray_geometries.specs.Contents as bottoms
 use Rattle.ray_bottom.specs.Builders.{BuilderValue, with_triangles, with_boxes, size_of_indices}
 use Rattle.ray_top.specs.declared.used.Used.{Used}
 use Rattle.ray_top.specs.Contents as tops

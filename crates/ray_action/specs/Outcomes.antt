@@ -18,7 +18,7 @@ use Rattle.ray_bytes.specs.StructureSizes.{compacted_size}
 use Rattle.ray_contents.specs.Gathering.{gathered}
 use Rattle.ray_script.specs.Meaning.{script_decision}
 use Rattle.ray_query.specs.Record.{record_of}
-use Rattle.ray_bottom.specs.Contents as bottoms
+use Rattle.ray_geometries.specs.Contents as bottoms
 use Rattle.ray_bottom.specs.Builders.{BuilderValue}
 use Rattle.ray_top.specs.declared.used.Used.{Used}
 use Rattle.ray_top.specs.Contents as tops

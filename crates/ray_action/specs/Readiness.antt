@@ -5,7 +5,7 @@ use Rattle.std.specs.Prelude.{ℕ, ◌≡◌, ◌≤◌, ◌^◌, List, [], ◌�
 use Rattle.std.specs.Option.{option_and_then}
 use Rattle.ray_flags.specs.Admission.{AsksBoth}
 use Rattle.ray_script.specs.Scripts.{refused_at}
-use Rattle.ray_bottom.specs.Contents as bottoms
+use Rattle.ray_geometries.specs.Contents as bottoms
 use Rattle.ray_top.specs.Contents as tops
 use Rattle.ray_walk.specs.Standing.{AreStanding}
 use Rattle.ray_cmd.specs.declared.copy_mode.CopyMode.{CopyMode}

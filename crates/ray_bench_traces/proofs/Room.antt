@@ -15,10 +15,10 @@ use Rattle.ray_primitives.specs.declared.build_fault.BuildFault.{BuildFault}
 use Rattle.ray_primitives.specs.Primitives.{TriangleValue}
 use Rattle.ray_primitives.specs.TriangleReading.{triangles_with, triangles_read, triangle_element, transform_read}
 use Rattle.ray_primitives.specs.BoxReading.{boxes_read, box_element}
-use Rattle.ray_bottom.specs.declared.geometry.Geometry.{Geometry}
+use Rattle.ray_geometries.specs.declared.geometry.Geometry.{Geometry}
 use Rattle.ray_bottom.specs.Builders.{BuilderValue, IsAdded, builder_with, triangles_added, boxes_added, with_triangles, with_boxes, triangle_geometry, box_geometry, old_triangles, old_boxes}
-use Rattle.ray_bottom.specs.Contents.{HasRoom, kind_of, count_of}
-use Rattle.ray_bottom.proofs.Growing.{total_of-more}
+use Rattle.ray_geometries.specs.Contents.{HasRoom, kind_of, count_of}
+use Rattle.ray_geometries.proofs.Growing.{total_of-more}
 
 room-of-one : (kind : Kind) (g : Geometry) → kind_of g ≡ kind → count_of g ≤ 40 → HasRoom kind 40 (g ∷ [])
 room-of-one kind g is few = record {

@@ -1,6 +1,6 @@
 ghost use Rattle.std.specs.Prelude.{◌≡◌, ◌≤◌, [], OnOk, false};
 ghost use Rattle.ray_flags.specs.declared.kind.Kind.TheVariants.{Triangle, Aabb};
-ghost use Rattle.ray_bottom.specs.Contents.{HasRoom, has_both_fast};
+ghost use Rattle.ray_geometries.specs.Contents.{HasRoom, has_both_fast};
 
 use crate::bytes::{put, put_signed};
 use crate::numbers::Numbers;

@@ -16,8 +16,8 @@ use Rattle.ray_geom.proofs.LeastBoxes.{IsLeastOf-boxes, IsLeast-tri, IsIn-part}
 use Rattle.ray_prune.proofs.Corners.{IsShort-image}
 use Rattle.ray_contents.specs.Bounds.{KeepsBounds}
 use Rattle.ray_primitives.specs.Primitives.{TriangleValue, box_of_triangle}
-use Rattle.ray_bottom.specs.declared.geometry.Geometry.{Geometry}
-use Rattle.ray_bottom.specs.Contents.{boxes_of, active_boxes, bounds_of}
+use Rattle.ray_geometries.specs.declared.geometry.Geometry.{Geometry}
+use Rattle.ray_geometries.specs.Contents.{boxes_of, active_boxes, bounds_of}
 use Rattle.ray_bottom.specs.Meeting.{Hit, Through, hit_in_world, span_in_object, KeepsPoints, KeepsBoxes, KeepsTri}
 
 -- ---- lists

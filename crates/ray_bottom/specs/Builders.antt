@@ -12,10 +12,10 @@ use Rattle.ray_primitives.specs.declared.build_fault.BuildFault.TheVariants.{Dat
 use Rattle.ray_primitives.specs.Primitives.{TriangleValue}
 use Rattle.ray_primitives.specs.TriangleReading.{triangles_read}
 use Rattle.ray_primitives.specs.BoxReading.{boxes_read}
-use Rattle.ray_bottom.specs.declared.geometry.Geometry.{Geometry}
-use Rattle.ray_bottom.specs.declared.shapes.Shapes.{Shapes}
-use Rattle.ray_bottom.specs.declared.shapes.Shapes.TheVariants as shapes
-use Rattle.ray_bottom.specs.Contents.{ContentsValue, with_geometry}
+use Rattle.ray_geometries.specs.declared.geometry.Geometry.{Geometry}
+use Rattle.ray_geometries.specs.declared.shapes.Shapes.{Shapes}
+use Rattle.ray_geometries.specs.declared.shapes.Shapes.TheVariants as shapes
+use Rattle.ray_geometries.specs.Contents.{ContentsValue, with_geometry}
 use Rattle.ray_bottom.specs.Trees.{BottomWithTree, without_tree}
 
 -- a builder: the contents so far, and those of the structure that is updated, if one is

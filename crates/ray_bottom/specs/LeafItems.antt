@@ -4,9 +4,9 @@ use Rattle.ray_geom.specs.Scene.{RayValue, TriValue, IsTri, tri_value}
 use Rattle.ray_geom.specs.Boxes.{BoxValue, IsBox, box_value}
 use Rattle.ray_geom.specs.Transform.{MatrixValue}
 use Rattle.ray_tree.specs.Shapes.{node_at}
-use Rattle.ray_bottom.specs.declared.geometry.Geometry.{Geometry}
-use Rattle.ray_bottom.specs.declared.shapes.Shapes.{Shapes}
-use Rattle.ray_bottom.specs.declared.shapes.Shapes.TheVariants.{Triangles, Boxes}
+use Rattle.ray_geometries.specs.declared.geometry.Geometry.{Geometry}
+use Rattle.ray_geometries.specs.declared.shapes.Shapes.{Shapes}
+use Rattle.ray_geometries.specs.declared.shapes.Shapes.TheVariants.{Triangles, Boxes}
 use Rattle.ray_bottom.specs.declared.prim_place.PrimPlace.{PrimPlace}
 use Rattle.ray_bottom.specs.declared.leaf_item.LeafItem.{LeafItem}
 use Rattle.ray_bottom.specs.declared.leaf_item.ItemPoints.{ItemPoints}

@@ -9,9 +9,9 @@ use Rattle.ray_geom.specs.HitValue.{HitValue, hit_of, hit_value}
 use Rattle.ray_geom.specs.ObjectRay.{object_of}
 use Rattle.ray_prune.specs.BoxReach.{SpanValue, span_of, span_value}
 use Rattle.ray_primitives.specs.Primitives.{TriangleValue}
-use Rattle.ray_bottom.specs.declared.geometry.Geometry.{Geometry}
-use Rattle.ray_bottom.specs.declared.shapes.Shapes.{Shapes}
-use Rattle.ray_bottom.specs.declared.shapes.Shapes.TheVariants.{Triangles, Boxes}
+use Rattle.ray_geometries.specs.declared.geometry.Geometry.{Geometry}
+use Rattle.ray_geometries.specs.declared.shapes.Shapes.{Shapes}
+use Rattle.ray_geometries.specs.declared.shapes.Shapes.TheVariants.{Triangles, Boxes}
 use Rattle.ray_bottom.specs.declared.prim_place.PrimPlace.{PrimPlace}
 use Rattle.ray_bottom.specs.declared.meet.Meet.{Meet}
 use Rattle.ray_bottom.specs.declared.meet.Meet.TheVariants.{Tri, Aabb}

@@ -5,7 +5,7 @@ use Rattle.std.specs.BTreeMap.{is_at}
 use Rattle.std.specs.Ordering.{nat_cmp}
 use Rattle.ray_tree.specs.Trees.{TreeOver}
 use Rattle.ray_wide.specs.Wides.{WideOver}
-use Rattle.ray_bottom.specs.Contents.{ContentsValue, IsContents}
+use Rattle.ray_geometries.specs.Contents.{ContentsValue, IsContents}
 use Rattle.ray_bottom.specs.Trees.{BottomWithTree, items_of, without_tree}
 
 -- the ids for which room was made, each with what stands under it

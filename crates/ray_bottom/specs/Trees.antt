@@ -10,11 +10,11 @@ use Rattle.ray_tree.specs.Trees.{TreeValue}
 use Rattle.ray_wide.specs.Wides.{WideValue}
 use Rattle.ray_hierarchy.specs.Hierarchies.{HierarchyValue}
 use Rattle.ray_primitives.specs.Primitives.{box_of_triangle}
-use Rattle.ray_bottom.specs.declared.geometry.Geometry.{Geometry}
-use Rattle.ray_bottom.specs.declared.shapes.Shapes.{Shapes}
-use Rattle.ray_bottom.specs.declared.shapes.Shapes.TheVariants.{Triangles, Boxes}
+use Rattle.ray_geometries.specs.declared.geometry.Geometry.{Geometry}
+use Rattle.ray_geometries.specs.declared.shapes.Shapes.{Shapes}
+use Rattle.ray_geometries.specs.declared.shapes.Shapes.TheVariants.{Triangles, Boxes}
 use Rattle.ray_bottom.specs.declared.prim_place.PrimPlace.{PrimPlace}
-use Rattle.ray_bottom.specs.Contents.{ContentsValue, count_of}
+use Rattle.ray_geometries.specs.Contents.{ContentsValue, count_of}
 
 -- a structure: the flags of its build and its geometries, which are its contents, and its box trees, a binary and a wide one
 pub record BottomWithTree : Type 0 where

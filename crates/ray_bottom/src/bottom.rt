@@ -1,8 +1,9 @@
-ghost use Rattle.std.specs.Prelude.{◌≡◌, ◌↔◌, ◌+◌, ◌<◌, ◌≤◌, All, IfOk, IfSome, [], None, Some, length, map, slice_get, option_map};
+ghost use Rattle.std.specs.Prelude.{◌≡◌, ◌↔◌, ◌+◌, ◌<◌, ◌≤◌, All, IfOk, OnOk, IfSome, [], None, Some, length, map, slice_get, option_map};
 ghost use Rattle.ray_geom.specs.LeastBoxes.{HoldsBoxes, IsLeast};
 ghost use Rattle.ray_bytes.specs.StructureSizes.{compacted_size};
-ghost use Rattle.ray_bottom.specs.Contents.{bounds_of, total_of, active_of, active_boxes};
-ghost use Rattle.ray_bottom.specs.Contents.{kind_of, count_of, IsContents};
+ghost use Rattle.ray_geometries.specs.Contents.{bounds_of, total_of, active_of, active_boxes};
+ghost use Rattle.ray_geometries.specs.Contents.{kind_of, count_of, IsContents};
+ghost use Rattle.ray_geometries.specs.Storing.{payload_of};
 ghost use Rattle.ray_bottom.specs.LeafItems.{IsItemOf, items_below, place_of_item};
 ghost use Rattle.ray_bottom.specs.Slots.{IsSound};
 ghost use Rattle.ray_bottom.specs.Trees.{without_tree, items_of, places_below};
@@ -10,18 +11,18 @@ ghost use Rattle.ray_tree.specs.Trees.{TreeOver};
 ghost use Rattle.ray_wide.specs.Subtrees.{IsWideLeaf};
 ghost use Rattle.ray_wide.specs.Wides.{WideOver};
 
-use crate::contents::Contents;
-use crate::geometry::Geometry;
 use crate::leaf_item::LeafItem;
 use crate::prim_place::PrimPlace;
 use ray_bytes::compacted_of;
 use ray_flags::{BuildFlags, Kind};
-use ray_geom::Box3;
+use ray_geom::{Box3, Steps};
+use ray_geometries::{Contents, Geometry};
 use ray_hierarchy::Hierarchy;
 use ray_tree::{Node, Tree};
 use ray_wide::{Wide, WideLeaf};
 use std::alloc::{AllocError as NoMemory, Global};
 use std::marker::Model;
+use std::sync::ledger::Ledger;
 
 /// A bottom structure that is built. Contracts see it as its contents with its box tree.
 /// (VkAccelerationStructureKHR of the type VK_ACCELERATION_STRUCTURE_TYPE_BOTTOM_LEVEL_KHR)
@@ -210,6 +211,20 @@ impl Bottom {
             result ≡ compacted_size (length gs) (total_of gs) (active_of gs) }
     {
         compacted_of(self.geometries(), self.total(), self.active())
+    }
+
+    /// The contents as they are stored, with one step for each primitive. (Own: the layout; for
+    /// vkCmdCopyAccelerationStructureToMemoryKHR.)
+    pub fn payload<L: Ledger>(
+        &self,
+        alloc: Global,
+        steps: &mut Steps<L>,
+    ) -> Result<Vec<u8>, NoMemory>
+        ensures value { IfOk result (λ bytes. bytes.items ≡ payload_of (without_tree self.now)) }
+        ensures cost { OnOk result (steps.new ≡ steps.old + total_of self.now.geometries) }
+        ensures rising { steps.old ≤ steps.new }
+    {
+        self.contents.payload(alloc, steps)
     }
 
     /// Whether a geometry is opaque.

@@ -1,24 +1,21 @@
 ghost use Rattle.std.specs.Prelude.{◌≡◌, ◌≤◌, ◌^◌, None, Some, [], IfOk, IsSome, option_copied, option_and_then, option_map, length, slice_get, false};
 ghost use Rattle.ray_flags.specs.declared.kind.Kind.TheVariants.{Triangle, Aabb};
-ghost use Rattle.ray_bottom.specs.Contents.{has_both_fast, HasRoom, IsContents};
+ghost use Rattle.ray_geometries.specs.Contents.{has_both_fast, HasRoom, IsContents};
 ghost use Rattle.ray_bottom.specs.Builders.{bare, with_triangles, with_boxes, IsAdded};
 ghost use Rattle.ray_bottom.specs.Builders.{IsNew, size_of_indices};
 ghost use Rattle.ray_bottom.specs.Builders.{triangles_in, boxes_in, IsRestored};
-ghost use Rattle.ray_bottom.specs.Storing.{stored_shapes};
+ghost use Rattle.ray_geometries.specs.Storing.{stored_shapes};
 ghost use Rattle.ray_bottom.specs.Trees.{items_of, without_tree};
 ghost use Rattle.ray_hierarchy.specs.Hierarchies.{IsTreeOf};
 ghost use Rattle.ray_tree.specs.Trees.{TreeOver};
 
 use crate::bottom::Bottom;
-use crate::contents::Contents;
-use crate::geometry::Geometry;
 use crate::items::{items_of, places_of};
 use crate::leaf_items::leaf_items_of;
-use crate::shapes::Shapes;
-use crate::stored::Stored;
 use ray_bytes::{BoxView, IndexView, TransformView, VertexView};
 use ray_flags::BuildFlags;
 use ray_geom::Box3;
+use ray_geometries::{Contents, Geometry, Shapes, Stored};
 use ray_hierarchy::Hierarchy;
 use ray_primitives::{
     BoxInfo, BuildFault, KeptBox, KeptTriangle, TriangleInfo, read_boxes, read_triangles,

@@ -2,13 +2,12 @@
 ghost use Rattle.std.specs.Prelude.{◌≡◌, ◌++◌, ◌≤◌, ◌^◌, OnOk, IfOk, map, length, slice_index_or};
 ghost use Rattle.std.specs.List.{range_with_len};
 ghost use Rattle.ray_primitives.specs.Primitives.{box_of_triangle};
-ghost use Rattle.ray_bottom.specs.Contents.{total_of};
+ghost use Rattle.ray_geometries.specs.Contents.{total_of};
 ghost use Rattle.ray_bottom.specs.Trees.{items_of, items_of_shapes, place_at, place_of, places_from};
 
-use crate::geometry::Geometry;
 use crate::prim_place::PrimPlace;
-use crate::shapes::Shapes;
 use ray_geom::Box3;
+use ray_geometries::{Geometry, Shapes};
 use ray_primitives::{KeptBox, KeptTriangle};
 use std::alloc::{AllocError as NoMemory, Global};
 

@@ -2,11 +2,10 @@
 ghost use Rattle.std.specs.Prelude.{◌≡◌, IfOk, map, option_map, slice_get};
 ghost use Rattle.ray_bottom.specs.LeafItems.{any_points, item_at, points_at, points_in, points_of_box, points_of_tri};
 
-use crate::geometry::Geometry;
 use crate::leaf_item::{ItemPoints, LeafItem};
 use crate::prim_place::PrimPlace;
-use crate::shapes::Shapes;
 use ray_contents::Point32;
+use ray_geometries::{Geometry, Shapes};
 use ray_primitives::{KeptBox, KeptTriangle};
 use std::alloc::{AllocError as NoMemory, Global};
 

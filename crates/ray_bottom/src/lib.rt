@@ -4,28 +4,23 @@
 //! The layers above use these:
 //! - [`Builder`], whose calls say by `with_triangles` and `with_boxes` of `specs/Builders` which
 //!   contents it holds, or which data rule a geometry breaks first;
-//! - [`Bottom`], which contracts see by `specs/Trees` as its contents (`specs/Contents`) with its
-//!   box tree, with its accessors;
+//! - [`Bottom`], which contracts see by `specs/Trees` as its contents (`specs/Contents` of
+//!   `ray_geometries`) with its box tree, with its accessors;
 //! - [`Bottoms`], the structures by their ids, with room that is made first.
 //!
-//! It stands on `ray_primitives` (how geometry is read and kept), `ray_contents`, `ray_geom`,
-//! `ray_prune` (spans), `ray_hierarchy` (box trees), `ray_bytes` and `ray_flags`.
+//! It stands on `ray_geometries` (the contents, and how they are stored), `ray_primitives` (how
+//! geometry is read and kept), `ray_contents`, `ray_geom`, `ray_prune` (spans), `ray_hierarchy` (box
+//! trees), `ray_bytes` and `ray_flags`.
 #![tactic(auto)]
 
 mod bottom;
 mod bottoms;
 mod builder;
-mod contents;
-mod geometry;
 mod items;
 mod leaf_item;
 mod leaf_items;
 mod meet;
-mod payload;
 mod prim_place;
-mod shapes;
-mod stored;
-mod stored_law;
 mod testing;
 
 pub use crate::bottom::Bottom;
@@ -34,7 +29,6 @@ pub use crate::builder::Builder;
 pub use crate::leaf_item::{ItemPoints, LeafItem};
 pub use crate::meet::Meet;
 pub use crate::prim_place::PrimPlace;
-pub use crate::stored::Stored;
-pub use crate::stored_law::{stored_again, stored_back};
+pub use ray_geometries::{Stored, stored_again, stored_back};
 pub use ray_primitives::{BoxInfo, BuildFault, TriangleInfo};
 pub use std::alloc::AllocError as NoMemory;

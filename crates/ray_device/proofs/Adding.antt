@@ -20,9 +20,9 @@ use Rattle.ray_primitives.specs.declared.triangle_info.TriangleInfo.{TriangleInf
 use Rattle.ray_primitives.specs.Primitives.{TriangleValue}
 use Rattle.ray_primitives.specs.TriangleReading.{triangles_with, triangles_read, triangle_element, transform_read}
 use Rattle.ray_primitives.specs.BoxReading.{boxes_read, box_element}
-use Rattle.ray_bottom.specs.declared.geometry.Geometry as bottoms
+use Rattle.ray_geometries.specs.declared.geometry.Geometry as bottoms
 use Rattle.ray_bottom.specs.Builders.{BuilderValue, builder_with, triangles_added, boxes_added, with_triangles, with_boxes, triangle_geometry, box_geometry, old_triangles, old_boxes}
-use Rattle.ray_bottom.specs.Contents.{HasRoom, kind_of, count_of, total_of}
+use Rattle.ray_geometries.specs.Contents.{HasRoom, kind_of, count_of, total_of}
 use Rattle.ray_cmd.specs.declared.geometry.Geometry.{Geometry}
 use Rattle.ray_cmd.specs.declared.geometry.Geometry.TheVariants as geometries
 use Rattle.ray_cmd.specs.declared.spot.Spot.{Spot}

@@ -15,7 +15,7 @@ use Rattle.ray_walk.specs.Candidates.{Structures}
 use Rattle.ray_walk.specs.Laws.{AgreeFor}
 use Rattle.ray_walk.specs.Standing.{IsStanding, AreStanding}
 use Rattle.ray_walk.proofs.Agreeing.{candidates-agree}
-use Rattle.ray_bottom.specs.Contents as bottom_specs
+use Rattle.ray_geometries.specs.Contents as bottom_specs
 use Rattle.ray_action.specs.Memory.{Memory, Contents, ContentsAt, as_bottom, as_top, bytes_at}
 use Rattle.ray_action.specs.Areas.{has}
 use Rattle.ray_action.specs.Action.{Tracing}

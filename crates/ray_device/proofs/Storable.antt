@@ -7,7 +7,7 @@ use Rattle.std.proofs.lemmas.List.FromFn.{length-map-range_with_len}
 use Rattle.ray_bytes.specs.declared.data_rule.DataRule.TheVariants.{X13}
 use Rattle.ray_cmd.specs.declared.place.Place.TheVariants.{Whole}
 use Rattle.ray_bytes.specs.declared.data_fault.DataFault.{DataFault}
-use Rattle.ray_bottom.specs.Contents as bottoms
+use Rattle.ray_geometries.specs.Contents as bottoms
 use Rattle.ray_bottom.specs.Builders.{BuilderValue}
 use Rattle.ray_top.specs.Contents as tops
 use Rattle.ray_top.specs.declared.used.Used.{Used}

@@ -6,7 +6,7 @@ use Rattle.std.proofs.lemmas.List.Folds.{list_any-append}
 use Rattle.std.proofs.lemmas.Bool.{eq-eqb}
 use Rattle.std.proofs.Common.{append_assoc}
 use Rattle.ray_geom.specs.Boxes.{BoxValue}
-use Rattle.ray_bottom.specs.Contents as bottoms
+use Rattle.ray_geometries.specs.Contents as bottoms
 use Rattle.ray_action.specs.Memory.{Memory, Contents, Bottom, Top, ContentsAt, as_bottom, bounds_of}
 use Rattle.ray_action.specs.Areas.{has}
 use Rattle.ray_action.specs.Building.{all_used, used_of}

@@ -5,9 +5,9 @@ use Rattle.ray_bytes.specs.declared.data_fault.DataFault.{DataFault}
 use Rattle.ray_flags.specs.declared.kind.Kind.TheVariants.{Triangle, Aabb}
 use Rattle.ray_primitives.specs.declared.build_fault.BuildFault.{BuildFault}
 use Rattle.ray_primitives.specs.declared.build_fault.BuildFault.TheVariants.{Data, NoMemory}
-use Rattle.ray_bottom.specs.declared.geometry.Geometry as bottoms
+use Rattle.ray_geometries.specs.declared.geometry.Geometry as bottoms
 use Rattle.ray_bottom.specs.Builders.{BuilderValue, BuilderWithTree, bare}
-use Rattle.ray_bottom.specs.Contents.{HasRoom, kind_of, total_of}
+use Rattle.ray_geometries.specs.Contents.{HasRoom, kind_of, total_of}
 use Rattle.ray_cmd.specs.declared.geometry.Geometry.{Geometry}
 use Rattle.ray_cmd.specs.declared.geometry.Geometry.TheVariants as geometries
 use Rattle.ray_rules.specs.declared.byte_range.ByteRange.{ByteRange}

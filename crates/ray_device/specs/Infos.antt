@@ -2,7 +2,7 @@
 -- its destination there. (Own.)
 use Rattle.std.specs.Prelude.{ℕ, ◌≡◌, ◌≤◌, ◌^◌, List, [], ◌∷◌, map, false, Option, Some, None}
 use Rattle.ray_bytes.specs.Views as views
-use Rattle.ray_bottom.specs.Contents as bottoms
+use Rattle.ray_geometries.specs.Contents as bottoms
 use Rattle.ray_top.specs.Contents as tops
 use Rattle.ray_cmd.specs.declared.build_mode.BuildMode.{BuildMode}
 use Rattle.ray_cmd.specs.declared.build_mode.BuildMode.TheVariants as modes

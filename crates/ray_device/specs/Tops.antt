@@ -1,7 +1,7 @@
 -- What a build of a top structure gives, by the memory as it is. (Own.)
 use Rattle.std.specs.Prelude.{ℕ, List, Option}
 use Rattle.std.specs.Option.{option_and_then}
-use Rattle.ray_bottom.specs.Contents as bottoms
+use Rattle.ray_geometries.specs.Contents as bottoms
 use Rattle.ray_top.specs.declared.used.Used.{Used}
 use Rattle.ray_rules.specs.declared.byte_range.ByteRange.{ByteRange}
 use Rattle.ray_action.specs.Memory.{Memory, ContentsAt, as_bottom}

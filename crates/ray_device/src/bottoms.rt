@@ -7,7 +7,7 @@ ghost use Rattle.ray_action.specs.Outcomes.{bottom_outcome};
 ghost use Rattle.ray_action.specs.Seeing.{see_range};
 ghost use Rattle.ray_bottom.specs.Trees.{without_tree};
 ghost use Rattle.ray_bottom.specs.Builders.{BuilderValue, bare, IsAdded, size_of_indices, with_triangles};
-ghost use Rattle.ray_bottom.specs.Contents.{HasRoom, has_both_fast};
+ghost use Rattle.ray_geometries.specs.Contents.{HasRoom, has_both_fast};
 ghost use Rattle.ray_memory.specs.State.{memory_of};
 ghost use Rattle.ray_device.specs.Bottoms.{add_now, add_all_now, CanAdd, HasRoomFor, IsBuilder, IsThereNow, IsTransformThere, size_now};
 ghost use Rattle.ray_device.specs.Fetching.{IsFetched};

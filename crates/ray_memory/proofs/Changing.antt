@@ -6,7 +6,7 @@ use Rattle.std.proofs.lemmas.Bool.{cases_eq, cases_lt, cond-true, cond-false, eq
 use Rattle.std.proofs.lemmas.Option.{slice_get_past, get_or_from_slice_get}
 use Rattle.ray_cmd.specs.declared.command.Command.{Command}
 use Rattle.ray_cmd.specs.declared.command.Command.TheVariants as commands
-use Rattle.ray_bottom.specs.Contents as bottoms
+use Rattle.ray_geometries.specs.Contents as bottoms
 use Rattle.ray_bottom.specs.Slots.{Slots, slot_at, contents_at, has_room, Changes}
 use Rattle.ray_bottom.specs.Trees as bottom_trees
 use Rattle.ray_top.specs.Trees as top_trees

@@ -1,6 +1,6 @@
 -- What a state of the program is, and the memory that it holds. (Own.)
 use Rattle.std.specs.Prelude.{ℕ, ◌≡◌, List, length, slice_get, Option, Some, None, true, option_map, option_and_then, ◌==◌, if◌then◌else◌}
-use Rattle.ray_bottom.specs.Contents as bottoms
+use Rattle.ray_geometries.specs.Contents as bottoms
 use Rattle.ray_bottom.specs.Slots.{Slots, contents_at, has_room}
 use Rattle.ray_top.specs.Trees.{TopWithTree, without_tree}
 use Rattle.ray_cmd.specs.declared.structure_kind.StructureKind.{StructureKind}

@@ -6,7 +6,7 @@ use Rattle.std.specs.Option.{option_map, option_map_or, option_and_then}
 use Rattle.ray_geom.specs.Boxes.{BoxValue}
 use Rattle.ray_contents.specs.Bounds.{KeepsBounds}
 use Rattle.ray_flags.specs.declared.build_flags.BuildFlags.{BuildFlags}
-use Rattle.ray_bottom.specs.Contents as bottoms
+use Rattle.ray_geometries.specs.Contents as bottoms
 use Rattle.ray_top.specs.Contents as tops
 use Rattle.ray_top.specs.Contents.{IsActive}
 use Rattle.ray_top.specs.Instances.{InstanceValue}

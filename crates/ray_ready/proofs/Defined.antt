@@ -2,7 +2,7 @@
 use Rattle.std.proofs.Common.{◌≡◌, ℕ, List, Option, Some, None, Result, Ok, Err, IsSome, refl}
 use Rattle.std.specs.Option.{option_map_or, option_and_then}
 use Rattle.ray_bytes.specs.declared.data_fault.DataFault.{DataFault}
-use Rattle.ray_bottom.specs.Contents as bottoms
+use Rattle.ray_geometries.specs.Contents as bottoms
 use Rattle.ray_bottom.specs.Builders.{BuilderValue}
 use Rattle.ray_top.specs.Contents as tops
 use Rattle.ray_top.specs.declared.used.Used.{Used}

@@ -20,7 +20,7 @@ use Rattle.ray_contents.proofs.Gathered.{All-gathered}
 use Rattle.ray_primitives.proofs.Results.{element_ok}
 use Rattle.ray_flags.specs.declared.build_flags.BuildFlags.{BuildFlags}
 use Rattle.ray_bottom.specs.Builders.{BuilderValue}
-use Rattle.ray_bottom.specs.Contents as bottoms
+use Rattle.ray_geometries.specs.Contents as bottoms
 use Rattle.ray_top.specs.Contents as tops
 use Rattle.ray_top.specs.Contents.{IsInstance}
 use Rattle.ray_top.specs.Instances.{InstanceValue, flags_in, forces_both, instance_from, matrix_from}

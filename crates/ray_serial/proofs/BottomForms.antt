@@ -12,9 +12,9 @@ use Rattle.ray_bytes.specs.StructureSizes.{structure_size}
 use Rattle.ray_flags.specs.declared.build_flags.BuildFlags.{BuildFlags}
 use Rattle.ray_flags.specs.declared.kind.Kind.{Kind}
 use Rattle.ray_flags.specs.declared.kind.Kind.TheVariants.{Triangle, Aabb}
-use Rattle.ray_bottom.specs.declared.geometry.Geometry.{Geometry}
-use Rattle.ray_bottom.specs.Contents.{ContentsValue, IsContents, has_both_fast, kind_of, count_of, total_of}
-use Rattle.ray_bottom.specs.Storing.{bytes_of_words, kind_number, geometry_bytes, payload_of}
+use Rattle.ray_geometries.specs.declared.geometry.Geometry.{Geometry}
+use Rattle.ray_geometries.specs.Contents.{ContentsValue, IsContents, has_both_fast, kind_of, count_of, total_of}
+use Rattle.ray_geometries.specs.Storing.{bytes_of_words, kind_number, geometry_bytes, payload_of}
 use Rattle.ray_serial.specs.Heads.{element_size}
 use Rattle.ray_serial.specs.Rows.{are_geometries, total_in, row_total, geometries_in}
 use Rattle.ray_serial.specs.InstanceBytes.{are_instances}

@@ -13,12 +13,12 @@ use Rattle.ray_bytes.specs.declared.format.Format.TheVariants.{S32x3, S32x2, S16
 use Rattle.ray_flags.specs.declared.kind.Kind.{Kind}
 use Rattle.ray_flags.specs.declared.kind.Kind.TheVariants.{Triangle, Aabb}
 use Rattle.ray_primitives.specs.StoredPrimitives.{stored_triangles, stored_boxes}
-use Rattle.ray_bottom.specs.declared.geometry.Geometry.{Geometry}
-use Rattle.ray_bottom.specs.declared.shapes.Shapes.{Shapes}
-use Rattle.ray_bottom.specs.declared.shapes.Shapes.TheVariants.{Triangles, Boxes}
-use Rattle.ray_bottom.specs.Contents.{IsGeometry, is_index_size, kind_of, kind_of_shapes, count_of, count_of_shapes, total_of}
-use Rattle.ray_bottom.specs.Storing.{kind_number, opaque_number, format_number, index_number, format_of, index_size_of, stored_shapes, triangles_of, boxes_of_elements, element_bytes, geometry_bytes}
-use Rattle.ray_bottom.proofs.Restoring.{AreStored-shapes, element_bytes-stored}
+use Rattle.ray_geometries.specs.declared.geometry.Geometry.{Geometry}
+use Rattle.ray_geometries.specs.declared.shapes.Shapes.{Shapes}
+use Rattle.ray_geometries.specs.declared.shapes.Shapes.TheVariants.{Triangles, Boxes}
+use Rattle.ray_geometries.specs.Contents.{IsGeometry, is_index_size, kind_of, kind_of_shapes, count_of, count_of_shapes, total_of}
+use Rattle.ray_geometries.specs.Storing.{kind_number, opaque_number, format_number, index_number, format_of, index_size_of, stored_shapes, triangles_of, boxes_of_elements, element_bytes, geometry_bytes}
+use Rattle.ray_geometries.proofs.Restoring.{AreStored-shapes, element_bytes-stored}
 use Rattle.ray_serial.specs.Heads.{greatest_opacity, greatest_number, has_zeros, count_in, elements_size, is_head, is_whole, is_geometry, geometry_size, kind_named, format_named, index_size_named, elements_in, shapes_in, geometry_of, geometry_in}
 use Rattle.ray_serial.specs.Rows.{after_first, are_geometries, total_in, with_first, geometries_in}
 use Rattle.ray_serial.proofs.Words.{AreBytes, AreBytes-drop, AreBytes-take, HasWords, head_bytes, head_again}

@@ -4,10 +4,10 @@ use Rattle.std.specs.Prelude.{All, IsSome, if◌then◌else◌}
 use Rattle.std.proofs.lemmas.List.Sums.{sum_by-append, sum_by-cons}
 use Rattle.ray_bytes.specs.Fields.{word_at}
 use Rattle.ray_flags.specs.declared.kind.Kind.{Kind}
-use Rattle.ray_bottom.specs.declared.geometry.Geometry.{Geometry}
+use Rattle.ray_geometries.specs.declared.geometry.Geometry.{Geometry}
 use Rattle.ray_bottom.specs.Builders.{BuilderValue, builder_with}
-use Rattle.ray_bottom.specs.Contents.{HasRoom, kind_of, count_of, total_of}
-use Rattle.ray_bottom.proofs.Restoring.{AreStored-shapes}
+use Rattle.ray_geometries.specs.Contents.{HasRoom, kind_of, count_of, total_of}
+use Rattle.ray_geometries.proofs.Restoring.{AreStored-shapes}
 use Rattle.std.proofs.lemmas.List.Elements.{All-cons, All-tail}
 use Rattle.ray_serial.specs.Heads.{kind_named, format_named, index_size_named, count_in, is_whole, elements_in, shapes_in, geometry_of, geometry_in}
 use Rattle.ray_serial.specs.Rows.{after_first, with_first, geometries_in}

@@ -21,7 +21,7 @@ use Rattle.ray_bytes.specs.StructureSizes.{structure_size}
 use Rattle.ray_bytes.specs.declared.instance_record.InstanceRecord.{InstanceRecord}
 use Rattle.ray_flags.specs.declared.build_flags.BuildFlags.{BuildFlags}
 use Rattle.ray_contents.specs.Limits.{matrix_within}
-use Rattle.ray_bottom.specs.Storing.{bytes_of_words}
+use Rattle.ray_geometries.specs.Storing.{bytes_of_words}
 use Rattle.ray_top.specs.declared.instance.Instance.{Instance}
 use Rattle.ray_top.specs.declared.used.Used.{Used}
 use Rattle.ray_top.specs.Contents.{ContentsValue, TopValue, IsTop, IsActive, has_both_fast}

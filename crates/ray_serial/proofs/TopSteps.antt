@@ -27,7 +27,7 @@ use Rattle.ray_geom.specs.declared.vec3.Vec3.{Vec3}
 use Rattle.ray_geom.specs.Vector.{IsShort, IsWithin}
 use Rattle.ray_geom.specs.Transform.{MatrixValue, IsMatrix, row_of, rows_of}
 use Rattle.ray_bytes.specs.References.{reference_of}
-use Rattle.ray_bottom.specs.Storing.{bytes_of_words}
+use Rattle.ray_geometries.specs.Storing.{bytes_of_words}
 use Rattle.ray_serial.specs.Written.{form_size}
 use Rattle.ray_serial.specs.TopWritten.{with_handle, handles_of, handle_number, placed_bytes, instance_bytes, all_instance_bytes, top_head, top_payload, top_form, FitsBits, FitsRow, IsRising}
 use Rattle.ray_bytes.specs.StructureSizes.{structure_size}

@@ -6,7 +6,7 @@ use Rattle.byteorder.specs.Endian.{little_bytes, little_number}
 use Rattle.byteorder.specs.Numbers.{little_number-reads_back}
 use Rattle.ray_bytes.specs.Fields.{word_at}
 use Rattle.ray_bytes.proofs.LittleBytes.{little_bytes-at}
-use Rattle.ray_bottom.specs.Storing.{bytes_of_words}
+use Rattle.ray_geometries.specs.Storing.{bytes_of_words}
 use Rattle.ray_serial.specs.Heads.{has_zeros, count_in}
 
 -- bytes are below 256

@@ -10,9 +10,9 @@ use Rattle.ray_bytes.specs.declared.format.Format.{Format}
 use Rattle.ray_bytes.specs.declared.format.Format.TheVariants.{S32x3, S32x2, S16x3}
 use Rattle.ray_flags.specs.declared.kind.Kind.{Kind}
 use Rattle.ray_flags.specs.declared.kind.Kind.TheVariants.{Triangle, Aabb}
-use Rattle.ray_bottom.specs.declared.geometry.Geometry.{Geometry}
-use Rattle.ray_bottom.specs.declared.shapes.Shapes.{Shapes}
-use Rattle.ray_bottom.specs.Storing.{stored_shapes}
+use Rattle.ray_geometries.specs.declared.geometry.Geometry.{Geometry}
+use Rattle.ray_geometries.specs.declared.shapes.Shapes.{Shapes}
+use Rattle.ray_geometries.specs.Storing.{stored_shapes}
 
 -- ---- sizes, in bytes
 

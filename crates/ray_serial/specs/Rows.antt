@@ -1,7 +1,7 @@
 -- Geometries one after the other: that they fill the bytes, how many elements they have together, and what they say.
 -- (Own: the layout.)
 use Rattle.std.specs.Prelude.{ℕ, zero, suc, ◌+◌, ◌==◌, ◌&&◌, Bool, if◌then◌else◌, Option, Some, None, List, [], ◌∷◌, length, drop}
-use Rattle.ray_bottom.specs.declared.geometry.Geometry.{Geometry}
+use Rattle.ray_geometries.specs.declared.geometry.Geometry.{Geometry}
 use Rattle.ray_serial.specs.Heads.{count_in, geometry_size, is_geometry, geometry_in}
 
 -- what follows the first geometry

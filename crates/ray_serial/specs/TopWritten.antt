@@ -14,7 +14,7 @@ use Rattle.ray_geom.specs.Transform.{MatrixValue, rows_of}
 use Rattle.ray_bytes.specs.declared.instance_record.InstanceRecord.{InstanceRecord}
 use Rattle.ray_bytes.specs.References.{reference_of}
 use Rattle.ray_bytes.specs.StructureSizes.{structure_size}
-use Rattle.ray_bottom.specs.Storing.{bytes_of_words}
+use Rattle.ray_geometries.specs.Storing.{bytes_of_words}
 use Rattle.ray_top.specs.declared.instance.Instance.{Instance}
 use Rattle.ray_top.specs.Instances.{InstanceValue, told_instance}
 use Rattle.ray_top.specs.Contents as tops

@@ -3,9 +3,9 @@ use Rattle.std.specs.Prelude.{ℕ, ◌≡◌, ◌+◌, ◌*◌, All, List, [], �
 use Rattle.std.specs.List.{flat_map}
 use Rattle.byteorder.specs.Endian.{little_bytes}
 use Rattle.ray_bytes.specs.StructureSizes.{structure_size}
-use Rattle.ray_bottom.specs.Contents as bottoms
-use Rattle.ray_bottom.specs.declared.geometry.Geometry.{Geometry}
-use Rattle.ray_bottom.specs.Storing.{payload_of}
+use Rattle.ray_geometries.specs.Contents as bottoms
+use Rattle.ray_geometries.specs.declared.geometry.Geometry.{Geometry}
+use Rattle.ray_geometries.specs.Storing.{payload_of}
 use Rattle.ray_flags.specs.declared.kind.Kind.{Kind}
 use Rattle.ray_serial.specs.Form.{device_text, form_text}
 

@@ -1,7 +1,7 @@
 ghost use Rattle.std.specs.Prelude.{◌≡◌, Some, None, [], IfOk, OnOk, IsSome, false, option_map};
 ghost use Rattle.ray_bytes.specs.Fields.{word_at};
 ghost use Rattle.ray_bottom.specs.Builders.{bare, builder_with, IsNew};
-ghost use Rattle.ray_bottom.specs.Contents.{has_both_fast, HasRoom};
+ghost use Rattle.ray_geometries.specs.Contents.{has_both_fast, HasRoom};
 ghost use Rattle.ray_bottom.specs.Trees.{without_tree};
 ghost use Rattle.ray_serial.specs.Heads.{kind_named, count_in, geometry_in};
 ghost use Rattle.ray_serial.specs.Rows.{geometries_in};

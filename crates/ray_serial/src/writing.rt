@@ -1,5 +1,5 @@
 ghost use Rattle.std.specs.Prelude.{◌≡◌, ◌<◌, ◌≤◌, ◌^◌, ◌++◌, Some, [], IfOk, OnOk, length};
-ghost use Rattle.ray_bottom.specs.Storing.{kind_number};
+ghost use Rattle.ray_geometries.specs.Storing.{kind_number};
 ghost use Rattle.ray_bottom.specs.Trees.{without_tree};
 ghost use Rattle.ray_serial.specs.Heads.{element_size};
 ghost use Rattle.ray_serial.specs.Meaning.{IsForm, bottom_in};

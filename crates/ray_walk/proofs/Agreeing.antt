@@ -2,7 +2,7 @@
 use Rattle.std.proofs.Common.{◌≡◌, refl, ap, ℕ, if◌then◌else◌, Option, Some, None, IfSome, option_and_then, List, [], slice_get, length}
 use Rattle.ray_geom.specs.Scene.{RayValue}
 use Rattle.ray_flags.specs.declared.ray_flags.RayFlags.{RayFlags}
-use Rattle.ray_bottom.specs.Contents.{ContentsValue as BottomContents}
+use Rattle.ray_geometries.specs.Contents.{ContentsValue as BottomContents}
 use Rattle.ray_top.specs.Instances.{InstanceValue}
 use Rattle.ray_top.specs.Contents.{ContentsValue as TopContents}
 use Rattle.ray_walk.specs.Candidates.{Structures, active_instance, candidates, found_in, found_in_instance, found_in_structure, is_seen, joined}

@@ -9,11 +9,11 @@ use Rattle.std.proofs.lemmas.Grind.{flat_map-append}
 use Rattle.ray_geom.specs.Boxes.{BoxValue}
 use Rattle.ray_primitives.specs.Primitives.{box_of_triangle}
 use Rattle.ray_tree.specs.Trees.{item_box}
-use Rattle.ray_bottom.specs.declared.geometry.Geometry.{Geometry}
-use Rattle.ray_bottom.specs.declared.shapes.Shapes.{Shapes}
-use Rattle.ray_bottom.specs.declared.shapes.Shapes.TheVariants.{Triangles, Boxes}
+use Rattle.ray_geometries.specs.declared.geometry.Geometry.{Geometry}
+use Rattle.ray_geometries.specs.declared.shapes.Shapes.{Shapes}
+use Rattle.ray_geometries.specs.declared.shapes.Shapes.TheVariants.{Triangles, Boxes}
 use Rattle.ray_bottom.specs.declared.prim_place.PrimPlace.{PrimPlace}
-use Rattle.ray_bottom.specs.Contents.{count_of, count_of_shapes}
+use Rattle.ray_geometries.specs.Contents.{count_of, count_of_shapes}
 use Rattle.ray_bottom.specs.Trees.{items_of, items_of_shapes, place_of, places_from, place_at}
 use Rattle.ray_walk.specs.Candidates.{joined}
 use Rattle.ray_walk.specs.Sound.{shape_box, prim_box, AreAligned}

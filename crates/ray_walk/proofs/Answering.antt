@@ -8,7 +8,7 @@ use Rattle.std.proofs.lemmas.List.Sorted.{IsPermutation-trans, IsPermutation-sym
 use Rattle.ray_tree.specs.declared.node.Node.{Node}
 use Rattle.ray_tree.specs.Trees.{shape_at, item_box}
 use Rattle.ray_morton.specs.KeyOrder.{items_below}
-use Rattle.ray_bottom.specs.Contents.{ContentsValue, bounds_of}
+use Rattle.ray_geometries.specs.Contents.{ContentsValue, bounds_of}
 use Rattle.ray_bottom.specs.Slots.{structure_at}
 use Rattle.ray_bottom.specs.Trees as bottoms
 use Rattle.ray_top.specs.Instances.{InstanceValue}

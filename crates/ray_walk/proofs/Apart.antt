@@ -8,8 +8,8 @@ use Rattle.std.proofs.lemmas.List.Sums.{sum_by-cons}
 use Rattle.ray_geom.specs.Scene.{RayValue}
 use Rattle.ray_geom.specs.Frac.{frac_cmp}
 use Rattle.ray_flags.specs.declared.ray_flags.RayFlags.{RayFlags}
-use Rattle.ray_bottom.specs.declared.geometry.Geometry.{Geometry}
-use Rattle.ray_bottom.specs.Contents.{ContentsValue as BottomContents, count_of}
+use Rattle.ray_geometries.specs.declared.geometry.Geometry.{Geometry}
+use Rattle.ray_geometries.specs.Contents.{ContentsValue as BottomContents, count_of}
 use Rattle.ray_bottom.specs.Meeting.{MeetValue, meet_of}
 use Rattle.ray_top.specs.Instances.{InstanceValue}
 use Rattle.ray_top.specs.Contents.{ContentsValue as TopContents}

@@ -14,12 +14,12 @@ use Rattle.ray_window.specs.Meets.{Meets}
 use Rattle.ray_window.specs.Windows.{window_of}
 use Rattle.ray_window.proofs.Windows.{window-holds}
 use Rattle.ray_primitives.specs.Primitives.{TriangleValue, box_of_triangle}
-use Rattle.ray_bottom.specs.declared.geometry.Geometry.{Geometry}
+use Rattle.ray_geometries.specs.declared.geometry.Geometry.{Geometry}
 use Rattle.ray_bottom.specs.declared.leaf_item.ItemPoints.{ItemPoints}
 use Rattle.ray_bottom.specs.declared.leaf_item.ItemPoints.TheVariants.{Triangle, Aabb, Nothing}
 use Rattle.ray_bottom.specs.declared.prim_place.PrimPlace.{PrimPlace}
-use Rattle.ray_bottom.specs.declared.shapes.Shapes.{Shapes}
-use Rattle.ray_bottom.specs.declared.shapes.Shapes.TheVariants.{Triangles, Boxes}
+use Rattle.ray_geometries.specs.declared.shapes.Shapes.{Shapes}
+use Rattle.ray_geometries.specs.declared.shapes.Shapes.TheVariants.{Triangles, Boxes}
 use Rattle.ray_bottom.specs.LeafItems.{any_points, points_at, points_in, points_of_box, points_of_tri}
 use Rattle.ray_query.specs.declared.found.Found.{Found}
 use Rattle.ray_nearest.specs.declared.turn.Turn.{Turn}

@@ -2,11 +2,11 @@
 use Rattle.std.proofs.Common.{◌≡◌, refl, subst, ℕ, Option, Some, None, option_and_then, IfSome, filter_map, List, All, slice_get}
 use Rattle.ray_geom.specs.Boxes.{BoxValue}
 use Rattle.ray_primitives.specs.Primitives.{box_of_triangle}
-use Rattle.ray_bottom.specs.declared.geometry.Geometry.{Geometry}
-use Rattle.ray_bottom.specs.declared.shapes.Shapes.{Shapes}
-use Rattle.ray_bottom.specs.declared.shapes.Shapes.TheVariants.{Triangles, Boxes}
+use Rattle.ray_geometries.specs.declared.geometry.Geometry.{Geometry}
+use Rattle.ray_geometries.specs.declared.shapes.Shapes.{Shapes}
+use Rattle.ray_geometries.specs.declared.shapes.Shapes.TheVariants.{Triangles, Boxes}
 use Rattle.ray_bottom.specs.declared.prim_place.PrimPlace.{PrimPlace}
-use Rattle.ray_bottom.specs.Contents.{boxes_of, boxes_of_shapes, active_boxes}
+use Rattle.ray_geometries.specs.Contents.{boxes_of, boxes_of_shapes, active_boxes}
 use Rattle.ray_bottom.proofs.Held.{All-flat_map, IfSome-filter_map}
 use Rattle.ray_walk.specs.Sound.{shape_box, prim_box}
 

@@ -17,11 +17,11 @@ use Rattle.ray_tree.specs.Trees.{TreeOver, TreeValue, box_at, boxes_below, shape
 use Rattle.ray_tree.proofs.LeastLists.{same_least}
 use Rattle.ray_climb.specs.Refits.{AreBoxes, box_over, refit_value}
 use Rattle.ray_climb.proofs.LeastOver.{is_box, least_at}
-use Rattle.ray_bottom.specs.declared.geometry.Geometry.{Geometry}
-use Rattle.ray_bottom.specs.declared.shapes.Shapes.{Shapes as Kept}
-use Rattle.ray_bottom.specs.declared.shapes.Shapes.TheVariants.{Triangles, Boxes}
+use Rattle.ray_geometries.specs.declared.geometry.Geometry.{Geometry}
+use Rattle.ray_geometries.specs.declared.shapes.Shapes.{Shapes as Kept}
+use Rattle.ray_geometries.specs.declared.shapes.Shapes.TheVariants.{Triangles, Boxes}
 use Rattle.ray_bottom.specs.declared.prim_place.PrimPlace.{PrimPlace}
-use Rattle.ray_bottom.specs.Contents.{IsGeometry, ShapesAreWithin}
+use Rattle.ray_geometries.specs.Contents.{IsGeometry, ShapesAreWithin}
 use Rattle.ray_bottom.specs.Slots.{IsSound}
 use Rattle.ray_bottom.specs.Trees as bottoms
 use Rattle.ray_top.specs.declared.used.Used.{Used}

@@ -20,8 +20,8 @@ use Rattle.ray_tree.proofs.Counting.{has_items, active-below}
 use Rattle.ray_tree.proofs.Rooted.{has_root}
 use Rattle.ray_tree.proofs.Under.{shape_zero}
 use Rattle.ray_morton.specs.KeyOrder.{items_below}
-use Rattle.ray_bottom.specs.declared.geometry.Geometry.{Geometry}
-use Rattle.ray_bottom.specs.Contents.{active_boxes, bounds_of, count_of}
+use Rattle.ray_geometries.specs.declared.geometry.Geometry.{Geometry}
+use Rattle.ray_geometries.specs.Contents.{active_boxes, bounds_of, count_of}
 use Rattle.ray_bottom.specs.Slots.{structure_at}
 use Rattle.ray_bottom.specs.Trees as bottoms
 use Rattle.ray_top.specs.Instances.{InstanceValue}

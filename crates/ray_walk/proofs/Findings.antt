@@ -4,11 +4,11 @@ use Rattle.std.proofs.lemmas.Option.{slice_get_within}
 use Rattle.ray_geom.specs.Scene.{RayValue}
 use Rattle.ray_geom.specs.Transform.{MatrixValue}
 use Rattle.ray_flags.specs.declared.ray_flags.RayFlags.{RayFlags}
-use Rattle.ray_bottom.specs.declared.geometry.Geometry.{Geometry}
-use Rattle.ray_bottom.specs.declared.shapes.Shapes.{Shapes}
-use Rattle.ray_bottom.specs.declared.shapes.Shapes.TheVariants.{Triangles, Boxes}
+use Rattle.ray_geometries.specs.declared.geometry.Geometry.{Geometry}
+use Rattle.ray_geometries.specs.declared.shapes.Shapes.{Shapes}
+use Rattle.ray_geometries.specs.declared.shapes.Shapes.TheVariants.{Triangles, Boxes}
 use Rattle.ray_bottom.specs.declared.prim_place.PrimPlace.{PrimPlace}
-use Rattle.ray_bottom.specs.Contents.{ContentsValue as BottomContents, count_of, count_of_shapes}
+use Rattle.ray_geometries.specs.Contents.{ContentsValue as BottomContents, count_of, count_of_shapes}
 use Rattle.ray_bottom.specs.Meeting.{MeetValue, Hit, Through, meet_of, shape_meet, triangle_meet, box_meet}
 use Rattle.ray_top.specs.Instances.{InstanceValue}
 use Rattle.ray_top.specs.Contents.{ContentsValue as TopContents}

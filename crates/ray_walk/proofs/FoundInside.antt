@@ -15,11 +15,11 @@ use Rattle.ray_prune.specs.BoxSpan.{IsInside}
 use Rattle.ray_prune.specs.BoxReach.{SpanValue, span_of}
 use Rattle.ray_flags.specs.declared.ray_flags.RayFlags.{RayFlags}
 use Rattle.ray_primitives.specs.Primitives.{TriangleValue, box_of_triangle, IsAabb}
-use Rattle.ray_bottom.specs.declared.geometry.Geometry.{Geometry}
-use Rattle.ray_bottom.specs.declared.shapes.Shapes.{Shapes}
-use Rattle.ray_bottom.specs.declared.shapes.Shapes.TheVariants.{Triangles, Boxes}
+use Rattle.ray_geometries.specs.declared.geometry.Geometry.{Geometry}
+use Rattle.ray_geometries.specs.declared.shapes.Shapes.{Shapes}
+use Rattle.ray_geometries.specs.declared.shapes.Shapes.TheVariants.{Triangles, Boxes}
 use Rattle.ray_bottom.specs.declared.prim_place.PrimPlace.{PrimPlace}
-use Rattle.ray_bottom.specs.Contents.{IsGeometry, ShapesAreWithin}
+use Rattle.ray_geometries.specs.Contents.{IsGeometry, ShapesAreWithin}
 use Rattle.ray_bottom.specs.Meeting.{MeetValue, Hit, Through, meet_of, shape_meet, triangle_meet, box_meet, hit_in_world, span_in_object, KeepsPoints, KeepsTri}
 use Rattle.ray_bottom.specs.Trees.{place_at}
 use Rattle.ray_bottom.proofs.Held.{All-KeepsPoints, KeepsTri-box}

@@ -13,10 +13,10 @@ use Rattle.ray_primitives.specs.Primitives.{box_of_triangle}
 use Rattle.ray_tree.specs.Shapes.{Shape, Gone, Tip, Fork}
 use Rattle.ray_tree.specs.Trees.{TreeValue, TreeOver, shape_at, box_at, item_box, boxes_of, boxes_below}
 use Rattle.ray_tree.proofs.LeastLists.{All-first, All-second}
-use Rattle.ray_bottom.specs.declared.geometry.Geometry.{Geometry}
-use Rattle.ray_bottom.specs.declared.shapes.Shapes.{Shapes}
-use Rattle.ray_bottom.specs.declared.shapes.Shapes.TheVariants.{Triangles, Boxes}
-use Rattle.ray_bottom.specs.Contents.{boxes_of as boxes_of_geometry, boxes_of_shapes, active_boxes, bounds_of}
+use Rattle.ray_geometries.specs.declared.geometry.Geometry.{Geometry}
+use Rattle.ray_geometries.specs.declared.shapes.Shapes.{Shapes}
+use Rattle.ray_geometries.specs.declared.shapes.Shapes.TheVariants.{Triangles, Boxes}
+use Rattle.ray_geometries.specs.Contents.{boxes_of as boxes_of_geometry, boxes_of_shapes, active_boxes, bounds_of}
 use Rattle.ray_bottom.specs.Trees.{items_of, items_of_shapes}
 use Rattle.ray_bottom.proofs.Held.{IfSome-filter_map}
 

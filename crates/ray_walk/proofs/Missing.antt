@@ -7,11 +7,11 @@ use Rattle.ray_geom.specs.LeastBoxes.{box_of_tri}
 use Rattle.ray_geom.specs.Transform.{MatrixValue}
 use Rattle.ray_flags.specs.declared.ray_flags.RayFlags.{RayFlags}
 use Rattle.ray_primitives.specs.Primitives.{TriangleValue, box_of_triangle}
-use Rattle.ray_bottom.specs.declared.geometry.Geometry.{Geometry}
-use Rattle.ray_bottom.specs.declared.shapes.Shapes.{Shapes}
-use Rattle.ray_bottom.specs.declared.shapes.Shapes.TheVariants.{Triangles, Boxes}
+use Rattle.ray_geometries.specs.declared.geometry.Geometry.{Geometry}
+use Rattle.ray_geometries.specs.declared.shapes.Shapes.{Shapes}
+use Rattle.ray_geometries.specs.declared.shapes.Shapes.TheVariants.{Triangles, Boxes}
 use Rattle.ray_bottom.specs.declared.prim_place.PrimPlace.{PrimPlace}
-use Rattle.ray_bottom.specs.Contents.{active_boxes, boxes_of, boxes_of_shapes}
+use Rattle.ray_geometries.specs.Contents.{active_boxes, boxes_of, boxes_of_shapes}
 use Rattle.ray_bottom.specs.Meeting.{meet_of, shape_meet, triangle_meet, box_meet, hit_in_world}
 use Rattle.ray_bottom.proofs.Held.{All-flat_map, IfSome-filter_map}
 use Rattle.ray_walk.specs.Candidates.{Placed, admitted, found_at, placed}

@@ -6,7 +6,7 @@ use Rattle.ray_contents.specs.Bounds.{KeepsBounds}
 use Rattle.ray_flags.specs.Admission.{ForcesBoth}
 use Rattle.ray_flags.specs.Flags.{instance_has, ForceOpaque, ForceNoOpaque}
 use Rattle.ray_flags.specs.declared.instance_flags.InstanceFlags.{InstanceFlags}
-use Rattle.ray_bottom.specs.Contents.{ContentsValue as BottomContents, bounds_of}
+use Rattle.ray_geometries.specs.Contents.{ContentsValue as BottomContents, bounds_of}
 use Rattle.ray_top.specs.declared.instance.Instance.{Instance}
 use Rattle.ray_top.specs.declared.used.Used.{Used}
 use Rattle.ray_top.specs.Instances.{InstanceValue, forces_both}

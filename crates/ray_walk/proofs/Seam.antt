@@ -9,7 +9,7 @@ use Rattle.ray_prune.proofs.Corners.{IsImageBox-fold, IsLeast-unwrapped}
 use Rattle.ray_prune.proofs.Inside.{IsInside-part}
 use Rattle.ray_prune.proofs.World.{IsInside-world}
 use Rattle.ray_tree.specs.Trees.{box_at, item_box}
-use Rattle.ray_bottom.specs.Contents.{bounds_of}
+use Rattle.ray_geometries.specs.Contents.{bounds_of}
 use Rattle.ray_top.specs.Instances.{InstanceValue}
 use Rattle.ray_top.specs.InstanceReading.{bounds_in}
 use Rattle.ray_top.specs.Trees.{without_tree, world_box, item_of, items_of}

@@ -11,7 +11,7 @@ use Rattle.ray_tree.specs.Trees.{TreeOver, shape_at}
 use Rattle.ray_tree.specs.Waits.{weight}
 use Rattle.ray_tree.proofs.NodeLaws.{at_inner}
 use Rattle.ray_tree.proofs.Sizes.{over-few, size-is, size_of}
-use Rattle.ray_bottom.specs.Contents.{total_of}
+use Rattle.ray_geometries.specs.Contents.{total_of}
 use Rattle.ray_bottom.specs.Trees as bottoms
 use Rattle.ray_bottom.proofs.Places.{items-few}
 use Rattle.ray_nearest.specs.declared.node.WalkNode.{WalkNode}

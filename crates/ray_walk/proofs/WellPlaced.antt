@@ -2,7 +2,7 @@
 use Rattle.std.proofs.Common.{◌≡◌, ◌∙◌, refl, sym, ap, subst, ℕ, Bool, true, false, if◌then◌else◌, Option, Some, None, option_map, option_and_then, IfSome, IsSomeAnd, slice_get}
 use Rattle.ray_geom.specs.Boxes.{BoxValue}
 use Rattle.ray_contents.specs.Bounds.{KeepsBounds}
-use Rattle.ray_bottom.specs.Contents.{ContentsValue as BottomContents, bounds_of}
+use Rattle.ray_geometries.specs.Contents.{ContentsValue as BottomContents, bounds_of}
 use Rattle.ray_bottom.specs.Slots.{Slots, structure_at, AreSound}
 use Rattle.ray_bottom.specs.Trees.{BottomWithTree, without_tree as contents_of}
 use Rattle.ray_top.specs.Instances.{InstanceValue}

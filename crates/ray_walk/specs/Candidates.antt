@@ -13,8 +13,8 @@ use Rattle.ray_prune.specs.Facing.{is_front}
 use Rattle.ray_flags.specs.declared.kind.Kind.TheVariants.{Triangle, Aabb}
 use Rattle.ray_flags.specs.declared.ray_flags.RayFlags.{RayFlags}
 use Rattle.ray_flags.specs.Admission.{opacity_of, shows_front, is_culled}
-use Rattle.ray_bottom.specs.declared.geometry.Geometry.{Geometry}
-use Rattle.ray_bottom.specs.Contents.{ContentsValue as BottomContents, count_of}
+use Rattle.ray_geometries.specs.declared.geometry.Geometry.{Geometry}
+use Rattle.ray_geometries.specs.Contents.{ContentsValue as BottomContents, count_of}
 use Rattle.ray_bottom.specs.Meeting.{MeetValue, Hit, Through, meet_of}
 use Rattle.ray_top.specs.Instances.{InstanceValue}
 use Rattle.ray_top.specs.Contents.{ContentsValue as TopContents}

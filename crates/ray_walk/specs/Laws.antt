@@ -6,8 +6,8 @@ use Rattle.ray_geom.specs.HitValue.{HitValue, hit_of}
 use Rattle.ray_prune.specs.Facing.{IsFront}
 use Rattle.ray_geom.specs.Frac.{numerator, denominator}
 use Rattle.ray_flags.specs.declared.ray_flags.RayFlags.{RayFlags}
-use Rattle.ray_bottom.specs.declared.geometry.Geometry.{Geometry}
-use Rattle.ray_bottom.specs.Contents.{ContentsValue as BottomContents}
+use Rattle.ray_geometries.specs.declared.geometry.Geometry.{Geometry}
+use Rattle.ray_geometries.specs.Contents.{ContentsValue as BottomContents}
 use Rattle.ray_bottom.specs.Meeting.{MeetValue, Hit, Through, meet_of}
 use Rattle.ray_top.specs.Instances.{InstanceValue}
 use Rattle.ray_top.specs.Contents.{ContentsValue as TopContents}

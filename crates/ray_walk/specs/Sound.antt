@@ -7,11 +7,11 @@ use Rattle.ray_contents.specs.Bounds.{KeepsBounds}
 use Rattle.ray_primitives.specs.Primitives.{box_of_triangle}
 use Rattle.ray_tree.specs.Trees.{TreeOver, item_box}
 use Rattle.ray_wide.specs.Wides.{WideOver}
-use Rattle.ray_bottom.specs.declared.geometry.Geometry.{Geometry}
-use Rattle.ray_bottom.specs.declared.shapes.Shapes.{Shapes}
-use Rattle.ray_bottom.specs.declared.shapes.Shapes.TheVariants.{Triangles, Boxes}
+use Rattle.ray_geometries.specs.declared.geometry.Geometry.{Geometry}
+use Rattle.ray_geometries.specs.declared.shapes.Shapes.{Shapes}
+use Rattle.ray_geometries.specs.declared.shapes.Shapes.TheVariants.{Triangles, Boxes}
 use Rattle.ray_bottom.specs.declared.prim_place.PrimPlace.{PrimPlace}
-use Rattle.ray_bottom.specs.Contents.{bounds_of}
+use Rattle.ray_geometries.specs.Contents.{bounds_of}
 use Rattle.ray_bottom.specs.Slots.{AreSound, IsSound}
 use Rattle.ray_bottom.specs.Trees.{items_of, place_at}
 use Rattle.ray_top.specs.Contents.{IsTop}

@@ -1,7 +1,7 @@
 -- What a trace asks of the structures that it is lent: that each active instance's stands there, as it was when the top
 -- structure was built or last updated. (Vulkan: an instance's structure has to be built, and not to have changed since.)
 use Rattle.std.specs.Prelude.{◌≡◌, Some, IfSome, List, All}
-use Rattle.ray_bottom.specs.Contents.{ContentsValue as BottomContents, bounds_of}
+use Rattle.ray_geometries.specs.Contents.{ContentsValue as BottomContents, bounds_of}
 use Rattle.ray_bottom.specs.Slots.{Slots, contents_at}
 use Rattle.ray_top.specs.declared.used.Used.{Used}
 use Rattle.ray_top.specs.Instances.{InstanceValue}

@@ -2,7 +2,7 @@
 use Rattle.std.specs.Prelude.{◌≡◌, Some}
 use Rattle.ray_contents.specs.Bounds.{KeepsBounds}
 use Rattle.ray_flags.specs.Admission.{ForcesBoth}
-use Rattle.ray_bottom.specs.Contents.{ContentsValue as BottomContents, bounds_of}
+use Rattle.ray_geometries.specs.Contents.{ContentsValue as BottomContents, bounds_of}
 use Rattle.ray_top.specs.declared.instance.Instance.{Instance}
 use Rattle.ray_top.specs.Instances.{InstanceValue}
 use Rattle.ray_walk.specs.declared.placed.Placed.{Placed as PlacedHere}

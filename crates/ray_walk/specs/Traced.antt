@@ -17,7 +17,7 @@ use Rattle.ray_tree.specs.declared.node.Node.TheVariants as nodes
 use Rattle.ray_tree.specs.Shapes.{node_at}
 use Rattle.ray_tree.specs.Trees.{TreeValue, shape_at, box_at}
 use Rattle.ray_tree.specs.Waits.{weight}
-use Rattle.ray_bottom.specs.declared.geometry.Geometry.{Geometry}
+use Rattle.ray_geometries.specs.declared.geometry.Geometry.{Geometry}
 use Rattle.ray_bottom.specs.declared.prim_place.PrimPlace.{PrimPlace}
 use Rattle.ray_bottom.specs.Trees.{BottomWithTree, place_at}
 use Rattle.ray_bottom.specs.Slots.{Slots, structure_at}

@@ -1,7 +1,7 @@
 ghost use Rattle.std.specs.Prelude.{◌≡◌, ◌+◌, Some};
 ghost use Rattle.std.specs.Option.{option_to_list};
 ghost use Rattle.ray_contents.specs.Bounds.{KeepsBounds};
-ghost use Rattle.ray_bottom.specs.Contents.{bounds_of};
+ghost use Rattle.ray_geometries.specs.Contents.{bounds_of};
 ghost use Rattle.ray_bottom.specs.LeafItems.{IsItemOf};
 ghost use Rattle.ray_bottom.specs.Meeting.{Hit, Through, meet_value};
 ghost use Rattle.ray_geom.specs.HitValue.{hit_value};

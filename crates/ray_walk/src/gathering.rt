@@ -3,7 +3,7 @@ ghost use Rattle.std.specs.Prelude.{length, option_map, slice_get};
 ghost use Rattle.std.specs.Option.{option_to_list};
 ghost use Rattle.ray_contents.specs.Bounds.{KeepsBounds};
 ghost use Rattle.ray_flags.specs.Admission.{AsksBoth, ForcesBoth};
-ghost use Rattle.ray_bottom.specs.Contents.{bounds_of};
+ghost use Rattle.ray_geometries.specs.Contents.{bounds_of};
 ghost use Rattle.ray_bottom.specs.Trees as bottom_trees;
 ghost use Rattle.ray_top.specs.Trees.{without_tree};
 ghost use Rattle.ray_walk.specs.Candidates.{active_instance, found_at, found_in, found_in_geometry};

@@ -1,6 +1,6 @@
 ghost use Rattle.std.specs.Prelude.{◌≡◌, ◌+◌, IfSome, All};
 ghost use Rattle.ray_contents.specs.Bounds.{KeepsBounds};
-ghost use Rattle.ray_bottom.specs.Contents.{bounds_of};
+ghost use Rattle.ray_geometries.specs.Contents.{bounds_of};
 ghost use Rattle.ray_bottom.specs.Meeting.{meet_of};
 ghost use Rattle.ray_top.specs.Trees.{without_tree};
 ghost use Rattle.ray_walk.specs.Laws.{CandidatesAreOne, CandidatesAreSo, FacesAreSo};

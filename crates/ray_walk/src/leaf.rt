@@ -2,7 +2,7 @@
 ghost use Rattle.std.specs.Prelude.{◌≡◌, ◌+◌, ◌<◌, ◌≤◌, All, IfSome, OnOk, Some, length, map};
 ghost use Rattle.std.specs.Option.{option_to_list};
 ghost use Rattle.ray_contents.specs.Bounds.{KeepsBounds};
-ghost use Rattle.ray_bottom.specs.Contents.{bounds_of};
+ghost use Rattle.ray_geometries.specs.Contents.{bounds_of};
 ghost use Rattle.ray_bottom.specs.LeafItems.{IsItemOf, place_of_item};
 ghost use Rattle.ray_bottom.specs.Trees.{places_below};
 ghost use Rattle.ray_flags.specs.Admission.{AsksBoth, ForcesBoth};

@@ -1,6 +1,6 @@
 use Rattle.std.proofs.Common.{subst}
-use Rattle.ray_bottom.specs.declared.shapes.Shapes.{Shapes}
-use Rattle.ray_bottom.specs.Contents.{boxes_of_shapes}
+use Rattle.ray_geometries.specs.declared.shapes.Shapes.{Shapes}
+use Rattle.ray_geometries.specs.Contents.{boxes_of_shapes}
 use Rattle.ray_bottom.specs.Meeting.{KeepsBoxes}
 use Rattle.ray_bottom.proofs.testing.test_in.Goals as goal
 

@@ -1,7 +1,7 @@
 use Rattle.std.proofs.Common.{◌≡◌, ◌<◌, ℕ, List, Some, false, option_map, sym, ap, subst, ◌∙◌, arith}
 use Rattle.std.specs.Prelude.{slice_index}
 use Rattle.ray_flags.specs.declared.build_flags.BuildFlags.{BuildFlags}
-use Rattle.ray_bottom.specs.Contents.{has_both_fast}
+use Rattle.ray_geometries.specs.Contents.{has_both_fast}
 use Rattle.ray_bottom.specs.Trees.{without_tree}
 use Rattle.ray_serial.specs.Rows.{geometries_in}
 use Rattle.ray_serial.specs.Form.{payload_in, flags_of_payload, geometry_count, row_of}

@@ -1,6 +1,6 @@
 use Rattle.std.proofs.Common.{ap, ◌∙◌}
 use Rattle.ray_geom.proofs.LeastBoxes.{IsLeastOf-boxes}
-use Rattle.ray_bottom.specs.Contents.{active_boxes, bounds_of}
+use Rattle.ray_geometries.specs.Contents.{active_boxes, bounds_of}
 use Rattle.ray_bottom.specs.Trees.{BottomWithTree}
 use Rattle.ray_bottom.proofs.bottom.Bottom.bounds.Goals as goal
 

@@ -1,5 +1,5 @@
 use Rattle.std.proofs.Common.{arith}
-use Rattle.ray_bottom.proofs.Counting.{count-le-total}
+use Rattle.ray_geometries.proofs.Counting.{count-le-total}
 use Rattle.ray_bottom.proofs.bottom.Bottom.count.Goals as goal
 
 pub overflow_cast-result : goal.overflow_cast-result

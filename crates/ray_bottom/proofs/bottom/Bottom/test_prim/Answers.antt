@@ -1,6 +1,6 @@
 use Rattle.std.proofs.Common.{sym, subst}
 use Rattle.ray_contents.specs.Bounds.{KeepsBounds}
-use Rattle.ray_bottom.specs.Contents.{bounds_of}
+use Rattle.ray_geometries.specs.Contents.{bounds_of}
 use Rattle.ray_bottom.specs.Trees.{BottomWithTree}
 use Rattle.ray_bottom.proofs.Held.{KeepsBoxes-geometry}
 use Rattle.ray_bottom.proofs.bottom.Bottom.test_prim.Goals as goal

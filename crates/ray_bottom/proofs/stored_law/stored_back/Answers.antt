@@ -1,6 +1,0 @@
-use Rattle.std.proofs.Common.{get_or}
-use Rattle.ray_bottom.proofs.Restoring.{IsStoredBack-geometry}
-use Rattle.ray_bottom.proofs.stored_law.stored_back.Goals as goal
-
-pub returns : goal.returns
-returns c = λ k d below. IsStoredBack-geometry (get_or c.args._bottom.now.geometries k d) (c.geometries-geometries.ensures.limits.each k d below)
