@@ -116,7 +116,7 @@ fn append_all(bytes: &mut Vec<u8>, handles: &[u64], top: &Top) -> Result<(), NoM
 }
 
 // The head of the payload and that of its geometry.
-#[tactic(auto, unfolding(crate::specs::TopWritten::top_head, ray_bottom::specs::Storing::bytes_of_words))]
+#[tactic(auto, unfolding(crate::specs::TopWritten::top_head, ray_geometries::specs::Storing::bytes_of_words))]
 fn append_head(bytes: &mut Vec<u8>, flags: u32, count: u32) -> Result<(), NoMemory>
     ensures { OnOk result (bytes.new.items ≡ bytes.old.items ++ top_head flags count) }
 {
