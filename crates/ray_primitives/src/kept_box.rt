@@ -70,7 +70,7 @@ impl KeptBox {
         if is_inactive_mark(self.lo.x()) {
             None
         } else {
-            Box3::new(self.lo.wide(), self.hi.wide())
+            Some(Box3::of_corners(self.lo.wide(), self.hi.wide()))
         }
     }
 

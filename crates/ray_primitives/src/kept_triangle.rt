@@ -78,7 +78,8 @@ impl KeptTriangle {
         if is_inactive_mark(self.a.x()) {
             None
         } else {
-            Tri::new(self.a.wide(), self.b.wide(), self.c.wide())
+            let (a, b, c) = (self.a.wide(), self.b.wide(), self.c.wide());
+            Some(Tri::of_vertices(a, b, c))
         }
     }
 
