@@ -1,17 +1,20 @@
 -- The places of primitives, geometry by geometry.
-use Rattle.std.proofs.Common.{ℕ, ◌≡◌, ◌+◌, ◌++◌, ◌<◌, ◌≤◌, List, [], ◌∷◌, length, take, map, get_or, sym, ap, ◌∙◌, arith, append_assoc}
+use Rattle.std.proofs.Common.{ℕ, ◌≡◌, ◌+◌, ◌++◌, ◌<◌, ◌≤◌, Bool, true, false, cond, List, [], ◌∷◌, length, take, map, get_or, refl, sym, ap, ◌∙◌, arith, append_assoc}
+use Rattle.std.specs.Prelude.{ltb}
+use Rattle.std.proofs.lemmas.Bool.{ltb-false, ltb-true}
+use Rattle.std.proofs.lemmas.List.FromFn.{get_or-map-range_with_len, length-map-range_with_len}
 use Rattle.std.specs.List.{range_with_len}
 use Rattle.std.proofs.lemmas.List.Concat.{length-flat_map}
 use Rattle.std.proofs.lemmas.Grind.{common_steps}
 use Rattle.std.proofs.lemmas.List.Sums.{sum_by-le-sum_by}
-use Rattle.std.proofs.lemmas.List.{take_more, append-nil, length-map, length-take}
+use Rattle.std.proofs.lemmas.List.{take_more, append-nil, get_or-append_right, length-map, length-take}
 use Rattle.ray_geometries.specs.declared.geometry.Geometry.{Geometry}
 use Rattle.ray_bottom.specs.declared.prim_place.PrimPlace.{PrimPlace}
 use Rattle.ray_primitives.specs.Primitives.{box_of_triangle}
 use Rattle.ray_geometries.specs.declared.shapes.Shapes.{Shapes}
 use Rattle.ray_geometries.specs.declared.shapes.Shapes.TheVariants.{Triangles, Boxes}
 use Rattle.ray_geometries.specs.Contents.{count_of, count_of_shapes, total_of}
-use Rattle.ray_bottom.specs.Trees.{place_of, places_from, items_of, items_of_shapes}
+use Rattle.ray_bottom.specs.Trees.{place_at, place_in_one, place_of, places_from, items_of, items_of_shapes}
 
 -- the places of one geometry
 abbrev own : ℕ → Geometry → List PrimPlace
@@ -46,3 +49,30 @@ items-few gs =
     let many = length-flat_map (λ (g : Geometry). items_of_shapes g.shapes) gs in
     let le = sum_by-le-sum_by (λ (g : Geometry). length (items_of_shapes g.shapes)) count_of gs (λ g. items_le g.shapes) in
     omega arith
+
+-- ---- one geometry alone
+
+in_one : (n p : ℕ) (b : Bool) → ltb p n ≡ b → get_or (map (place_of 0) (range_with_len 0 n)) p (place_of 0 0) ≡ place_of 0 (cond b p 0)
+in_one n p true e = get_or-map-range_with_len (place_of 0) 0 n p p (place_of 0 0) (ltb-true p n e) (omega arith)
+in_one n p false e =
+    let long = length-map-range_with_len (place_of 0) 0 n in
+    ap (λ ps. get_or ps p (place_of 0 0)) (sym (append-nil (map (place_of 0) (range_with_len 0 n))))
+    ∙ get_or-append_right (map (place_of 0) (range_with_len 0 n)) [] n p (place_of 0 0) long (ltb-false p n e)
+
+place_at-one : (g : Geometry) (p : ℕ) → place_at (g ∷ []) p ≡ place_in_one (count_of g) p
+place_at-one g p =
+    ap (λ ps. get_or ps p (place_of 0 0)) (append-nil (own 0 g)) ∙ in_one (count_of g) p (ltb p (count_of g)) refl
+
+pub places-one : (g : Geometry) (numbers : List ℕ) → map (place_in_one (count_of g)) numbers ≡ map (place_at (g ∷ [])) numbers
+places-one g numbers = λ i. map (λ p. sym (place_at-one g p) i) numbers
+
+-- a list of one geometry, of which this is the first
+pub alone : (gs : List Geometry) (g : Geometry) → 1 ≤ length gs → length gs < 2 → g ≡ get_or gs 0 g → gs ≡ g ∷ []
+alone [] g some few is = absurd (omega (arith, some))
+alone (x ∷ []) g some few is = ap (λ y. y ∷ []) (sym is)
+alone (x ∷ y ∷ ys) g some few is = absurd (omega (arith, few))
+
+pub places-alone : (gs : List Geometry) (g : Geometry) (count : ℕ) (numbers : List ℕ) → gs ≡ g ∷ [] → count ≡ count_of g
+    → map (place_in_one count) numbers ≡ map (place_at gs) numbers
+places-alone gs g count numbers one many =
+    ap (λ n. map (place_in_one n) numbers) many ∙ (places-one g numbers ∙ ap (λ hs. map (place_at hs) numbers) (sym one))

@@ -1,5 +1,5 @@
 -- A bottom structure as contracts see it, the boxes over which its tree stands, and what a leaf holds. (Own.)
-use Rattle.std.specs.Prelude.{ℕ, ◌+◌, ◌++◌, Option, List, [], ◌∷◌, map, take, drop, slice_index_or}
+use Rattle.std.specs.Prelude.{ℕ, if◌then◌else◌, nat_lt, ◌+◌, ◌++◌, Option, List, [], ◌∷◌, map, take, drop, slice_index_or}
 use Rattle.std.specs.List.{flat_map, range_with_len}
 use Rattle.ray_geom.specs.Boxes.{BoxValue}
 use Rattle.ray_flags.specs.declared.build_flags.BuildFlags.{BuildFlags}
@@ -54,6 +54,10 @@ places_from from (g ∷ gs) = map (place_of from) (range_with_len 0 (count_of g)
 -- the place of an item
 abbrev pub place_at : List Geometry → ℕ → PrimPlace
 place_at geometries p = slice_index_or (places_from 0 geometries) p (place_of 0 0)
+
+-- the same where there is one geometry with so many primitives
+abbrev pub place_in_one : ℕ → ℕ → PrimPlace
+place_in_one count p = place_of 0 (if nat_lt p count then p else 0)
 
 -- ---- what stands at its leaves
 

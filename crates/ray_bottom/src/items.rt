@@ -3,7 +3,7 @@ ghost use Rattle.std.specs.Prelude.{◌≡◌, ◌++◌, ◌≤◌, ◌^◌, OnO
 ghost use Rattle.std.specs.List.{range_with_len};
 ghost use Rattle.ray_primitives.specs.Primitives.{box_of_triangle};
 ghost use Rattle.ray_geometries.specs.Contents.{total_of};
-ghost use Rattle.ray_bottom.specs.Trees.{items_of, items_of_shapes, place_at, place_of, places_from};
+ghost use Rattle.ray_bottom.specs.Trees.{items_of, items_of_shapes, place_at, place_in_one, place_of, places_from};
 
 use crate::prim_place::PrimPlace;
 use ray_geom::Box3;
@@ -59,8 +59,47 @@ fn append_boxes(items: &mut Vec<Option<Box3>>, boxes: &[KeptBox]) -> Result<(), 
     Ok(())
 }
 
-// The places of the primitives of these numbers, which are below how many there are.
+// The places of the primitives of these numbers. Most structures have one geometry, where a number
+// is its own primitive's.
 pub(crate) fn places_of(
+    alloc: Global,
+    geometries: &[Geometry],
+    total: u32,
+    numbers: &[u32],
+) -> Result<Vec<PrimPlace>, NoMemory>
+    requires limits { total_of geometries.now ≤ 2 ^ 20 }
+    requires few { length geometries.now ≤ 256 }
+    ensures { IfOk result (λ v. v.items ≡ map (place_at geometries.now) numbers.now) }
+{
+    match geometries {
+        [g] => places_in_one(alloc, g.count() as u32, numbers),
+        _ => places_in_all(alloc, geometries, total, numbers),
+    }
+}
+
+// Those in one geometry with so many primitives.
+fn places_in_one(alloc: Global, count: u32, numbers: &[u32]) -> Result<Vec<PrimPlace>, NoMemory>
+    ensures { IfOk result (λ v. v.items ≡ map (place_in_one count) numbers.now) }
+{
+    let mut places = Vec::with_capacity(alloc, numbers.len())?;
+    for p in numbers {
+        places.push(place_in_one(count, *p))?;
+    }
+    Ok(places)
+}
+
+// The place of a number in one geometry with so many primitives.
+fn place_in_one(count: u32, p: u32) -> PrimPlace
+    ensures { result ≡ place_in_one count p }
+{
+    PrimPlace {
+        geometry: 0,
+        primitive: if p < count { p } else { 0 },
+    }
+}
+
+// Those in several geometries, by a table of all.
+fn places_in_all(
     alloc: Global,
     geometries: &[Geometry],
     total: u32,

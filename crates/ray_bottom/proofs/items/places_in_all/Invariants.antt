@@ -1,6 +1,6 @@
 use Rattle.std.proofs.Common.{◌≡◌, take, map}
 use Rattle.ray_bottom.specs.Trees.{place_at}
-use Rattle.ray_bottom.proofs.items.places_of.Given as goal
+use Rattle.ray_bottom.proofs.items.places_in_all.Given as goal
 
 -- the numbers so far
 abbrev pub invariant-loop-p : goal.invariant-loop-p
