@@ -9,8 +9,8 @@
 //! - [`Bottoms`], the structures by their ids, with room that is made first.
 //!
 //! It stands on `ray_geometries` (the contents, and how they are stored), `ray_primitives` (how
-//! geometry is read and kept), `ray_contents`, `ray_geom`, `ray_prune` (spans), `ray_hierarchy` (box
-//! trees), `ray_bytes` and `ray_flags`.
+//! geometry is read and kept), `ray_contents`, `ray_geom`, `ray_prune` (spans), `ray_hierarchy`
+//! (box trees), `ray_bytes` and `ray_flags`.
 #![tactic(auto)]
 
 mod bottom;
