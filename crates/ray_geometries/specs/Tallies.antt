@@ -1,5 +1,5 @@
 -- Words of private types alone, which a reader of the public contracts needs not: contents with what is counted of them.
-use Rattle.std.specs.Prelude.{ℕ, ◌≡◌, Option, List}
+use Rattle.std.specs.Prelude.{ℕ, ◌≡◌, Option, Some, None, List}
 use Rattle.ray_geom.specs.Boxes.{BoxValue}
 use Rattle.ray_flags.specs.declared.build_flags.BuildFlags.{BuildFlags}
 use Rattle.ray_geometries.specs.declared.geometry.Geometry.{Geometry}
@@ -15,3 +15,8 @@ pub record IsTallied (c : ContentsValue) (bounds : Option BoxValue) (total activ
   pub bounds_are : bounds ≡ bounds_of c.geometries
   pub total_is : total ≡ total_of c.geometries
   pub active_is : active ≡ active_of c.geometries
+
+-- 1 for the box of an active primitive, 0 for an inactive one
+abbrev pub one_if_some : Option BoxValue → ℕ
+one_if_some None = 0
+one_if_some (Some box) = 1

@@ -56,11 +56,11 @@ impl Contents {
         ensures ok { OnOk result (self.new ≡ with_geometry self.old geometry) }
         ensures err { OnErr result (self.new ≡ self.old) }
     {
-        let bounds = geometry.extend(self.bounds);
+        let tally = geometry.tally(self.bounds);
         let total = self.total + geometry.count() as u32;
-        let active = self.active + geometry.active() as u32;
+        let active = self.active + tally.active as u32;
         self.geometries.push(geometry)?;
-        self.bounds = bounds;
+        self.bounds = tally.bounds;
         self.total = total;
         self.active = active;
         Ok(())

@@ -1,4 +1,4 @@
-ghost use Rattle.std.specs.Prelude.{◌≡◌, IfOk, fold, length, count_by, is_some};
+ghost use Rattle.std.specs.Prelude.{◌≡◌, IfOk, fold, length};
 ghost use Rattle.std.specs.List.{filter_map};
 ghost use Rattle.ray_geom.specs.LeastBoxes.{joined_of};
 ghost use Rattle.ray_primitives.specs.Primitives.{box_of_triangle};
@@ -6,6 +6,7 @@ ghost use Rattle.ray_geometries.specs.Contents.{kind_of, count_of, boxes_of};
 ghost use Rattle.ray_geometries.specs.Storing.{format_of, index_size_of};
 
 use crate::shapes::Shapes;
+use crate::tally::{Tally, one_if_some};
 use ray_bytes::Format;
 use ray_contents::{Elements, extended};
 use ray_flags::Kind;
@@ -64,23 +65,14 @@ impl Geometry {
         }
     }
 
-    /// How many of them are active.
-    pub fn active(&self) -> usize
-        ensures { result ≡ length (boxes_of self.now) }
+    /// What is counted of its active primitives, with bounds that hold more.
+    pub(crate) fn tally(&self, bounds: Option<Box3>) -> Tally
+        ensures bounds { result.bounds ≡ fold joined_of bounds (boxes_of self.now) }
+        ensures active { result.active ≡ length (boxes_of self.now) }
     {
         match &self.shapes {
-            Shapes::Triangles { triangles, .. } => active_triangles(triangles.as_slice()),
-            Shapes::Boxes { boxes } => active_boxes(boxes.as_slice()),
-        }
-    }
-
-    /// Bounds that hold its active primitives, too: the least box of both.
-    pub fn extend(&self, bounds: Option<Box3>) -> Option<Box3>
-        ensures { result ≡ fold joined_of bounds (boxes_of self.now) }
-    {
-        match &self.shapes {
-            Shapes::Triangles { triangles, .. } => extend_triangles(triangles.as_slice(), bounds),
-            Shapes::Boxes { boxes } => extend_boxes(boxes.as_slice(), bounds),
+            Shapes::Triangles { triangles, .. } => tally_triangles(triangles.as_slice(), bounds),
+            Shapes::Boxes { boxes } => tally_boxes(boxes.as_slice(), bounds),
         }
     }
 
@@ -96,56 +88,41 @@ impl Geometry {
     }
 }
 
-// How many triangles are active.
-fn active_triangles(triangles: &[KeptTriangle]) -> usize
-    ensures { result ≡ length (filter_map box_of_triangle triangles.now) }
-{
-    count_triangles(triangles)
-}
-
-// How many triangles are active, by their tests.
-fn count_triangles(triangles: &[KeptTriangle]) -> usize
-    ensures { result ≡ count_by (λ t. is_some t.tri) triangles.now }
-{
-    triangles.iter().filter(|t| t.is_active()).count()
-}
-
-// How many boxes are active.
-fn active_boxes(boxes: &[KeptBox]) -> usize
-    ensures { result ≡ length (filter_map (λ box. box) boxes.now) }
-{
-    count_boxes(boxes)
-}
-
-// How many boxes are active, by their tests.
-fn count_boxes(boxes: &[KeptBox]) -> usize
-    ensures { result ≡ count_by is_some boxes.now }
-{
-    boxes.iter().filter(|b| b.is_active()).count()
-}
-
-// Bounds that hold triangles, too.
-#[tactic(auto, using(ray_contents::proofs::Extending::bounds_more))]
-fn extend_triangles(triangles: &[KeptTriangle], bounds: Option<Box3>) -> Option<Box3>
-    ensures { result ≡ fold joined_of bounds (filter_map box_of_triangle triangles.now) }
+// What is counted of triangles.
+fn tally_triangles(triangles: &[KeptTriangle], bounds: Option<Box3>) -> Tally
+    ensures bounds { result.bounds
+        ≡ fold joined_of bounds (filter_map box_of_triangle triangles.now) }
+    ensures active { result.active ≡ length (filter_map box_of_triangle triangles.now) }
 {
     let mut least = bounds;
+    let mut active = 0;
     for t in triangles {
-        least = extended(least, t.bounds());
+        let more = t.bounds();
+        active += one_if_some(&more);
+        least = extended(least, more);
     }
-    least
+    Tally {
+        bounds: least,
+        active,
+    }
 }
 
-// Bounds that hold boxes, too.
-#[tactic(auto, using(ray_contents::proofs::Extending::bounds_more))]
-fn extend_boxes(boxes: &[KeptBox], bounds: Option<Box3>) -> Option<Box3>
-    ensures { result ≡ fold joined_of bounds (filter_map (λ box. box) boxes.now) }
+// What is counted of boxes.
+fn tally_boxes(boxes: &[KeptBox], bounds: Option<Box3>) -> Tally
+    ensures bounds { result.bounds ≡ fold joined_of bounds (filter_map (λ box. box) boxes.now) }
+    ensures active { result.active ≡ length (filter_map (λ box. box) boxes.now) }
 {
     let mut least = bounds;
+    let mut active = 0;
     for b in boxes {
-        least = extended(least, b.bounds());
+        let more = b.bounds();
+        active += one_if_some(&more);
+        least = extended(least, more);
     }
-    least
+    Tally {
+        bounds: least,
+        active,
+    }
 }
 
 // The same primitives.

@@ -20,6 +20,7 @@ mod payload;
 mod shapes;
 mod stored;
 mod stored_law;
+mod tally;
 
 pub use crate::contents::Contents;
 pub use crate::geometry::Geometry;

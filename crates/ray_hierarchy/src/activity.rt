@@ -1,5 +1,5 @@
 //! Which items are active, and whether they are those of a tree.
-ghost use Rattle.std.specs.Prelude.{◌≡◌, ◌↔◌, IsTrue};
+ghost use Rattle.std.specs.Prelude.{◌≡◌, ◌↔◌, ◌<◌, IsTrue};
 ghost use Rattle.std.specs.List.{All};
 ghost use Rattle.ray_tree.specs.Trees.{active_of};
 ghost use Rattle.ray_tree.specs.Local.{IsActive, HasItems};
@@ -21,7 +21,8 @@ pub(crate) fn has_activity(tree: &Tree, order: &[u32], items: &[Option<Box3>]) -
 fn has_items(order: &[u32], items: &[Option<Box3>]) -> bool
     ensures { IsTrue result ↔ HasItems order.now items.now }
 {
-    order.len() == count_active(items) && are_active(order, items)
+    let active = count_active(items);
+    order.len() == active && are_active(order, items, active)
 }
 
 // How many items are active.
@@ -31,8 +32,28 @@ pub(crate) fn count_active(items: &[Option<Box3>]) -> usize
     items.iter().filter(|item| item.is_some()).count()
 }
 
-// Whether all of these numbers are those of active items.
-fn are_active(order: &[u32], items: &[Option<Box3>]) -> bool
+// Whether all of these numbers are those of active items, of which there are so many. Where all
+// items are active none is looked at for it.
+fn are_active(order: &[u32], items: &[Option<Box3>], active: usize) -> bool
+    requires { active ≡ active_of items.now }
+    ensures { IsTrue result ↔ All (IsActive items.now) order.now }
+{
+    if active == items.len() {
+        are_below(order, items.len())
+    } else {
+        are_each_active(order, items)
+    }
+}
+
+// Whether all of these numbers are below one.
+fn are_below(order: &[u32], count: usize) -> bool
+    ensures { IsTrue result ↔ All (λ p. p < count) order.now }
+{
+    order.iter().all(|p| (*p as usize) < count)
+}
+
+// Whether all of these numbers are those of active items, by the items.
+fn are_each_active(order: &[u32], items: &[Option<Box3>]) -> bool
     ensures { IsTrue result ↔ All (IsActive items.now) order.now }
 {
     order.iter().all(|p| is_active(items, *p))

@@ -104,7 +104,8 @@ impl Hierarchy {
         let tree = climb_all(rt, alloc, self.tree.copy()?, items)?;
         let mut wide = self.wide.copy()?;
         wide.refit(&tree);
-        Hierarchy::of(alloc, tree, wide, self.order.len())
+        let order = self.order.clone()?;
+        Ok(Hierarchy { tree, wide, order })
     }
 
     /// Whether items have the activity of this tree's, so that it can be refit to them.
@@ -135,7 +136,8 @@ impl Hierarchy {
     {
         let tree = self.tree.copy()?;
         let wide = self.wide.copy()?;
-        Hierarchy::of(alloc, tree, wide, self.order.len())
+        let order = self.order.clone()?;
+        Ok(Hierarchy { tree, wide, order })
     }
 
     /// The binary tree.

@@ -11,7 +11,7 @@ overflow_cast-active c =
     active-fits (contents_value c.self.inside.flags c.self.inside.geometries.items) c.args.geometry _ _ _ c.self.invariant room in
     let total = c.self.invariant.total_is in
     let all = room.primitives in
-    let count = c.active.ensures in
+    let count = c.tally-tally.ensures.active in
     omega arith
 
 pub overflow_add-active : goal.overflow_add-active
@@ -21,7 +21,7 @@ overflow_add-active c =
     active-fits (contents_value c.self.inside.flags c.self.inside.geometries.items) c.args.geometry _ _ _ c.self.invariant room in
     let total = c.self.invariant.total_is in
     let all = room.primitives in
-    let count = c.active.ensures in
+    let count = c.tally-tally.ensures.active in
     omega arith
 
 pub invariant_of-self-2 : goal.invariant_of-self-2
@@ -29,4 +29,4 @@ invariant_of-self-2 c =
     let room = subst (λ (v : ContentsValue). HasRoom (kind_of c.args.geometry) (count_of c.args.geometry) v.geometries) (sym c.self.view_is) c.requires.room in
     let more =
     IsTallied-more (contents_value c.self.inside.flags c.self.inside.geometries.items) c.args.geometry _ _ _ c.self.invariant room c.requires.limits in
-    rw (c.in_ok-push.ensures.items, c.extend-bounds.ensures, c.count.ensures, c.active.ensures) more
+    rw (c.in_ok-push.ensures.items, c.tally-tally.ensures.bounds, c.count.ensures, c.tally-tally.ensures.active) more

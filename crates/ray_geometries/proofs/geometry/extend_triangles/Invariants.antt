@@ -1,9 +1,0 @@
-use Rattle.std.proofs.Common.{◌≡◌, take, fold}
-use Rattle.std.specs.List.{filter_map}
-use Rattle.ray_geom.specs.LeastBoxes.{joined_of}
-use Rattle.ray_primitives.specs.Primitives.{box_of_triangle}
-use Rattle.ray_geometries.proofs.geometry.extend_triangles.Given as goal
-
--- the bounds so far
-abbrev pub invariant-loop-t : goal.invariant-loop-t
-invariant-loop-t l = l.least ≡ fold joined_of l.fn.bounds (filter_map box_of_triangle (take l.t-index l.triangles))
