@@ -1,5 +1,6 @@
 -- The primitives at the leaves of a tree, with copies of their points. (Own.)
-use Rattle.std.specs.Prelude.{ℕ, ◌≡◌, Option, Some, None, option_map, List, [], map, take, drop, slice_get}
+use Rattle.std.specs.Prelude.{ℕ, ◌≡◌, ◌==◌, if◌then◌else◌, Option, Some, None, option_map, List, [], map, take, drop, slice_get}
+use Rattle.ray_primitives.specs.Primitives.{TriangleValue}
 use Rattle.ray_geom.specs.Scene.{RayValue, TriValue, IsTri, tri_value}
 use Rattle.ray_geom.specs.Boxes.{BoxValue, IsBox, box_value}
 use Rattle.ray_geom.specs.Transform.{MatrixValue}
@@ -41,6 +42,22 @@ points_at geometries place = any_points (option_map (λ (g : Geometry). points_i
 -- the item of a place
 abbrev pub item_at : List Geometry → PrimPlace → LeafItem
 item_at geometries place = record { place = place; points = points_at geometries place }
+
+-- the points of the triangle, and of the box, at a place, where there is one geometry, which has these
+abbrev pub points_of_triangles : List TriangleValue → PrimPlace → ItemPoints
+points_of_triangles triangles place =
+    if place.geometry == 0 then any_points (option_map (λ t. points_of_tri t.tri) (slice_get triangles place.primitive)) else Nothing
+
+abbrev pub points_of_boxes : List (Option BoxValue) → PrimPlace → ItemPoints
+points_of_boxes boxes place =
+    if place.geometry == 0 then any_points (option_map points_of_box (slice_get boxes place.primitive)) else Nothing
+
+-- and the item there
+abbrev pub item_of_triangles : List TriangleValue → PrimPlace → LeafItem
+item_of_triangles triangles place = record { place = place; points = points_of_triangles triangles place }
+
+abbrev pub item_of_boxes : List (Option BoxValue) → PrimPlace → LeafItem
+item_of_boxes boxes place = record { place = place; points = points_of_boxes boxes place }
 
 -- an item with the points of the primitive at its place
 pub record IsItemOf (geometries : List Geometry) (item : LeafItem) : Type 0 where

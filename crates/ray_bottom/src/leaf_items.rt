@@ -1,6 +1,9 @@
 //! The primitives at the leaves of a tree, in its order.
-ghost use Rattle.std.specs.Prelude.{◌≡◌, IfOk, map, option_map, slice_get};
-ghost use Rattle.ray_bottom.specs.LeafItems.{any_points, item_at, points_at, points_in, points_of_box, points_of_tri};
+ghost use Rattle.std.specs.Prelude.{◌≡◌, [], ◌∷◌, IfOk, map, option_map, slice_get};
+ghost use Rattle.ray_bottom.specs.LeafItems.{any_points, item_at, points_at, points_in};
+ghost use Rattle.ray_bottom.specs.LeafItems.{points_of_box, points_of_tri};
+ghost use Rattle.ray_bottom.specs.LeafItems.{item_of_boxes, item_of_triangles};
+ghost use Rattle.ray_bottom.specs.LeafItems.{points_of_boxes, points_of_triangles};
 
 use crate::leaf_item::{ItemPoints, LeafItem};
 use crate::prim_place::PrimPlace;
@@ -9,8 +12,71 @@ use ray_geometries::{Geometry, Shapes};
 use ray_primitives::{KeptBox, KeptTriangle};
 use std::alloc::{AllocError as NoMemory, Global};
 
-// The items of these places.
+// The items of these places. Most structures have one geometry.
 pub(crate) fn leaf_items_of(
+    alloc: Global,
+    geometries: &[Geometry],
+    places: &[PrimPlace],
+) -> Result<Vec<LeafItem>, NoMemory>
+    ensures { IfOk result (λ v. v.items ≡ map (item_at geometries.now) places.now) }
+{
+    match geometries {
+        [g] => items_in_one(alloc, g, places),
+        _ => items_in_all(alloc, geometries, places),
+    }
+}
+
+// Those in one geometry.
+fn items_in_one(
+    alloc: Global,
+    g: &Geometry,
+    places: &[PrimPlace],
+) -> Result<Vec<LeafItem>, NoMemory>
+    ensures { IfOk result (λ v. v.items ≡ map (item_at (g.now ∷ [])) places.now) }
+{
+    match &g.shapes {
+        Shapes::Triangles { triangles, .. } => {
+            items_of_triangles(alloc, triangles.as_slice(), places)
+        }
+        Shapes::Boxes { boxes } => items_of_boxes(alloc, boxes.as_slice(), places),
+    }
+}
+
+// Those in one geometry of these triangles. Nothing but these is looked at for each, so that many
+// of them come from memory at a time.
+fn items_of_triangles(
+    alloc: Global,
+    triangles: &[KeptTriangle],
+    places: &[PrimPlace],
+) -> Result<Vec<LeafItem>, NoMemory>
+    ensures { IfOk result (λ v. v.items ≡ map (item_of_triangles triangles.now) places.now) }
+{
+    let mut items = Vec::with_capacity(alloc, places.len())?;
+    for place in places {
+        let points = points_of_triangles(triangles, *place);
+        items.push(item_of(*place, points))?;
+    }
+    Ok(items)
+}
+
+// Those in one geometry of these boxes.
+fn items_of_boxes(
+    alloc: Global,
+    boxes: &[KeptBox],
+    places: &[PrimPlace],
+) -> Result<Vec<LeafItem>, NoMemory>
+    ensures { IfOk result (λ v. v.items ≡ map (item_of_boxes boxes.now) places.now) }
+{
+    let mut items = Vec::with_capacity(alloc, places.len())?;
+    for place in places {
+        let points = points_of_boxes(boxes, *place);
+        items.push(item_of(*place, points))?;
+    }
+    Ok(items)
+}
+
+// Those in several geometries.
+fn items_in_all(
     alloc: Global,
     geometries: &[Geometry],
     places: &[PrimPlace],
@@ -23,6 +89,28 @@ pub(crate) fn leaf_items_of(
         items.push(item_of(*place, points))?;
     }
     Ok(items)
+}
+
+// The points of the triangle at a place, where there is one geometry, of these triangles.
+fn points_of_triangles(triangles: &[KeptTriangle], place: PrimPlace) -> ItemPoints
+    ensures { result ≡ points_of_triangles triangles.now place }
+{
+    if place.geometry == 0 {
+        triangle_points(triangles, place.primitive)
+    } else {
+        ItemPoints::Nothing
+    }
+}
+
+// The points of the box at a place, where there is one geometry, of these boxes.
+fn points_of_boxes(boxes: &[KeptBox], place: PrimPlace) -> ItemPoints
+    ensures { result ≡ points_of_boxes boxes.now place }
+{
+    if place.geometry == 0 {
+        box_points(boxes, place.primitive)
+    } else {
+        ItemPoints::Nothing
+    }
 }
 
 // The item of a place with points.

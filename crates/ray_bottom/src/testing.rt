@@ -152,16 +152,12 @@ fn test_box(b: &KeptBox, ray: &Ray, m: &Matrix) -> Option<Meet>
     span(&b, ray, m)
 }
 
-// The hit of the world triangle of a triangle. Many instances stand where their objects are.
+// The hit of the world triangle of a triangle.
 fn hit(tri: &Tri, ray: &Ray, m: &Matrix) -> Option<Meet>
     requires { KeepsTri m.now tri.now }
     ensures { option_map meet_value result ≡ hit_in_world ray.now m.now tri.now }
 {
-    if m.is_identity() {
-        world_hit(ray, tri)
-    } else {
-        world_hit(ray, &world(m, tri))
-    }
+    world_hit(ray, &world(m, tri))
 }
 
 // The hit of a triangle of the world.
@@ -174,8 +170,16 @@ fn world_hit(ray: &Ray, tri: &Tri) -> Option<Meet>
     }
 }
 
-// The world triangle of a triangle.
+// The world triangle of a triangle. Many instances stand where their objects are.
 fn world(m: &Matrix, tri: &Tri) -> Tri
+    requires { KeepsTri m.now tri.now }
+    ensures { result ≡ world_tri m.now tri.now }
+{
+    if m.is_identity() { *tri } else { moved(m, tri) }
+}
+
+// The same where they stand elsewhere.
+fn moved(m: &Matrix, tri: &Tri) -> Tri
     requires { KeepsTri m.now tri.now }
     ensures { result ≡ world_tri m.now tri.now }
 {

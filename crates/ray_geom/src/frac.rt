@@ -1,7 +1,7 @@
 ghost use Rattle.std.specs.Prelude.{◌≡◌, ◌*◌, ◌^◌, ◌≤◌, ◌↔◌, ℕ, IsSome, IfSome};
 ghost use Rattle.ray_geom.specs.Fraction.{IsFraction, IsLowest, IsSameValue};
 
-use crate::gcd::gcd;
+use crate::gcd::{gcd, quotient};
 use std::cmp::Ordering;
 
 // The greatest numerator and denominator, three times 2 to the power 61.
@@ -34,8 +34,8 @@ impl Frac {
         if 0 < den && den <= LIMIT && num <= LIMIT {
             let divisor = gcd(num, den);
             Some(Frac {
-                num: num / divisor,
-                den: den / divisor,
+                num: quotient(num, divisor),
+                den: quotient(den, divisor),
             })
         } else {
             None

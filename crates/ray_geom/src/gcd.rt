@@ -1,6 +1,6 @@
 //! The greatest common divisor by halvings and differences, which takes a third of the time of
 //! Euclid's divisions.
-ghost use Rattle.std.specs.Prelude.{◌≡◌, ◌*◌, ◌%◌, ◌^◌, ◌<◌, ◌≤◌, ◌+◌, ℕ};
+ghost use Rattle.std.specs.Prelude.{◌≡◌, ◌*◌, ◌/◌, ◌%◌, ◌^◌, ◌<◌, ◌≤◌, ◌+◌, ℕ};
 ghost use Rattle.std.specs.Int.{IsGcd, trailing_zeros, w64};
 
 // A number without the twos in it.
@@ -56,4 +56,17 @@ pub(crate) fn gcd(x: u64, y: u64) -> u64
     }
     let twos = x.trailing_zeros().min(y.trailing_zeros());
     gcd_of_odd(odd_part(x), y) << twos
+}
+
+// How often a divisor goes into a number. Most divisors are 1 or have no other factors than 2, and a
+// shift takes less than a division.
+pub(crate) fn quotient(n: u64, divisor: u64) -> u64
+    requires { 0 < divisor }
+    ensures { result ≡ n / divisor }
+{
+    if odd_part(divisor) == 1 {
+        n >> divisor.trailing_zeros()
+    } else {
+        n / divisor
+    }
 }

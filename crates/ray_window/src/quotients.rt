@@ -21,9 +21,9 @@ pub(crate) fn rounded(p: i128, q: u128) -> Side
     }
 }
 
-// The quotient of natural numbers, rounded down and up and at most 2^30. Most divisors are 65536,
-// since the determinants of most instances are 1 or -1, and divisions of 64 bits are faster than
-// those of 128.
+// The quotient of natural numbers, rounded down and up and at most 2^30. Most divisors are 65536
+// or 1, since the determinants of most instances are 1 or -1, and divisions of 64 bits are faster
+// than those of 128.
 fn quotients(p: u128, q: u128) -> Side
     requires { 0 < q }
     ensures lo { result.lo ≡ pos (min (p / q) (2 ^ 30)) }
@@ -31,6 +31,8 @@ fn quotients(p: u128, q: u128) -> Side
 {
     if q == 65536 {
         parts(p)
+    } else if q == 1 {
+        whole(p)
     } else if p <= u64::MAX as u128 && q <= u64::MAX as u128 {
         short_quotients(p as u64, q as u64)
     } else {
@@ -47,6 +49,15 @@ fn parts(p: u128) -> Side
         lo: (p / 65536).min(1 << 30) as i32,
         hi: p.div_ceil(65536).min(1 << 30) as i32,
     }
+}
+
+// The same for the divisor 1, which leaves the number as it is.
+fn whole(p: u128) -> Side
+    ensures lo { result.lo ≡ pos (min (p / 1) (2 ^ 30)) }
+    ensures hi { result.hi ≡ pos (min (div_ceil p 1) (2 ^ 30)) }
+{
+    let most = p.min(1 << 30) as i32;
+    Side { lo: most, hi: most }
 }
 
 // The same in 64 bits.

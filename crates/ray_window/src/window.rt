@@ -82,13 +82,13 @@ fn side_of(det: i64, o: i64, m: i64, tmin: u64, n: u64, d: u64) -> Side
 }
 
 // On one axis, where the ray is at tmin, rounded down and up. At 0 the fraction over the
-// determinant alone has the same value and takes less, unless the other's divisor is 65536.
+// determinant alone has the same value and takes less.
 fn first_side(det: i64, o: i64, m: i64, tmin: u64) -> Side
     requires { IsLine det o m }
     ensures lo { result.lo ≡ below_at det o m tmin 65536 }
     ensures hi { result.hi ≡ above_at det o m tmin 65536 }
 {
-    if tmin == 0 && det != 1 && det != -1 {
+    if tmin == 0 {
         start(det, o)
     } else {
         side_at(det, o, m, tmin, 65536)

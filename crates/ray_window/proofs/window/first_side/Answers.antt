@@ -4,15 +4,15 @@ use Rattle.ray_window.specs.Windows.{floor_of, ceiling_of, moved, turned, below_
 use Rattle.ray_window.proofs.Starts.{below_at_start, above_at_start}
 use Rattle.ray_window.proofs.window.first_side.Goals as goal
 
-pub returns-then-det-neminus1-clause-lo : goal.returns-then-det-neminus1-clause-lo
-returns-then-det-neminus1-clause-lo c =
+pub returns-then-tmin-eq0-clause-lo : goal.returns-then-tmin-eq0-clause-lo
+returns-then-tmin-eq0-clause-lo c =
     let a = c.args in
     let is : c.start.result.lo ≡ moved (floor_of (turned a.det a.o) (unsigned_abs a.det)) = search (rules, to_z-of_z) in
     let none : a.tmin ≡ 0 = grind (arith, nat_tests) in
     is ∙ (sym (below_at_start a.det a.o a.m) ∙ ap (λ n. below_at a.det a.o a.m n 65536) (sym none))
 
-pub returns-then-det-neminus1-clause-hi : goal.returns-then-det-neminus1-clause-hi
-returns-then-det-neminus1-clause-hi c =
+pub returns-then-tmin-eq0-clause-hi : goal.returns-then-tmin-eq0-clause-hi
+returns-then-tmin-eq0-clause-hi c =
     let a = c.args in
     let is : c.start.result.hi ≡ moved (ceiling_of (turned a.det a.o) (unsigned_abs a.det)) = search (rules, to_z-of_z) in
     let none : a.tmin ≡ 0 = grind (arith, nat_tests) in

@@ -1,6 +1,6 @@
 use Rattle.std.proofs.Common.{◌≡◌, take, map}
 use Rattle.ray_bottom.specs.LeafItems.{item_at}
-use Rattle.ray_bottom.proofs.leaf_items.leaf_items_of.Given as goal
+use Rattle.ray_bottom.proofs.leaf_items.items_in_all.Given as goal
 
 -- the places so far
 abbrev pub invariant-loop-place : goal.invariant-loop-place
