@@ -1,6 +1,6 @@
-use Rattle.std.proofs.Common.{rules, ◌≡◌, ◌∙◌, sym, ap, subst}
+use Rattle.std.proofs.Common.{rules, ◌∙◌, sym, ap, subst}
 use Rattle.std.specs.Prelude.{pos}
-use Rattle.ray_geom.specs.ObjectRay.{ObjectRayValue, IsObjectRay, object_of, object_value}
+use Rattle.ray_geom.specs.ObjectRay.{IsObjectRay, object_of, object_value}
 use Rattle.ray_geom.proofs.Identity.{object_unmoved}
 use Rattle.ray_geom.proofs.ObjectRays.{IsObjectRay-object}
 use Rattle.ray_geom.proofs.object.unmoved.Goals as goal

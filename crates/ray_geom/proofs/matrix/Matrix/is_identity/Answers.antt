@@ -1,5 +1,5 @@
 use Rattle.std.proofs.Common.{ap, ◌∙◌}
-use Rattle.ray_geom.specs.Equality.{matrix_eq, matrix_eq-identical}
+use Rattle.ray_geom.specs.Equality.{matrix_eq}
 use Rattle.ray_geom.proofs.Identity.{is_told, stays_where}
 use Rattle.ray_geom.proofs.matrix.Matrix.is_identity.Goals as goal
 
