@@ -1,19 +1,24 @@
 -- The places of primitives, geometry by geometry.
 use Rattle.std.proofs.Common.{ℕ, ◌≡◌, ◌+◌, ◌++◌, ◌<◌, ◌≤◌, Bool, true, false, cond, List, [], ◌∷◌, length, take, map, get_or, refl, sym, ap, ◌∙◌, arith, append_assoc}
-use Rattle.std.specs.Prelude.{ltb}
+use Rattle.std.specs.Prelude.{ltb, Option, None, Some, is_some, count_by}
+use Rattle.std.specs.List.{filter_map, cons_option}
+use Rattle.std.proofs.lemmas.List.Recursion.{is_count_by}
+use Rattle.std.proofs.lemmas.List.Elements.{filter_map-append}
+use Rattle.ray_geom.specs.Boxes.{BoxValue}
+use Rattle.ray_tree.specs.Trees.{active_of as items_active}
 use Rattle.std.proofs.lemmas.Bool.{ltb-false, ltb-true}
 use Rattle.std.proofs.lemmas.List.FromFn.{get_or-map-range_with_len, length-map-range_with_len}
 use Rattle.std.specs.List.{range_with_len}
-use Rattle.std.proofs.lemmas.List.Concat.{length-flat_map}
+use Rattle.std.proofs.lemmas.List.Concat.{length-flat_map, flat_map-cons}
 use Rattle.std.proofs.lemmas.Grind.{common_steps}
 use Rattle.std.proofs.lemmas.List.Sums.{sum_by-le-sum_by}
 use Rattle.std.proofs.lemmas.List.{take_more, append-nil, get_or-append_right, length-map, length-take}
 use Rattle.ray_geometries.specs.declared.geometry.Geometry.{Geometry}
 use Rattle.ray_bottom.specs.declared.prim_place.PrimPlace.{PrimPlace}
-use Rattle.ray_primitives.specs.Primitives.{box_of_triangle}
+use Rattle.ray_primitives.specs.Primitives.{TriangleValue, box_of_triangle}
 use Rattle.ray_geometries.specs.declared.shapes.Shapes.{Shapes}
 use Rattle.ray_geometries.specs.declared.shapes.Shapes.TheVariants.{Triangles, Boxes}
-use Rattle.ray_geometries.specs.Contents.{count_of, count_of_shapes, total_of}
+use Rattle.ray_geometries.specs.Contents.{count_of, count_of_shapes, total_of, boxes_of, boxes_of_shapes, active_boxes, active_of}
 use Rattle.ray_bottom.specs.Trees.{place_at, place_in_one, place_of, places_from, items_of, items_of_shapes}
 
 -- the places of one geometry
@@ -49,6 +54,34 @@ items-few gs =
     let many = length-flat_map (λ (g : Geometry). items_of_shapes g.shapes) gs in
     let le = sum_by-le-sum_by (λ (g : Geometry). length (items_of_shapes g.shapes)) count_of gs (λ g. items_le g.shapes) in
     omega arith
+
+-- and as many of them are active
+own_boxes : (ts : List TriangleValue) → filter_map (λ (box : Option BoxValue). box) (map box_of_triangle ts) ≡ filter_map box_of_triangle ts
+own_boxes [] = refl
+own_boxes (t ∷ ts) = ap (λ boxes. cons_option (box_of_triangle t) boxes) (own_boxes ts)
+
+shape_boxes : (s : Shapes) → filter_map (λ (box : Option BoxValue). box) (items_of_shapes s) ≡ boxes_of_shapes s
+shape_boxes (Triangles format size ts) = own_boxes ts
+shape_boxes (Boxes bs) = refl
+
+all_boxes : (gs : List Geometry) → filter_map (λ (box : Option BoxValue). box) (items_of gs) ≡ active_boxes gs
+all_boxes [] = refl
+all_boxes (g ∷ gs) =
+    ap (λ items. filter_map (λ (box : Option BoxValue). box) items) (flat_map-cons (λ (h : Geometry). items_of_shapes h.shapes) g gs)
+    ∙ (filter_map-append (λ (box : Option BoxValue). box) (items_of_shapes g.shapes) (items_of gs)
+    ∙ ((λ i. shape_boxes g.shapes i ++ all_boxes gs i) ∙ sym (flat_map-cons boxes_of g gs)))
+
+counted_box : (o : Option BoxValue) (rest : List BoxValue) → length (cons_option o rest) ≡ cond (is_some o) (1 + length rest) (length rest)
+counted_box None rest = refl
+counted_box (Some box) rest = omega arith
+
+counted : (items : List (Option BoxValue)) → length (filter_map (λ box. box) items) ≡ count_by (λ (b : Option BoxValue). is_some b) items
+counted items =
+    is_count_by (λ (cs : List (Option BoxValue)). length (filter_map (λ box. box) cs)) (λ (b : Option BoxValue). is_some b) refl
+    (λ b cs. counted_box b (filter_map (λ box. box) cs)) items
+
+pub items-active : (gs : List Geometry) → items_active (items_of gs) ≡ active_of gs
+items-active gs = sym (counted (items_of gs)) ∙ ap length (all_boxes gs)
 
 -- ---- one geometry alone
 

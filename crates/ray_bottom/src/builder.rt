@@ -7,7 +7,7 @@ ghost use Rattle.ray_bottom.specs.Builders.{triangles_in, boxes_in, IsRestored};
 ghost use Rattle.ray_geometries.specs.Storing.{stored_shapes};
 ghost use Rattle.ray_bottom.specs.Trees.{items_of, without_tree};
 ghost use Rattle.ray_hierarchy.specs.Hierarchies.{IsTreeOf};
-ghost use Rattle.ray_tree.specs.Trees.{TreeOver};
+ghost use Rattle.ray_tree.specs.Trees.{TreeOver, active_of};
 
 use crate::bottom::Bottom;
 use crate::items::{items_of, places_of};
@@ -173,7 +173,8 @@ impl<'a> Builder<'a> {
         let _limits = self.contents.geometries();
         let items = items_of(self.alloc, geometries, total)?;
         let flags = self.contents.flags();
-        let hierarchy = hierarchy_of(rt, self.alloc, self.replaced, flags, items)?;
+        let active = self.contents.active() as usize;
+        let hierarchy = hierarchy_of(rt, self.alloc, self.replaced, flags, items, active)?;
         let places = places_of(self.alloc, geometries, total, hierarchy.order())?;
         let leaf_items = leaf_items_of(self.alloc, geometries, &places)?;
         Ok(Bottom {
@@ -185,21 +186,24 @@ impl<'a> Builder<'a> {
     }
 }
 
-// The trees over items: of a build, or of an update where a structure is replaced.
+// The trees over items, of which so many are active: of a build, or of an update where a structure
+// is replaced.
 fn hierarchy_of<R: Threads + Sync>(
     rt: &R,
     alloc: Global,
     replaced: Option<&Bottom>,
     flags: BuildFlags,
     items: Vec<Option<Box3>>,
+    active: usize,
 ) -> Result<Hierarchy, NoMemory>
-    requires { length items.items ≤ 2 ^ 20 }
+    requires few { length items.items ≤ 2 ^ 20 }
+    requires active { active ≡ active_of items.items }
     ensures tree { let old = option_map (λ b. b.tree) (option_copied replaced.entry) in
         IfOk result (λ h. IsTreeOf old flags items.items h.tree) }
     ensures over { IfOk result (λ h. TreeOver h.tree items.items) }
 {
     match replaced {
-        Some(old) => old.hierarchy.updated(rt, alloc, flags, items),
+        Some(old) => old.hierarchy.updated(rt, alloc, flags, items, active),
         None => Hierarchy::build(rt, alloc, flags, &items),
     }
 }

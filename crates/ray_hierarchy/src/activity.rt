@@ -8,20 +8,26 @@ ghost use Rattle.ray_climb.specs.Refits.{HasActivity};
 use ray_geom::Box3;
 use ray_tree::Tree;
 
-// Whether items have the activity of a tree's, whose order this is.
-pub(crate) fn has_activity(tree: &Tree, order: &[u32], items: &[Option<Box3>]) -> bool
-    requires { order.now ≡ tree.now.order }
+// Whether items, of which so many are active, have the activity of a tree's, whose order this is.
+pub(crate) fn has_activity(
+    tree: &Tree,
+    order: &[u32],
+    items: &[Option<Box3>],
+    active: usize,
+) -> bool
+    requires order { order.now ≡ tree.now.order }
+    requires active { active ≡ active_of items.now }
     ensures { IsTrue result ↔ HasActivity tree.now items.now }
 {
     tree.shape();
-    has_items(order, items)
+    has_items(order, items, active)
 }
 
 // Whether there are as many numbers as active items, all of such items.
-fn has_items(order: &[u32], items: &[Option<Box3>]) -> bool
+fn has_items(order: &[u32], items: &[Option<Box3>], active: usize) -> bool
+    requires { active ≡ active_of items.now }
     ensures { IsTrue result ↔ HasItems order.now items.now }
 {
-    let active = count_active(items);
     order.len() == active && are_active(order, items, active)
 }
 

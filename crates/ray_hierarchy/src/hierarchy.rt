@@ -59,7 +59,8 @@ impl Hierarchy {
     }
 
     /// The trees of an update: where the items, which are at most 2^20, have the activity of this
-    /// tree's, these trees refit to them, and else those of a build with the flags.
+    /// tree's, these trees refit to them, and else those of a build with the flags. `active` is how
+    /// many of them are active.
     /// (VK_BUILD_ACCELERATION_STRUCTURE_MODE_UPDATE_KHR)
     ///
     /// # Errors
@@ -71,11 +72,13 @@ impl Hierarchy {
         alloc: Global,
         flags: BuildFlags,
         items: Vec<Option<Box3>>,
+        active: usize,
     ) -> Result<Hierarchy, NoMemory>
-        requires { length items.items ≤ 2 ^ 20 }
+        requires few { length items.items ≤ 2 ^ 20 }
+        requires active { active ≡ active_of items.items }
         ensures { IfOk result (λ h. IsUpdated flags self.now.tree items.items h.tree) }
     {
-        if self.has_activity(&items) {
+        if has_activity(&self.tree, &self.order, &items, active) {
             self.refitted(rt, alloc, items)
         } else {
             Hierarchy::build(rt, alloc, flags, &items)
@@ -112,7 +115,7 @@ impl Hierarchy {
     pub fn has_activity(&self, items: &[Option<Box3>]) -> bool
         ensures { IsTrue result ↔ HasActivity self.now.tree items.now }
     {
-        has_activity(&self.tree, &self.order, items)
+        has_activity(&self.tree, &self.order, items, count_active(items))
     }
 
     // The trees of a binary tree with so many places and a wide one.

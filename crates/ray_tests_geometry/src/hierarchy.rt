@@ -28,8 +28,9 @@ fn updated<R: AllocGlobal + Threads + Sync>(
 ) -> Result<Hierarchy, AllocError>
     requires { length items.now ≤ 2 ^ 20 }
 {
+    let active = items.iter().filter(|item| item.is_some()).count();
     let items = items.to_vec(rt.alloc())?;
-    old.updated(rt, rt.alloc(), flags, items)
+    old.updated(rt, rt.alloc(), flags, items, active)
 }
 
 // The last of five boxes moves to the front, and then becomes inactive.
