@@ -1,0 +1,41 @@
+//! The traces of `ray_bench_traces traces N` in plain Rust, with no proof and no contract, so that
+//! `bench/run` can say how the proved program's speed compares on the machine where both run: the
+//! same field, the same rays, the same exact tests, a tree of eight boxes a node over leaves of up
+//! to four triangles, and a walk nearest first. It knows no instances, transforms, flags, masks or
+//! clients, which the proved program looks at for each ray. It prints the same line.
+
+mod exact;
+mod field;
+mod walk;
+
+use std::collections::BinaryHeap;
+
+fn main() {
+    let words: Vec<String> = std::env::args().skip(1).collect();
+    let times: u32 = match words.as_slice() {
+        [work, times] if work == "traces" => times.parse().expect("a number"),
+        _ => panic!("the words are: traces N"),
+    };
+    let scene = field::field(256);
+    let mut turns = BinaryHeap::new();
+    let (rays, width) = (16384, 2056);
+    let mut hits = 0;
+    for _ in 0..times {
+        hits = 0;
+        for r in 0..rays {
+            let origin = [(37 * r + 3) % width, (53 * r + 1) % width, 4096];
+            let ray = exact::Ray {
+                origin,
+                dir: [0, 0, -1],
+                tmin: 0,
+                tmax: 1 << 29,
+            };
+            if let Some(hit) = walk::trace(&scene, &ray, &mut turns) {
+                // What a hit tells is made, as the proved program makes it.
+                std::hint::black_box((hit.u.num, hit.u.den, hit.v.num, hit.v.den));
+                hits += 1;
+            }
+        }
+    }
+    println!("traces {times} rays {rays} hits {hits}");
+}
