@@ -76,7 +76,6 @@ impl ObjectRay {
 /// The ray in the space of an object that `m` maps to the world: adj(M) (o - T), adj(M) d, the
 /// determinant of M, and the ray's interval, all exact. M takes it back to the ray, det times as
 /// long. (Own; for the instance transforms of "Ray Traversal" in the Vulkan specification.)
-#[inline(always)]
 pub fn object_ray(ray: &Ray, m: &Matrix) -> ObjectRay
     ensures value { result ≡ object_of ray.now m.now }
     ensures back { LeadsBack ray.now m.now result }
@@ -89,7 +88,6 @@ pub fn object_ray(ray: &Ray, m: &Matrix) -> ObjectRay
 }
 
 // The same by a transform that leaves each point where it is, as that of many instances is.
-#[inline(always)]
 fn unmoved(ray: &Ray, _m: &Matrix) -> ObjectRay
     requires { _m.now ≡ identity_value }
     ensures { result ≡ object_of ray.now _m.now }
@@ -104,7 +102,6 @@ fn unmoved(ray: &Ray, _m: &Matrix) -> ObjectRay
 }
 
 // The same by any transform.
-#[inline(always)]
 fn moved(ray: &Ray, m: &Matrix) -> ObjectRay
     ensures { result ≡ object_of ray.now m.now }
 {

@@ -195,8 +195,7 @@ fn triangle(source: &TriangleSource<'_>, i: u32) -> Result<KeptTriangle, DataRul
     )
 }
 
-// Corner number k. It stands in its caller, so that corners go from one to the other by registers.
-#[inline(always)]
+// Corner number k.
 #[tactic(auto, unfolding(crate::specs::TriangleReading::corner_of))]
 fn corner_in(source: &TriangleSource<'_>, k: u64) -> Option<Corner>
     requires { k < 2 ^ 34 }
