@@ -1,5 +1,4 @@
 ghost use Rattle.std.specs.Prelude.{◌≡◌};
-ghost use Rattle.ray_geom.specs.Transform.{identity_value};
 ghost use Rattle.ray_geom.specs.ObjectRay.{IsObjectRay, object_of, LeadsBack};
 
 use crate::adjugate::Adjugate;
@@ -79,31 +78,6 @@ impl ObjectRay {
 pub fn object_ray(ray: &Ray, m: &Matrix) -> ObjectRay
     ensures value { result ≡ object_of ray.now m.now }
     ensures back { LeadsBack ray.now m.now result }
-{
-    if m.is_identity() {
-        unmoved(ray, m)
-    } else {
-        moved(ray, m)
-    }
-}
-
-// The same by a transform that leaves each point where it is, as that of many instances is.
-fn unmoved(ray: &Ray, _m: &Matrix) -> ObjectRay
-    requires { _m.now ≡ identity_value }
-    ensures { result ≡ object_of ray.now _m.now }
-{
-    ObjectRay {
-        origin: ray.origin,
-        dir: ray.dir,
-        det: 1,
-        tmin: ray.tmin,
-        tmax: ray.tmax,
-    }
-}
-
-// The same by any transform.
-fn moved(ray: &Ray, m: &Matrix) -> ObjectRay
-    ensures { result ≡ object_of ray.now m.now }
 {
     let adjugate = Adjugate::of(m);
     ObjectRay {
