@@ -58,8 +58,8 @@ pub(crate) fn gcd(x: u64, y: u64) -> u64
     gcd_of_odd(odd_part(x), y) << twos
 }
 
-// How often a divisor goes into a number. Most divisors are 1 or have no other factors than 2, and a
-// shift takes less than a division.
+// How often a divisor goes into a number. Most divisors are 1 or have no factor but 2, and a shift
+// takes less than a division.
 pub(crate) fn quotient(n: u64, divisor: u64) -> u64
     requires { 0 < divisor }
     ensures { result ≡ n / divisor }
