@@ -1,5 +1,5 @@
 use crate::prim_place::PrimPlace;
-use ray_contents::Point32;
+use ray_geom::Point32;
 
 /// A primitive at a leaf of the tree: its place, and a copy of its points, which stands beside
 /// those of the leaf's other primitives, so that a walk finds them together. (Own.)

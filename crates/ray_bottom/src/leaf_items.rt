@@ -7,7 +7,7 @@ ghost use Rattle.ray_bottom.specs.LeafItems.{points_of_boxes, points_of_triangle
 
 use crate::leaf_item::{ItemPoints, LeafItem};
 use crate::prim_place::PrimPlace;
-use ray_contents::Point32;
+use ray_geom::Point32;
 use ray_geometries::{Geometry, Shapes};
 use ray_primitives::{KeptBox, KeptTriangle};
 use std::alloc::{AllocError as NoMemory, Global};

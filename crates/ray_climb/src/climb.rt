@@ -194,7 +194,7 @@ impl Climb {
         let closed = self.table.close_with(seat.seat);
         let boxes = boxes_of(alloc, &closed, &self.refit);
         closed.free();
-        self.refit.with_boxes(alloc, &boxes?)
+        Ok(self.refit.with_boxes(boxes?))
     }
 }
 

@@ -13,8 +13,8 @@
 //! the new items (`IsRefit` of `specs/Refits`). [`climb_all`] does all of it, and [`climb_by`] the
 //! climbs, by four seats on threads of their own or by one.
 //!
-//! It stands on `atomic_table`, `ray_tree` and `ray_geom`, and on `ray_prune` and `ray_contents`
-//! for words and lemmas. No call takes `Wait`, and every step is sequentially consistent.
+//! It stands on `atomic_table`, `ray_tree` and `ray_geom`, and on `ray_prune` for words and
+//! lemmas. No call takes `Wait`, and every step is sequentially consistent.
 #![tactic(auto)]
 
 mod all;

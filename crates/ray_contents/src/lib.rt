@@ -9,7 +9,7 @@
 //! - [`extended`], one step of the fold that makes bounds, and [`keeps_bounds`] and [`kept_image`],
 //!   which say of a transform that the images of the corners of bounds keep the limits, and that
 //!   then so does the image of each point in them;
-//! - [`Point32`], a point in 12 bytes, and [`Elements`], a list that contracts see as a list.
+//! - [`Elements`], a list that contracts see as a list.
 //!
 //! It stands on `ray_geom` and `ray_prune`. Only [`Elements`] holds memory, and none takes any.
 #![tactic(auto)]
@@ -19,11 +19,9 @@ mod elements;
 mod gathering;
 mod kept;
 mod limits;
-mod point32;
 
 pub use crate::bounds::extended;
 pub use crate::elements::Elements;
 pub use crate::gathering::{Reads, gathered_law};
 pub use crate::kept::{image_law, keeps_bounds, kept_image};
 pub use crate::limits::{image_within, matrix_within, point_within};
-pub use crate::point32::Point32;

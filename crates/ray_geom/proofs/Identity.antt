@@ -3,7 +3,7 @@ use Rattle.std.proofs.Common.{rules, ◌≡◌, arith}
 use Rattle.std.specs.Prelude.{ℤ, pos, ◌+ℤ◌, ◌*ℤ◌, ◌↔◌, Bool, IsTrue}
 use Rattle.std.proofs.lemmas.Int.{ints}
 use Rattle.ray_geom.specs.declared.vec3.Vec3.{Vec3}
-use Rattle.ray_geom.specs.Vector.{vec3, dot_of}
+use Rattle.ray_geom.specs.Vector.{vec3}
 use Rattle.ray_geom.specs.Transform.{MatrixValue, identity_value, image_of}
 use Rattle.ray_geom.specs.Equality.{matrix_eq, matrix_eq-identical}
 

@@ -2,15 +2,16 @@ ghost use Rattle.std.specs.Prelude.{◌≡◌, ◌≤ℤ◌, ◌^◌, ◌↔◌,
 ghost use Rattle.ray_geom.specs.Vector.{IsShort};
 ghost use Rattle.ray_geom.specs.Boxes.{IsBox, IsBelow, IsIn, IsPart, box_value};
 
+use crate::point32::Point32;
 use crate::vec3::{Vec3, is_short};
 use std::marker::Model;
 
-/// A box along the axes, within the limits. It may be without thickness. (VkAabbPositionsKHR, in
-/// whole numbers; the limits are our own.)
+/// A box along the axes, within the limits, in 24 bytes. It may be without thickness.
+/// (VkAabbPositionsKHR, in whole numbers; the limits are our own.)
 #[derive(Clone, Copy, Debug)]
 pub struct Box3 {
-    pub(crate) lo: Vec3,
-    pub(crate) hi: Vec3,
+    pub(crate) lo: Point32,
+    pub(crate) hi: Point32,
 }
 
 impl Model for Box3 {
@@ -32,7 +33,7 @@ impl Box3 {
         ensures { let box = box_value lo hi in SomeIff result (IsBox box) box }
     {
         if is_short(lo, 1 << 19) && is_short(hi, 1 << 19) && is_ordered(lo, hi) {
-            Some(Box3 { lo, hi })
+            Some(Box3::of_corners(lo, hi))
         } else {
             None
         }
@@ -44,7 +45,10 @@ impl Box3 {
         requires { IsBox (box_value lo hi) }
         ensures { result ≡ box_value lo hi }
     {
-        Box3 { lo, hi }
+        Box3 {
+            lo: Point32::narrow(lo),
+            hi: Point32::narrow(hi),
+        }
     }
 
     /// The least corner, as `new` was given it.
@@ -53,21 +57,21 @@ impl Box3 {
         ensures short { IsShort (2 ^ 19) result }
         ensures limits { IsBox self.now }
     {
-        self.lo
+        self.lo.wide()
     }
 
     /// Whether a point is in the box, faces included.
     pub fn contains(&self, v: Vec3) -> bool
         ensures { IsTrue result ↔ IsIn v self.now }
     {
-        is_below(self.lo, v) && is_below(v, self.hi)
+        is_below(self.lo.wide(), v) && is_below(v, self.hi.wide())
     }
 
     /// Whether a box is in this one.
     pub fn holds(&self, inner: &Box3) -> bool
         ensures { IsTrue result ↔ IsPart inner.now self.now }
     {
-        is_below(self.lo, inner.lo) && is_below(inner.hi, self.hi)
+        is_below(self.lo.wide(), inner.lo.wide()) && is_below(inner.hi.wide(), self.hi.wide())
     }
 
     /// The greatest corner, as `new` was given it.
@@ -76,7 +80,7 @@ impl Box3 {
         ensures short { IsShort (2 ^ 19) result }
         ensures limits { IsBox self.now }
     {
-        self.hi
+        self.hi.wide()
     }
 }
 
@@ -88,7 +92,7 @@ impl PartialEq for Box3 {
     ghost laws = { box_eq-laws };
 
     fn eq(&self, other: &Box3) -> bool {
-        self.lo == other.lo && self.hi == other.hi
+        self.lo.wide() == other.lo.wide() && self.hi.wide() == other.hi.wide()
     }
 }
 

@@ -5,6 +5,7 @@ ghost use Rattle.ray_geom.specs.Boxes.{corners_of};
 ghost use Rattle.ray_geom.specs.LeastBoxes.{lesser_of, greater_of, point_box, union_of, joined_of, box_of_points, box_of_boxes, box_of_tri, HoldsPoints, HoldsBoxes, HoldsBoth, HoldsTri, IsLeast};
 
 use crate::box3::Box3;
+use crate::point32::Point32;
 use crate::tri::Tri;
 use crate::vec3::Vec3;
 
@@ -14,7 +15,7 @@ impl Box3 {
         requires { IsShort (2 ^ 19) v }
         ensures { result ≡ point_box v }
     {
-        Box3 { lo: v, hi: v }
+        Box3::of_corners(v, v)
     }
 
     /// The least box of this one and a point.
@@ -60,7 +61,7 @@ impl Box3 {
         ensures value { result ≡ corners_of self.now }
         ensures short { All (IsShort (2 ^ 19)) result }
     {
-        let (lo, hi) = (self.lo, self.hi);
+        let (lo, hi) = (self.lo.wide(), self.hi.wide());
         [
             Vec3 {
                 x: lo.x,
@@ -119,10 +120,10 @@ impl Tri {
 }
 
 // Coordinate by coordinate the lesser of two points.
-fn lesser(a: Vec3, b: Vec3) -> Vec3
+fn lesser(a: Point32, b: Point32) -> Point32
     ensures { result ≡ lesser_of a b }
 {
-    Vec3 {
+    Point32 {
         x: a.x.min(b.x),
         y: a.y.min(b.y),
         z: a.z.min(b.z),
@@ -130,10 +131,10 @@ fn lesser(a: Vec3, b: Vec3) -> Vec3
 }
 
 // Coordinate by coordinate the greater of two points.
-fn greater(a: Vec3, b: Vec3) -> Vec3
+fn greater(a: Point32, b: Point32) -> Point32
     ensures { result ≡ greater_of a b }
 {
-    Vec3 {
+    Point32 {
         x: a.x.max(b.x),
         y: a.y.max(b.y),
         z: a.z.max(b.z),

@@ -20,7 +20,7 @@
 //! and [`Matrix::new`] refuse exactly what is beyond the limits of `specs/Scene`, `specs/Boxes` and
 //! `specs/Transform`, and the accessors say these limits in a clause `limits`. Numbers that are
 //! known to be within them are taken unchecked by [`Tri::of_vertices`], [`Box3::of_corners`] and
-//! [`Matrix::of_words`]. [`Steps`] counts in contracts alone.
+//! [`Matrix::of_words`]. [`Point32`] is a point in 12 bytes. [`Steps`] counts in contracts alone.
 //!
 //! It stands on the standard library and on no other crate. No call takes memory.
 #![tactic(auto)]
@@ -37,6 +37,7 @@ mod matrix;
 mod measured;
 mod object;
 mod owner;
+mod point32;
 mod ratio;
 mod ray;
 mod shared_edge;
@@ -51,6 +52,7 @@ pub use crate::hit::hit_tri;
 pub use crate::matrix::Matrix;
 pub use crate::object::{ObjectRay, object_ray};
 pub use crate::owner::Owner;
+pub use crate::point32::Point32;
 pub use crate::ratio::Ratio;
 pub use crate::ray::Ray;
 pub use crate::shared_edge::edge_owner;

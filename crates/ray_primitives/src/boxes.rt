@@ -12,8 +12,8 @@ use crate::box_info::BoxInfo;
 use crate::build_fault::BuildFault;
 use crate::kept_box::KeptBox;
 use ray_bytes::{BoxView, DataFault, DataRule, is_inactive_mark};
-use ray_contents::{Elements, Point32, point_within};
-use ray_geom::Vec3;
+use ray_contents::{Elements, point_within};
+use ray_geom::{Point32, Vec3};
 use std::alloc::Global;
 
 /// The boxes of a geometry, as an update of those of an old one where there is one. Data comes

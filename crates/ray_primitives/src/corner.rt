@@ -1,4 +1,4 @@
-use ray_contents::Point32;
+use ray_geom::Point32;
 
 // A corner of a triangle: an index value and the vertex that it names, as it stands in the buffer.
 #[derive(Clone, Copy)]

@@ -6,7 +6,7 @@ ghost use Rattle.ray_primitives.specs.TriangleReading.{may_name, named_corner, c
 use crate::corner::Corner;
 use crate::triangle_info::TriangleInfo;
 use ray_bytes::{IndexView, VertexView};
-use ray_contents::Point32;
+use ray_geom::Point32;
 
 // Corner number k of a geometry.
 pub(crate) fn read_corner(

@@ -4,8 +4,7 @@ ghost use Rattle.ray_primitives.specs.Primitives.{IsAabb};
 ghost use Rattle.ray_primitives.specs.StoredPrimitives.{written_box};
 
 use ray_bytes::{INACTIVE_MARK, is_inactive_mark};
-use ray_contents::Point32;
-use ray_geom::{Box3, Vec3};
+use ray_geom::{Box3, Point32, Vec3};
 use std::marker::Model;
 
 /// A box of a bottom structure in 24 bytes. An inactive one has the mark as its least x; contracts

@@ -7,8 +7,7 @@ ghost use Rattle.ray_primitives.specs.StoredPrimitives.{written_tri};
 
 use crate::index_values::IndexValues;
 use ray_bytes::{INACTIVE_MARK, is_inactive_mark};
-use ray_contents::Point32;
-use ray_geom::{Box3, Tri, Vec3};
+use ray_geom::{Box3, Point32, Tri, Vec3};
 use std::marker::Model;
 
 /// A triangle of a bottom structure in 48 bytes: its vertices after the geometry's transform and

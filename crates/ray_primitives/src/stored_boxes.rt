@@ -9,8 +9,8 @@ use crate::kept_box::KeptBox;
 use crate::stored_points::{is_zero, is_zero_but_x, part_at, point_at, point_words};
 use byteorder::{ByteOrder, LittleEndian};
 use ray_bytes::is_inactive_mark;
-use ray_contents::{Elements, Point32, point_within};
-use ray_geom::Vec3;
+use ray_contents::{Elements, point_within};
+use ray_geom::{Point32, Vec3};
 use std::alloc::{AllocError as NoMemory, Global};
 
 impl KeptBox {

@@ -4,7 +4,7 @@ ghost use Rattle.ray_primitives.specs.StoredPrimitives.{point_at, is_zero, is_ze
 ghost use Rattle.ray_primitives.specs.StoredPrimitives.{point_words};
 
 use byteorder::{ByteOrder, LittleEndian};
-use ray_contents::Point32;
+use ray_geom::Point32;
 
 // The coordinates of a point as words.
 pub(crate) fn point_words(p: Point32) -> [u32; 3]

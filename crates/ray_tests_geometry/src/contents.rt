@@ -1,7 +1,5 @@
-use ray_contents::{
-    Elements, Point32, extended, image_within, keeps_bounds, matrix_within, point_within,
-};
-use ray_geom::{Box3, Matrix, Vec3};
+use ray_contents::{Elements, extended, image_within, keeps_bounds, matrix_within, point_within};
+use ray_geom::{Box3, Matrix, Point32, Vec3};
 use std::test::Fail;
 
 const fn at(x: i64, y: i64, z: i64) -> Vec3 {

@@ -4,7 +4,6 @@ ghost use Rattle.std.specs.List.{All};
 ghost use Rattle.ray_tree.specs.Local.{IsActive, AreLocal, AreFit};
 ghost use Rattle.ray_tree.specs.Plans.{AreRising};
 
-use crate::bounds::Bounds;
 use crate::least::box_by;
 use crate::node::Node;
 use ray_geom::{Box3, Vec3};
@@ -16,7 +15,7 @@ pub(crate) fn boxes_over(
     items: &[Option<Box3>],
     order: &[u32],
     nodes: &[Node],
-) -> Result<Vec<Bounds>, NoMemory>
+) -> Result<Vec<Box3>, NoMemory>
     requires active { All (IsActive items.now) order.now }
     requires fit { AreFit (length order.now) nodes.now }
     requires rising { AreRising nodes.now }
@@ -29,12 +28,12 @@ pub(crate) fn boxes_over(
 }
 
 // A box to begin with.
-fn blank() -> Bounds {
-    Bounds::of(&Box3::of_point(Vec3 { x: 0, y: 0, z: 0 }))
+fn blank() -> Box3 {
+    Box3::of_point(Vec3 { x: 0, y: 0, z: 0 })
 }
 
 // Sets the box of each node, from the last to the first.
-fn fill(items: &[Option<Box3>], order: &[u32], boxes: &mut [Bounds], nodes: &[Node])
+fn fill(items: &[Option<Box3>], order: &[u32], boxes: &mut [Box3], nodes: &[Node])
     requires active { All (IsActive items.now) order.now }
     requires boxed { length boxes.old ≡ length nodes.now }
     requires fit { AreFit (length order.now) nodes.now }

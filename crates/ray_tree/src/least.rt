@@ -6,20 +6,19 @@ ghost use Rattle.ray_tree.specs.Shapes.{node_at};
 ghost use Rattle.ray_tree.specs.Trees.{item_box, boxes_of, boxes_in};
 ghost use Rattle.ray_tree.specs.Local.{IsActive, IsFit, IsLocal, IsLocalAt, AreLocal, AreFit};
 
-use crate::bounds::Bounds;
 use crate::node::Node;
 use ray_geom::Box3;
 
 // The box of an active item.
-fn bounds_of(items: &[Option<Box3>], p: u32) -> Bounds
+fn bounds_of(items: &[Option<Box3>], p: u32) -> Box3
     requires { IsActive items.now p }
     ensures { item_box items.now p ≡ Some result }
 {
-    Bounds::of(&items[p as usize].unwrap())
+    items[p as usize].unwrap()
 }
 
 // The least box of active items.
-fn least_of(items: &[Option<Box3>], numbers: &[u32]) -> Bounds
+fn least_of(items: &[Option<Box3>], numbers: &[u32]) -> Box3
     requires some { 0 < length numbers.now }
     requires active { All (IsActive items.now) numbers.now }
     ensures { IsLeast (HoldsBoxes (boxes_of items.now numbers.now)) result }
@@ -32,7 +31,7 @@ fn least_of(items: &[Option<Box3>], numbers: &[u32]) -> Bounds
 }
 
 // The least box of the items of a leaf.
-fn least_in(items: &[Option<Box3>], order: &[u32], first: usize, count: usize) -> Bounds
+fn least_in(items: &[Option<Box3>], order: &[u32], first: usize, count: usize) -> Box3
     requires some { 0 < count }
     requires within { first + count ≤ length order.now }
     requires active { All (IsActive items.now) order.now }
@@ -43,7 +42,7 @@ fn least_in(items: &[Option<Box3>], order: &[u32], first: usize, count: usize) -
 }
 
 // The box of a node, by those of its children where it isn't a leaf.
-pub(crate) fn box_by(items: &[Option<Box3>], order: &[u32], boxes: &[Bounds], node: Node) -> Bounds
+pub(crate) fn box_by(items: &[Option<Box3>], order: &[u32], boxes: &[Box3], node: Node) -> Box3
     requires active { All (IsActive items.now) order.now }
     requires fit { IsFit (length order.now) (length boxes.now) node }
     ensures { IsLocal items.now order.now boxes.now result node }
@@ -58,7 +57,7 @@ pub(crate) fn box_by(items: &[Option<Box3>], order: &[u32], boxes: &[Bounds], no
 fn is_least(
     items: &[Option<Box3>],
     order: &[u32],
-    boxes: &[Bounds],
+    boxes: &[Box3],
     nodes: &[Node],
     n: usize,
 ) -> bool
@@ -68,14 +67,14 @@ fn is_least(
     requires small { n < length nodes.now }
     ensures { IsTrue result ↔ IsLocalAt items.now order.now boxes.now nodes.now n }
 {
-    boxes[n].is_same(&box_by(items, order, boxes, nodes[n]))
+    boxes[n] == box_by(items, order, boxes, nodes[n])
 }
 
 // Whether each box is so.
 pub(crate) fn are_least(
     items: &[Option<Box3>],
     order: &[u32],
-    boxes: &[Bounds],
+    boxes: &[Box3],
     nodes: &[Node],
 ) -> bool
     requires active { All (IsActive items.now) order.now }

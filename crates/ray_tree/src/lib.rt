@@ -14,13 +14,11 @@
 //! `shape_at` of `specs/Trees` is what is from a node down; `proofs/NodeLaws` has its laws at one
 //! node. Want of memory is the only error.
 //!
-//! It stands on `ray_geom`, on `ray_contents` for points in 12 bytes, and on `ray_prune` for a
-//! lemma.
+//! It stands on `ray_geom`, and on `ray_prune` for a lemma.
 #![tactic(auto)]
 
 mod activity;
 mod arrange;
-mod bounds;
 mod build;
 mod fill;
 mod laws;

@@ -3,7 +3,6 @@ ghost use Rattle.std.specs.Prelude.{◌↔◌, IsTrue};
 ghost use Rattle.ray_tree.specs.Trees.{IsShape, TreeOver, tree_value};
 
 use crate::activity::has_items;
-use crate::bounds::Bounds;
 use crate::least::are_least;
 use crate::node::Node;
 use ray_geom::Box3;
@@ -11,7 +10,7 @@ use ray_geom::Box3;
 // Whether a tree is one over these items.
 pub(crate) fn is_over(
     nodes: &[Node],
-    boxes: &[Bounds],
+    boxes: &[Box3],
     order: &[u32],
     items: &[Option<Box3>],
 ) -> bool

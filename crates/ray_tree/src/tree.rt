@@ -4,7 +4,6 @@ ghost use Rattle.ray_tree.specs.Shapes.{node_at};
 ghost use Rattle.ray_tree.specs.Trees.{TreeOver, IsShape, tree_value, box_at, item_at, leaves_of};
 ghost use Rattle.ray_tree.specs.Local.{IsFit, IsLeafAt};
 
-use crate::bounds::{Bounds, narrowed};
 use crate::leaves::leaves_from_root;
 use crate::node::Node;
 use crate::over::is_over;
@@ -17,7 +16,7 @@ use std::marker::Model;
 #[derive(Drop)]
 pub struct Tree {
     nodes: Vec<Node>,
-    boxes: Vec<Bounds>,
+    boxes: Vec<Box3>,
     order: Vec<u32>,
     leaves: Vec<u32>,
 }
@@ -51,24 +50,14 @@ impl Tree {
         requires over { TreeOver (tree_value nodes.items boxes.items order.items) _items.now }
         ensures { IfOk result (λ t. t ≡ tree_value nodes.items boxes.items order.items) }
     {
-        let bounds = narrowed(alloc, &boxes)?;
-        let tree = Tree::kept(alloc, nodes, bounds, order)?;
+        let tree = Tree::kept(alloc, nodes, boxes, order)?;
         Ok(tree)
     }
 
-    /// This tree with other boxes, by which it is a tree over the items.
-    ///
-    /// # Errors
-    ///
-    /// For want of memory alone; the tree is gone then.
-    pub fn with_boxes(
-        self,
-        alloc: Global,
-        boxes: &[Box3],
-        _items: &[Option<Box3>],
-    ) -> Result<Tree, NoMemory>
-        requires { TreeOver (tree_value self.nodes boxes.now self.order) _items.now }
-        ensures { IfOk result (λ t. t ≡ tree_value self.nodes boxes.now self.order) }
+    /// This tree with other boxes, by which it is a tree over the items. It takes no memory.
+    pub fn with_boxes(self, boxes: Vec<Box3>, _items: &[Option<Box3>]) -> Tree
+        requires { TreeOver (tree_value self.nodes boxes.items self.order) _items.now }
+        ensures { result ≡ tree_value self.nodes boxes.items self.order }
     {
         let Tree {
             nodes,
@@ -76,20 +65,19 @@ impl Tree {
             order,
             leaves,
         } = self;
-        let boxes = narrowed(alloc, boxes)?;
-        Ok(Tree {
+        Tree {
             nodes,
             boxes,
             order,
             leaves,
-        })
+        }
     }
 
     // The tree of these.
     pub(crate) fn kept(
         alloc: Global,
         nodes: Vec<Node>,
-        boxes: Vec<Bounds>,
+        boxes: Vec<Box3>,
         order: Vec<u32>,
     ) -> Result<Tree, NoMemory>
         requires shape { IsShape (tree_value nodes.items boxes.items order.items) }
@@ -149,7 +137,7 @@ impl Tree {
         requires { i < length self.now.nodes }
         ensures { (d : BoxValue) → result ≡ box_at self.now d i }
     {
-        self.boxes[i as usize].wide()
+        self.boxes[i as usize]
     }
 
     /// The number of the item of a place.

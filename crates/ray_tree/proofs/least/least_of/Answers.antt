@@ -9,5 +9,5 @@ loop-i-init c = least_first c.args.items.now c.args.numbers.now c.bounds_of-leas
 
 pub loop-i-preserved : goal.loop-i-preserved
 loop-i-preserved c =
-    subst (IsLeast (HoldsBoxes (boxes_of c.args.items.now (take (c.loop-i.i + 1) c.args.numbers.now)))) (sym c.union-least.ensures)
+    subst (IsLeast (HoldsBoxes (boxes_of c.args.items.now (take (c.loop-i.i + 1) c.args.numbers.now)))) (sym c.union-least.ensures.value)
     (least_more c.args.items.now c.args.numbers.now c.loop-i.i c.loop-i.least c.bounds_of.result (omega arith) c.bounds_of.ensures c.loop-i.invariant)

@@ -8,14 +8,14 @@ use Rattle.ray_climb.proofs.refit.Refit.with_boxes.Goals as goal
 pub with_boxes-requires : goal.with_boxes-requires
 with_boxes-requires c =
     let r = refit_value c.self.inside.tree c.self.inside.items.items in
-    subst (TreeOver (tree_value r.tree.nodes c.args.boxes.now r.tree.order)) (sym c.deref.ensures.value)
-    (parts_over r c.self.invariant.ready c.args.boxes.now r.tree.nodes r.tree.order refl refl
-    (subst (λ r. AreTrue r c.args.boxes.now (length r.tree.nodes)) (sym c.self.view_is) c.requires))
+    subst (TreeOver (tree_value r.tree.nodes c.args.boxes.items r.tree.order)) (sym c.deref.ensures.value)
+    (parts_over r c.self.invariant.ready c.args.boxes.items r.tree.nodes r.tree.order refl refl
+    (subst (λ r. AreTrue r c.args.boxes.items (length r.tree.nodes)) (sym c.self.view_is) c.requires))
 
-pub returns-in-Ok : goal.returns-in-Ok
-returns-in-Ok c =
+pub returns : goal.returns
+returns c =
     let r = refit_value c.self.inside.tree c.self.inside.items.items in
-    let are = subst (λ r. AreTrue r c.args.boxes.now (length r.tree.nodes)) (sym c.self.view_is) c.requires in
-    subst (λ x. IsRefit x.tree x.items c.in-Ok.tree) c.self.view_is
-    (refit_by r c.args.boxes.now r.tree.nodes r.tree.order c.in-Ok.tree refl refl c.in-Ok.ensures
-    (parts_over r c.self.invariant.ready c.args.boxes.now r.tree.nodes r.tree.order refl refl are))
+    let are = subst (λ r. AreTrue r c.args.boxes.items (length r.tree.nodes)) (sym c.self.view_is) c.requires in
+    subst (λ x. IsRefit x.tree x.items c.with_boxes.result) c.self.view_is
+    (refit_by r c.args.boxes.items r.tree.nodes r.tree.order c.with_boxes.result refl refl c.with_boxes.ensures
+    (parts_over r c.self.invariant.ready c.args.boxes.items r.tree.nodes r.tree.order refl refl are))

@@ -1,15 +1,15 @@
 ghost use Rattle.std.specs.Prelude.{◌≡◌, ◌^◌, [], ◌∷◌};
 ghost use Rattle.ray_geom.specs.Vector.{IsShort, point_of};
 
-use ray_geom::Vec3;
+use crate::vec3::Vec3;
 use std::marker::Model;
 
 /// A point in 12 bytes: its coordinates are numbers of 32 bits. Contracts see it as the point.
 #[derive(Clone, Copy, Debug)]
 pub struct Point32 {
-    x: i32,
-    y: i32,
-    z: i32,
+    pub(crate) x: i32,
+    pub(crate) y: i32,
+    pub(crate) z: i32,
 }
 
 impl Model for Point32 {
