@@ -3,15 +3,11 @@ use Rattle.std.proofs.Common.{◌≡◌, ◌∙◌, ◌<◌, ℕ, zero, suc, Opt
 use Rattle.std.specs.List.{All}
 use Rattle.std.proofs.lemmas.List.Elements.{All-weaker}
 use Rattle.ray_geom.specs.Boxes.{BoxValue}
-use Rattle.ray_tree.specs.Trees.{TreeValue, IsShape, TreeOver, active_of}
+use Rattle.ray_tree.specs.Trees.{TreeValue, IsShape, active_of}
 use Rattle.ray_tree.specs.Local.{HasItems, IsActive}
 use Rattle.ray_tree.specs.Trees.{active}
 use Rattle.ray_tree.proofs.Counting.{total, total-equal, total-active, at_most_active, active-below, has_items, items_once}
 use Rattle.ray_climb.specs.Refits.{HasActivity}
-
--- a tree over items has as many places as there are active items
-pub all_places : (tree : TreeValue) (items : List (Option BoxValue)) → TreeOver tree items → length tree.order ≡ active_of items
-all_places tree items over = (has_items tree.order items over.active_once).many
 
 -- items have the activity of a tree's where its order has a number of each active item
 pub same_activity : (tree : TreeValue) (items : List (Option BoxValue)) → IsShape tree → HasItems tree.order items → HasActivity tree items

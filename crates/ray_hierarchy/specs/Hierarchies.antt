@@ -1,6 +1,6 @@
 -- How the box tree of a structure is built, and how it is updated. (Own; which builder is taken says
 -- VK_BUILD_ACCELERATION_STRUCTURE_PREFER_FAST_BUILD_BIT_KHR.)
-use Rattle.std.specs.Prelude.{◌≡◌, ◌≤◌, ◌^◌, ℕ, true, false, Option, Some, None, List, length}
+use Rattle.std.specs.Prelude.{◌≡◌, ◌≤◌, true, false, Option, Some, None, List}
 use Rattle.ray_geom.specs.Boxes.{BoxValue}
 use Rattle.ray_flags.specs.declared.build_flags.BuildFlags.{BuildFlags}
 use Rattle.ray_flags.specs.Flags.{build_has, PreferFastBuild}
@@ -43,11 +43,3 @@ pub record IsUpdated (flags : BuildFlags) (old : TreeValue) (items : List (Optio
 abbrev pub IsTreeOf : Option TreeValue → BuildFlags → List (Option BoxValue) → TreeValue → Type 0
 IsTreeOf None flags items tree = IsBuilt flags items tree
 IsTreeOf (Some old) flags items tree = IsUpdated flags old items tree
-
--- ---- words of private types alone
-
--- what stands beside a binary tree: a wide tree over its leaves, and the items' numbers by their places
-pub record IsKept (tree : TreeValue) (wide : WideValue) (order : List ℕ) : Type 0 where
-  pub wide_is : WideOver wide tree
-  pub order_is : order ≡ tree.order
-  pub few : length order ≤ 2 ^ 20

@@ -8,19 +8,13 @@ ghost use Rattle.ray_climb.specs.Refits.{HasActivity};
 use ray_geom::Box3;
 use ray_tree::Tree;
 
-// Whether items, of which so many are active, have the activity of a tree's, whose order this is.
-pub(crate) fn has_activity(
-    tree: &Tree,
-    order: &[u32],
-    items: &[Option<Box3>],
-    active: usize,
-) -> bool
-    requires order { order.now ≡ tree.now.order }
-    requires active { active ≡ active_of items.now }
+// Whether items, of which so many are active, have the activity of a tree's.
+pub(crate) fn has_activity(tree: &Tree, items: &[Option<Box3>], active: usize) -> bool
+    requires { active ≡ active_of items.now }
     ensures { IsTrue result ↔ HasActivity tree.now items.now }
 {
     tree.shape();
-    has_items(order, items, active)
+    has_items(tree.order(), items, active)
 }
 
 // Whether there are as many numbers as active items, all of such items.

@@ -22,17 +22,17 @@ use std::thread::Threads;
 pub struct Hierarchy {
     tree: Tree,
     wide: Wide,
-    order: Vec<u32>,
 }
 
 impl Model for Hierarchy {
-    ghost use Rattle.ray_hierarchy.specs.Hierarchies.{HierarchyValue, IsKept, hierarchy_value};
+    ghost use Rattle.ray_wide.specs.Wides.{WideOver};
+    ghost use Rattle.ray_hierarchy.specs.Hierarchies.{HierarchyValue, hierarchy_value};
 
     ghost Value = { HierarchyValue };
 
     ghost view = { λ h. hierarchy_value h.tree h.wide };
 
-    ghost invariant = { λ h. IsKept h.tree h.wide h.order.items };
+    ghost invariant = { λ h. WideOver h.wide h.tree };
 }
 
 impl Hierarchy {
@@ -54,8 +54,7 @@ impl Hierarchy {
     {
         let tree = built(rt, alloc, flags, items)?;
         let wide = collapse(alloc, &tree)?;
-        let places = count_active(items);
-        Hierarchy::of(alloc, tree, wide, places)
+        Ok(Hierarchy { tree, wide })
     }
 
     /// The trees of an update: where the items, which are at most 2^20, have the activity of this
@@ -78,7 +77,7 @@ impl Hierarchy {
         requires active { active ≡ active_of items.items }
         ensures { IfOk result (λ h. IsUpdated flags self.now.tree items.items h.tree) }
     {
-        if has_activity(&self.tree, &self.order, &items, active) {
+        if has_activity(&self.tree, &items, active) {
             self.refitted(rt, alloc, items)
         } else {
             Hierarchy::build(rt, alloc, flags, &items)
@@ -107,26 +106,14 @@ impl Hierarchy {
         let tree = climb_all(rt, alloc, self.tree.copy()?, items)?;
         let mut wide = self.wide.copy()?;
         wide.refit(&tree);
-        let order = self.order.clone()?;
-        Ok(Hierarchy { tree, wide, order })
+        Ok(Hierarchy { tree, wide })
     }
 
     /// Whether items have the activity of this tree's, so that it can be refit to them.
     pub fn has_activity(&self, items: &[Option<Box3>]) -> bool
         ensures { IsTrue result ↔ HasActivity self.now.tree items.now }
     {
-        has_activity(&self.tree, &self.order, items, count_active(items))
-    }
-
-    // The trees of a binary tree with so many places and a wide one.
-    fn of(alloc: Global, tree: Tree, wide: Wide, places: usize) -> Result<Hierarchy, NoMemory>
-        requires over { WideOver wide tree }
-        requires all { places ≡ length tree.order }
-        requires few { places ≤ 2 ^ 20 }
-        ensures { IfOk result (λ h. h ≡ hierarchy_value tree wide) }
-    {
-        let order = order_of(alloc, &tree, places)?;
-        Ok(Hierarchy { tree, wide, order })
+        has_activity(&self.tree, items, count_active(items))
     }
 
     /// The same trees once more.
@@ -134,13 +121,12 @@ impl Hierarchy {
     /// # Errors
     ///
     /// For want of memory alone.
-    pub fn copy(&self, alloc: Global) -> Result<Hierarchy, NoMemory>
+    pub fn copy(&self) -> Result<Hierarchy, NoMemory>
         ensures { IfOk result (λ h. h ≡ self.now) }
     {
         let tree = self.tree.copy()?;
         let wide = self.wide.copy()?;
-        let order = self.order.clone()?;
-        Ok(Hierarchy { tree, wide, order })
+        Ok(Hierarchy { tree, wide })
     }
 
     /// The binary tree.
@@ -162,7 +148,7 @@ impl Hierarchy {
     pub fn order(&self) -> &[u32]
         ensures { result.now ≡ self.now.tree.order }
     {
-        &self.order
+        self.tree.order()
     }
 }
 
@@ -181,17 +167,4 @@ fn built<R: Threads + Sync>(
     } else {
         build_median(alloc, items)
     }
-}
-
-// The items' numbers by their places, of which there are so many.
-fn order_of(alloc: Global, tree: &Tree, places: usize) -> Result<Vec<u32>, NoMemory>
-    requires all { places ≡ length tree.now.order }
-    requires few { places ≤ 2 ^ 20 }
-    ensures { IfOk result (λ v. v.items ≡ tree.now.order) }
-{
-    let mut order = Vec::with_capacity(alloc, places)?;
-    for at in 0..places as u32 {
-        order.push(tree.item(at))?;
-    }
-    Ok(order)
 }

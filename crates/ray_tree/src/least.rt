@@ -54,13 +54,7 @@ pub(crate) fn box_by(items: &[Option<Box3>], order: &[u32], boxes: &[Box3], node
 }
 
 // Whether the box of a node is so.
-fn is_least(
-    items: &[Option<Box3>],
-    order: &[u32],
-    boxes: &[Box3],
-    nodes: &[Node],
-    n: usize,
-) -> bool
+fn is_least(items: &[Option<Box3>], order: &[u32], boxes: &[Box3], nodes: &[Node], n: usize) -> bool
     requires active { All (IsActive items.now) order.now }
     requires boxed { length boxes.now ≡ length nodes.now }
     requires fit { AreFit (length order.now) nodes.now }

@@ -31,7 +31,7 @@ fn entries_of(alloc: Global, items: &[Option<Box3>]) -> Result<Vec<Entry>, NoMem
     requires { length items.now ≤ 2 ^ 20 }
     ensures { IfOk result (λ v. HasEach items.now v.items) }
 {
-    let mut entries = Vec::new(alloc);
+    let mut entries = Vec::with_capacity(alloc, items.len())?;
     for i in 0..items.len() {
         if let Some(b) = &items[i] {
             entries.push(entry_of(b, i as u32))?;

@@ -148,6 +148,13 @@ impl Tree {
         self.order[at as usize]
     }
 
+    /// The numbers of the items in the order of their places.
+    pub fn order(&self) -> &[u32]
+        ensures { result.now ≡ self.now.order }
+    {
+        &self.order
+    }
+
     /// How many leaves there are.
     pub fn leaves(&self) -> u32
         ensures { result ≡ length (leaves_of self.now) }

@@ -49,9 +49,9 @@ fn collapsed(alloc: Global, tree: &Tree) -> Result<Wide, NoMemory>
     tree.shape();
     let root = root_of(tree);
     let mut tops = first_tops(alloc, root)?;
-    let mut nodes = Vec::new(alloc);
+    // Where subtrees are alike there is about a node to three and a half leaves.
+    let mut nodes = Vec::with_capacity(alloc, tree.leaves() as usize / 3)?;
     grow(tree, &mut nodes, &mut tops)?;
-    // Nodes are added one by one, and their room may be near twice as large by then.
     nodes.shrink_to_fit();
     tops.shrink_to_fit();
     Ok(Wide { root, nodes, tops })
