@@ -1,6 +1,7 @@
 -- What is computed of a ray and a triangle decides the hit, and tells what the hit tells.
-use Rattle.std.proofs.Common.{◌≡◌, ap, sym, subst, ◌∙◌}
-use Rattle.std.specs.Prelude.{ℕ, ℤ, pos, ◌↔◌, ◌≤ℤ◌, ◌<ℤ◌, IsTrue}
+use Rattle.std.proofs.Common.{◌≡◌, ap, sym, subst, ◌∙◌, arith}
+use Rattle.std.specs.Prelude.{ℕ, ℤ, pos, ◌*◌, ◌↔◌, ◌*ℤ◌, ◌≤ℤ◌, ◌<ℤ◌, unsigned_abs, IsTrue}
+use Rattle.std.proofs.lemmas.Int.{ints}
 use Rattle.ray_geom.specs.declared.vec3.Vec3.{Vec3}
 use Rattle.ray_geom.specs.declared.edge.Edge.{Edge}
 use Rattle.ray_geom.specs.declared.measured.Measured.{Measured}
@@ -18,6 +19,13 @@ over_size-IsEdge : (ray : RayValue) (a b : Vec3) (edge : Edge) (den : ℤ) →
 over_size-IsEdge ray a b edge den e same =
     subst (λ volume. pos 0 ≤ℤ over_size volume den) (sym e.volume)
     (over_size-side (volume_of ray a b) den _ (sym e.side ∙ same))
+
+-- nor is the distance where it isn't before the ray's interval
+pub over_size-IsFrom : (least : ℕ) (num den : ℤ) → IsFrom least num den → pos 0 ≤ℤ over_size num den
+over_size-IsFrom least num den from = no_less (least * unsigned_abs den) (over_size num den) from.at_least
+  where
+    no_less : (n : ℕ) (x : ℤ) → pos n ≤ℤ (pos 65536 *ℤ x) → pos 0 ≤ℤ x
+    no_less n x h = omega (arith, ints)
 
 -- neither weight is negative
 pub record AreWeights (m : Measured) : Type 0 where

@@ -2,7 +2,7 @@
 use Rattle.std.specs.Prelude.{ℕ, ◌≡◌, ◌+◌, ◌-◌, ◌*◌, ◌/◌, ◌%◌, ◌^◌, ◌<◌, ◌≤◌, min, refl}
 use Rattle.std.specs.Int.{IsGcd, ◌∣◌, bit_at}
 use Rattle.std.proofs.Common.{arith, sym, subst, ap, ◌∙◌, zero, suc}
-use Rattle.std.proofs.Math.Nat.{dvd-mul_right, dvd_of_mul-dvd-mul_left, mul-dvd-mul_left, mul-div_cancel', mul_assoc, mul_comm, div-one, pow-suc, mod-eq_of_lt}
+use Rattle.std.proofs.Math.Nat.{one-dvd, dvd-mul_right, dvd_of_mul-dvd-mul_left, mul-dvd-mul_left, mul-div_cancel', mul_assoc, mul_comm, div-one, pow-suc, mod-eq_of_lt}
 use Rattle.std.proofs.lemmas.Nat.Gcd.{IsGcd-from_sub, IsGcd-swap, dvd-zero, dvd_trans, le_of_dvd, mod-eq-zero_of_dvd, dvd_of_mod-eq-zero}
 use Rattle.std.proofs.lemmas.Nat.Bits.{bit_at-suc, bit_at_lowest}
 use Rattle.std.proofs.lemmas.Nat.{shr-shr, pow_pos, pow-add}
@@ -49,6 +49,10 @@ of_multiple zero d x odd divides =
 of_multiple (suc k) d x odd divides =
     let same : x * 2 ^ suc k ≡ 2 * (x * 2 ^ k) = ap (λ n. x * n) (pow-suc 2 k) ∙ (sym (mul_assoc x (2 ^ k) 2) ∙ mul_comm (x * 2 ^ k) 2) in
     of_multiple k d x odd (of_double d (x * 2 ^ k) odd (subst (λ n. d ∣ n) same divides))
+
+-- nothing but 1 divides 1
+pub IsGcd-one : (a b : ℕ) → a ≡ 1 → IsGcd a b 1
+IsGcd-one a b one = (one-dvd a, one-dvd b, λ d p q. subst (λ n. d ∣ n) one p)
 
 -- a factor that is a power of two changes no greatest common divisor with an odd number
 pub IsGcd-times : (k m x g : ℕ) → m % 2 ≡ 1 → IsGcd m x g → IsGcd m (x * 2 ^ k) g

@@ -14,7 +14,7 @@ use Rattle.ray_geom.specs.Transform.{MatrixValue, matrix_value}
 
 -- two points are the same
 abbrev pub point_eq : Vec3 → Vec3 → Bool
-point_eq a b = (int_eq a.x b.x && int_eq a.y b.y) && int_eq a.z b.z
+point_eq a b = int_eq a.x b.x && (int_eq a.y b.y && int_eq a.z b.z)
 
 -- two rays
 abbrev pub ray_eq : RayValue → RayValue → Bool
@@ -38,9 +38,9 @@ same_fact r f g d = (λ h. f (d.0 h), λ q. d.1 (g q))
 
 pub point_eq-Decides : (a b : Vec3) → Decides (point_eq a b) (a ≡ b)
 point_eq-Decides a b =
-    same_fact (point_eq a b) (λ h i. vec3 (h.0.0 i) (h.0.1 i) (h.1 i))
-    (λ e. ((ap (λ v. v.x) e, ap (λ v. v.y) e), ap (λ v. v.z) e))
-    (Decides-and _ _ (Decides-and _ _ (Decides-int_eq a.x b.x) (Decides-int_eq a.y b.y)) (Decides-int_eq a.z b.z))
+    same_fact (point_eq a b) (λ h i. vec3 (h.0 i) (h.1.0 i) (h.1.1 i))
+    (λ e. (ap (λ v. v.x) e, (ap (λ v. v.y) e, ap (λ v. v.z) e)))
+    (Decides-and _ _ (Decides-int_eq a.x b.x) (Decides-and _ _ (Decides-int_eq a.y b.y) (Decides-int_eq a.z b.z)))
 
 pub ray_eq-Decides : (a b : RayValue) → Decides (ray_eq a b) (a ≡ b)
 ray_eq-Decides a b =

@@ -19,4 +19,5 @@ pub mod LeastBoxes
 pub mod Crossing
 pub mod ObjectRay
 pub mod Equality
+pub mod Told
 pub mod Fits

@@ -37,6 +37,9 @@ fn gcd_of_odd(x: u64, y: u64) -> u64
     let mut a = x;
     let mut b = y;
     while b != 0 {
+        if a == 1 {
+            return 1;
+        }
         let (less, rest) = lessened(a, b);
         a = less;
         b = rest;

@@ -29,12 +29,34 @@ pub fn hit_tri(ray: &Ray, tri: &Tri) -> Option<TriHit>
     meet(ray, tri)
 }
 
-// Where the ray meets the triangle.
+// Where the ray meets the triangle. Most rays pass outside an edge, where no more is asked.
 fn meet(ray: &Ray, tri: &Tri) -> Option<TriHit>
     ensures some { IsSome result ↔ IsHit ray.now tri.now }
     ensures value { IfSome result (Tells ray.now tri.now) }
 {
-    let m = measure(ray, tri);
+    let first = edge_of(ray, tri.v1, tri.v2);
+    let second = edge_of(ray, tri.v2, tri.v0);
+    if first.side != second.side {
+        return None;
+    }
+    let third = edge_of(ray, tri.v0, tri.v1);
+    if first.side != third.side {
+        return None;
+    }
+    meet_between(ray, tri, first, second, third)
+}
+
+// The same where the ray passes the three edges on one side.
+fn meet_between(ray: &Ray, tri: &Tri, first: Edge, second: Edge, third: Edge) -> Option<TriHit>
+    requires first { IsEdge ray.now tri.now.v1 tri.now.v2 first }
+    requires second { IsEdge ray.now tri.now.v2 tri.now.v0 second }
+    requires third { IsEdge ray.now tri.now.v0 tri.now.v1 third }
+    requires second_side { second.side ≡ first.side }
+    requires third_side { third.side ≡ first.side }
+    ensures some { IsSome result ↔ IsHit ray.now tri.now }
+    ensures value { IfSome result (Tells ray.now tri.now) }
+{
+    let m = measure(ray, tri, first, second, third);
     if are_inside(&m) && is_from_to(ray.tmin, ray.tmax, m.num, m.den) {
         Some(TriHit {
             t: ratio(m.num, m.den),
@@ -48,14 +70,20 @@ fn meet(ray: &Ray, tri: &Tri) -> Option<TriHit>
 }
 
 // All that decides the hit, and that it tells.
-fn measure(ray: &Ray, tri: &Tri) -> Measured
-    ensures { IsMeasured ray.now tri.now result }
+fn measure(ray: &Ray, tri: &Tri, first: Edge, second: Edge, third: Edge) -> Measured
+    requires first { IsEdge ray.now tri.now.v1 tri.now.v2 first }
+    requires second { IsEdge ray.now tri.now.v2 tri.now.v0 second }
+    requires third { IsEdge ray.now tri.now.v0 tri.now.v1 third }
+    ensures measured { IsMeasured ray.now tri.now result }
+    ensures first { result.first ≡ first }
+    ensures second { result.second ≡ second }
+    ensures third { result.third ≡ third }
 {
     let normal = cross(minus(tri.v1, tri.v0), minus(tri.v2, tri.v0));
     Measured {
-        first: edge_of(ray, tri.v1, tri.v2),
-        second: edge_of(ray, tri.v2, tri.v0),
-        third: edge_of(ray, tri.v0, tri.v1),
+        first,
+        second,
+        third,
         num: dot(minus(tri.v0, ray.origin), normal),
         den: dot(ray.dir, normal),
     }
@@ -97,12 +125,13 @@ fn side_at_tie(normal: Vec3, a: Vec3, b: Vec3) -> Ordering
         .then(b.cmp(&a))
 }
 
-// Whether the three sides equal the sign of the determinant, which isn't 0.
+// Whether the three sides, which are one, equal the sign of the determinant, which isn't 0.
 fn are_inside(m: &Measured) -> bool
+    requires second { m.now.second.side ≡ m.now.first.side }
+    requires third { m.now.third.side ≡ m.now.first.side }
     ensures { IsTrue result ↔ AreInside m.now }
 {
-    let sign = m.den.cmp(&0);
-    m.den != 0 && m.first.side == sign && m.second.side == sign && m.third.side == sign
+    m.den != 0 && m.first.side == m.den.cmp(&0)
 }
 
 // The numerator of num / den over the denominator's absolute value.

@@ -1,8 +1,8 @@
 ghost use Rattle.std.specs.Prelude.{◌≡◌, ◌≢◌, ◌*◌, ◌^◌, ◌+ℤ◌, ◌↔◌, pos, IsTrue, SomeIff};
 ghost use Rattle.ray_geom.specs.declared.vec3.Vec3.{Vec3};
-ghost use Rattle.ray_geom.specs.Vector.{IsWithin, IsShort, cross_of, dot_of};
+ghost use Rattle.ray_geom.specs.Vector.{IsWithin, IsShort, cross_of, dot_of, vec3};
 ghost use Rattle.ray_geom.specs.Transform.{IsMatrix, matrix_of, matrix_value, rows_of, table_of, identity_value, det_of, image_of};
-ghost use Rattle.ray_geom.specs.Equality.{matrix_eq, matrix_eq-laws, matrix_eq-equivalence};
+ghost use Rattle.ray_geom.specs.Equality.{matrix_eq, matrix_eq-laws, matrix_eq-equivalence, point_eq};
 
 use crate::vec3::{Vec3, cross, dot, is_short};
 use std::marker::Model;
@@ -17,18 +17,28 @@ pub struct Matrix {
     pub(crate) c: Vec3,
     // T.
     pub(crate) t: Vec3,
+    // Whether it leaves each point where it is, which is asked for each triangle that a ray tests.
+    stays: bool,
 }
 
 impl Model for Matrix {
-    ghost use Rattle.ray_geom.specs.Transform.{MatrixValue, IsMatrix, matrix_value};
+    ghost use Rattle.ray_geom.specs.Equality.{matrix_eq};
+    ghost use Rattle.ray_geom.specs.Transform.{MatrixValue, matrix_value, identity_value};
+    ghost use Rattle.ray_geom.specs.Told.{IsTold};
 
     ghost Value = { MatrixValue };
 
     ghost view = { λ m. matrix_value m.a m.b m.c m.t };
 
-    ghost invariant = { λ m. IsMatrix (matrix_value m.a m.b m.c m.t) };
+    ghost invariant = { λ m. IsTold (matrix_value m.a m.b m.c m.t) m.stays };
 
-    ghost inverse = { λ v. record { a = v.a; b = v.b; c = v.c; t = v.t } };
+    ghost inverse = { λ v. record {
+      a = v.a;
+      b = v.b;
+      c = v.c;
+      t = v.t;
+      stays = matrix_eq v identity_value;
+    } };
 }
 
 impl Matrix {
@@ -82,12 +92,12 @@ impl Matrix {
         ensures { result ≡ matrix_of (table_of words) }
     {
         let [ax, ay, az, tx, bx, by, bz, ty, cx, cy, cz, tz] = words;
-        Matrix {
-            a: Vec3::from_words([ax, ay, az]),
-            b: Vec3::from_words([bx, by, bz]),
-            c: Vec3::from_words([cx, cy, cz]),
-            t: Vec3::from_words([tx, ty, tz]),
-        }
+        of_parts(
+            Vec3::from_words([ax, ay, az]),
+            Vec3::from_words([bx, by, bz]),
+            Vec3::from_words([cx, cy, cz]),
+            Vec3::from_words([tx, ty, tz]),
+        )
     }
 
     /// The transform that leaves each point where it is.
@@ -99,6 +109,7 @@ impl Matrix {
             b: Vec3 { x: 0, y: 1, z: 0 },
             c: Vec3 { x: 0, y: 0, z: 1 },
             t: Vec3 { x: 0, y: 0, z: 0 },
+            stays: true,
         }
     }
 
@@ -151,12 +162,11 @@ impl Matrix {
     }
 
     /// Whether it leaves each point where it is.
-    #[tactic(auto, using(crate::specs::Equality::identical))]
     pub fn is_identity(&self) -> bool
         ensures value { IsTrue result ↔ self.now ≡ identity_value }
         ensures stays { IsTrue result → (v : Vec3) → image_of self.now v ≡ v }
     {
-        *self == Matrix::identity()
+        self.stays
     }
 }
 
@@ -184,10 +194,38 @@ fn from_parts(a: Vec3, b: Vec3, c: Vec3, t: Vec3) -> Option<Matrix>
         && is_short(t, 1 << 20)
         && determinant(a, b, c) != 0
     {
-        Some(Matrix { a, b, c, t })
+        Some(of_parts(a, b, c, t))
     } else {
         None
     }
+}
+
+// The same, which is known to be within the limits.
+fn of_parts(a: Vec3, b: Vec3, c: Vec3, t: Vec3) -> Matrix
+    requires { IsMatrix (matrix_value a b c t) }
+    ensures { result ≡ matrix_value a b c t }
+{
+    Matrix {
+        a,
+        b,
+        c,
+        t,
+        stays: do_stay(a, b, c, t),
+    }
+}
+
+// Whether the transform with these rows of M and this T is the identity.
+fn do_stay(a: Vec3, b: Vec3, c: Vec3, t: Vec3) -> bool
+    ensures { result ≡ matrix_eq (matrix_value a b c t) identity_value }
+{
+    is_at(a, 1, 0, 0) && is_at(b, 0, 1, 0) && is_at(c, 0, 0, 1) && is_at(t, 0, 0, 0)
+}
+
+// Whether a point has these coordinates.
+fn is_at(v: Vec3, x: i64, y: i64, z: i64) -> bool
+    ensures { result ≡ point_eq v (vec3 x y z) }
+{
+    v == (Vec3 { x, y, z })
 }
 
 // The determinant of the matrix with these rows.

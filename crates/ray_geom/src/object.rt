@@ -1,5 +1,6 @@
 ghost use Rattle.std.specs.Prelude.{◌≡◌};
 ghost use Rattle.ray_geom.specs.ObjectRay.{IsObjectRay, object_of, LeadsBack};
+ghost use Rattle.ray_geom.specs.Transform.{identity_value};
 
 use crate::adjugate::Adjugate;
 use crate::matrix::Matrix;
@@ -75,9 +76,34 @@ impl ObjectRay {
 /// The ray in the space of an object that `m` maps to the world: adj(M) (o - T), adj(M) d, the
 /// determinant of M, and the ray's interval, all exact. M takes it back to the ray, det times as
 /// long. (Own; for the instance transforms of "Ray Traversal" in the Vulkan specification.)
+#[inline(always)]
 pub fn object_ray(ray: &Ray, m: &Matrix) -> ObjectRay
     ensures value { result ≡ object_of ray.now m.now }
     ensures back { LeadsBack ray.now m.now result }
+{
+    if m.is_identity() {
+        in_place(ray)
+    } else {
+        moved(ray, m)
+    }
+}
+
+// The ray in the space of an object that stands where it is.
+fn in_place(ray: &Ray) -> ObjectRay
+    ensures { result ≡ object_of ray.now identity_value }
+{
+    ObjectRay {
+        origin: ray.origin,
+        dir: ray.dir,
+        det: 1,
+        tmin: ray.tmin,
+        tmax: ray.tmax,
+    }
+}
+
+// The ray in the space of another object.
+fn moved(ray: &Ray, m: &Matrix) -> ObjectRay
+    ensures { result ≡ object_of ray.now m.now }
 {
     let adjugate = Adjugate::of(m);
     ObjectRay {

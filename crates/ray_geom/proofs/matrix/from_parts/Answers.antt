@@ -11,8 +11,8 @@ determinant-requires-clause-b_short c = search (rules, to_z-of_z)
 pub determinant-requires-clause-c_short : goal.determinant-requires-clause-c_short
 determinant-requires-clause-c_short c = search (rules, to_z-of_z)
 
-pub invariant_of-result : goal.invariant_of-result
-invariant_of-result c = search (rules, to_z-of_z)
+pub of_parts-requires : goal.of_parts-requires
+of_parts-requires c = search (rules, to_z-of_z)
 
 pub returns-then-determinant-ne0 : goal.returns-then-determinant-ne0
 returns-then-determinant-ne0 c = search (rules, to_z-of_z)
