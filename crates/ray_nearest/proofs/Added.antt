@@ -1,6 +1,6 @@
 -- For who writes a scene: from the calls that add turns to `IsOpened`.
-use Rattle.std.proofs.lemmas.List.{take_more}
-use Rattle.std.proofs.Common.{ℕ, ◌+◌, ◌<◌, length, slice_index_or, take, ◌≡◌, ◌∙◌, ◌++◌, refl, sym, subst, Option, Some, None, Bool, true, false, if◌then◌else◌, List, [], ◌∷◌, inl, inr}
+use Rattle.std.proofs.lemmas.List.{append_assoc, take_more}
+use Rattle.std.proofs.Common.{ℕ, zero, suc, ap, ◌+◌, ◌<◌, length, slice_index_or, take, ◌≡◌, ◌∙◌, ◌++◌, refl, sym, subst, Option, Some, None, Bool, true, false, if◌then◌else◌, List, [], ◌∷◌, inl, inr}
 use Rattle.std.specs.List.Sorted.{IsPermutation}
 use Rattle.std.proofs.lemmas.List.Sorted.{IsPermutation-append_right, IsPermutation-refl, IsPermutation-trans}
 use Rattle.ray_geom.specs.declared.ratio.Ratio.{Ratio}
@@ -9,7 +9,7 @@ use Rattle.ray_query.specs.declared.found.Found.{Found}
 use Rattle.ray_nearest.specs.declared.node.WalkNode.{WalkNode}
 use Rattle.ray_nearest.specs.declared.turn.Turn.{Turn}
 use Rattle.ray_nearest.specs.declared.turn.Turn.TheVariants.{Node, Candidate}
-use Rattle.ray_nearest.specs.Adding.{Adds, AddsFound, AddsNode, AddsNodes, AddsOne, HasValue, IsOpened}
+use Rattle.ray_nearest.specs.Adding.{Adds, AddsFound, AddsNode, AddsNodes, AddsOne, HasValue, IsOpened, Passes}
 use Rattle.ray_nearest.specs.Scene.{SceneValue, is_open, is_within}
 use Rattle.ray_nearest.specs.Turns.{turn_within}
 use Rattle.ray_nearest.proofs.Orders.{within-value}
@@ -68,6 +68,43 @@ module _ {X : Type 0} (P : X → List Turn → Type 0) where
       subst (λ ys. Adds P ys old new) (sym (take_more xs i x below))
       (Adds-more (take i xs) (slice_index_or xs i x) old mid new before (subst (λ y. AddsOne (P y) mid new) at one))
 
+-- ---- nodes that stand for others
+
+-- each stands for itself
+pub each_itself : (limit : Option Ratio) (s : SceneValue) (ns : List WalkNode) (old new : List Turn) → Adds (AddsNode limit s.entry) ns old new
+    → AddsNodes limit s ns old new
+each_itself limit s ns old new added = (0, ns, refl, added)
+
+module _ (s : SceneValue) where
+  inside : {X : Type 0} (fs bs cs ds es : List X) → fs ++ ((bs ++ (cs ++ ds)) ++ es) ≡ (fs ++ bs) ++ (cs ++ (ds ++ es))
+  inside fs bs cs ds es =
+      ap (λ xs. fs ++ xs) (append_assoc bs (cs ++ ds) es ∙ ap (λ xs. bs ++ xs) (append_assoc cs ds es)) ∙ sym (append_assoc fs bs (cs ++ (ds ++ es)))
+
+  -- also among others
+  pub Passes-among : (k : ℕ) (fs ns ms es : List WalkNode) → Passes s k ns ms → Passes s k (fs ++ (ns ++ es)) (fs ++ (ms ++ es))
+  Passes-among zero fs ns ms es same = ap (λ xs. fs ++ (xs ++ es)) same
+  Passes-among (suc k) fs ns ms es (before, n, after, split, none, rest) = (
+    fs ++ before,
+    n,
+    after ++ es,
+    ap (λ xs. fs ++ (xs ++ es)) split ∙ inside fs before (n ∷ []) after es,
+    none,
+    subst (λ xs. Passes s k xs (fs ++ (ms ++ es))) (inside fs before (s.below n) after es)
+        (Passes-among k fs (before ++ (s.below n ++ after)) ms es rest),
+  )
+
+-- a node among others that add nothing, at which nothing is found: the nodes below it are added in its place
+pub passed_by : (limit : Option Ratio) (s : SceneValue) (before after : List WalkNode) (n : WalkNode) (old new : List Turn) → s.finds n ≡ []
+    → ((turns : List Turn) → Adds (AddsNode limit s.entry) before turns turns) → ((turns : List Turn) → Adds (AddsNode limit s.entry) after turns turns)
+    → AddsNodes limit s (s.below n) old new → AddsNodes limit s (before ++ n ∷ after) old new
+passed_by limit s before after n old new none first last (k, ms, passes, added) = (
+  suc k,
+  before ++ (ms ++ after),
+  (before, n, after, refl, none, Passes-among s k before (s.below n) ms after passes),
+  Adds-append (AddsNode limit s.entry) before (ms ++ after) old old new (first old)
+      (Adds-append (AddsNode limit s.entry) ms after old new new added (last new)),
+)
+
 -- ---- a node
 
 module _ (limit : Option Ratio) (s : SceneValue) (n : WalkNode) (old new : List Turn) where
@@ -77,4 +114,5 @@ module _ (limit : Option Ratio) (s : SceneValue) (n : WalkNode) (old new : List 
 
   -- below which there is none
   pub IsOpened-leaf : s.below n ≡ [] → Adds (AddsFound limit) (s.finds n) old new → IsOpened limit s n old new
-  IsOpened-leaf none added = (new, added, subst (λ ns. AddsNodes limit s ns new new) (sym none) (IsPermutation-refl new))
+  IsOpened-leaf none added =
+      (new, added, subst (λ ns. AddsNodes limit s ns new new) (sym none) (each_itself limit s [] new new (IsPermutation-refl new)))

@@ -133,6 +133,26 @@ module _ (IsNode : WalkNode → Type 0) (p : SceneParts) (parts : AreParts IsNod
       opened-is n limit known ∙ chosen (is_open limit (p.entry n)) _ met in
       omega (arith, at)
 
+  -- where a node isn't met none below it is
+  none_open : (n c : WalkNode) (limit : Option Ratio) → IsBelow IsNode p n c → is_open limit (p.entry n) ≡ false → (scene_of p).opened limit c ≡ 0
+  none_open n c limit b shut =
+      opened-is c limit b.known ∙
+      left_out (is_open limit (p.entry c)) _
+      (false-else (is_open limit (p.entry c)) (λ met. never (is_open limit (p.entry n)) (open-outer (p.entry n) (p.entry c) limit b.nests met) shut))
+
+  -- what is opened below a node is opened from it down
+  nested : (n : WalkNode) (limit : Option Ratio) → IsNode n → sum_by ((scene_of p).opened limit) (p.below n) ≤ (scene_of p).opened limit n
+  nested n limit known = by (is_open limit (p.entry n)) refl (opened n limit known)
+    where
+      by : (b : Bool) → is_open limit (p.entry n) ≡ b
+          → (is_open limit (p.entry n) ≡ true → p.tests n + sum_by ((scene_of p).opened limit) (p.below n) ≤ (scene_of p).opened limit n)
+          → sum_by ((scene_of p).opened limit) (p.below n) ≤ (scene_of p).opened limit n
+      by true met all = let most : p.tests n + sum_by ((scene_of p).opened limit) (p.below n) ≤ (scene_of p).opened limit n = all met in omega (arith, most)
+      by false shut all =
+          let none : sum_by ((scene_of p).opened limit) (p.below n) ≡ 0 =
+          sum_by-none ((scene_of p).opened limit) (p.below n) (λ c m. none_open n c limit (child n known c m) shut) in
+          omega (arith, none)
+
   -- what holds right at each node, and goes up from a node to the one above, holds of all that is found from a node down
   module _ (P : WalkNode → Found → Type 0) (here : (n : WalkNode) → IsNode n → (f : Found) → Member f (p.finds n) → P n f)
       (up : (n c : WalkNode) (f : Found) → IsBelow IsNode p n c → P c f → P n f) where
@@ -167,12 +187,6 @@ module _ (IsNode : WalkNode → Type 0) (p : SceneParts) (parts : AreParts IsNod
       sym (ap (flat_map p.finds) (all n known)))
 
   -- what is opened from a node down is what is tested right at each node from there down whose own box is met: since boxes nest, those above are too
-  none_open : (n c : WalkNode) (limit : Option Ratio) → IsBelow IsNode p n c → is_open limit (p.entry n) ≡ false → (scene_of p).opened limit c ≡ 0
-  none_open n c limit b shut =
-      opened-is c limit b.known ∙
-      left_out (is_open limit (p.entry c)) _
-      (false-else (is_open limit (p.entry c)) (λ met. never (is_open limit (p.entry n)) (open-outer (p.entry n) (p.entry c) limit b.nests met) shut))
-
   pub opened-each : (limit : Option Ratio) (k : ℕ) (n : WalkNode) → IsNode n → p.rank n < k
       → (scene_of p).opened limit n ≡ sum_by (tested_at p limit) (all_from p n)
   opened-each limit zero n known low = absurd (omega (arith, low))
@@ -211,5 +225,6 @@ module _ (IsNode : WalkNode → Type 0) (p : SceneParts) (parts : AreParts IsNod
     in_order = λ n known. all_members IsInOrder ((scene_of p).every n)
         (throughout (λ n f. IsInOrder f) (λ n known. each_member IsInOrder (p.finds n) (parts.in_order n known))
         (λ n c f b h. h) (suc (p.rank n)) n known (omega arith));
+    nested = nested;
     opened = opened;
   }

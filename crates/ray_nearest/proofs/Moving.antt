@@ -1,7 +1,8 @@
 -- What opening a node does to all that waits: what is found below comes in the place of the node.
-use Rattle.std.proofs.Common.{◌≡◌, ◌++◌, ◌+◌, ◌≤◌, ◌⊎◌, sym, subst, ℕ, Option, true, false, List, [], ◌∷◌, length, All, inl, inr, sum_by, arith}
+use Rattle.std.proofs.Common.{◌≡◌, ◌∙◌, ◌++◌, ◌+◌, ◌≤◌, ◌⊎◌, sym, ap, subst, ℕ, zero, suc, Option, true, false, List, [], ◌∷◌, length, All, inl, inr, sum_by, arith}
 use Rattle.std.specs.List.{flat_map}
 use Rattle.std.specs.List.Sorted.{IsPermutation}
+use Rattle.std.proofs.lemmas.List.Concat.{flat_map-append}
 use Rattle.std.proofs.lemmas.List.Elements.{All-cons, All-head, All-tail}
 use Rattle.std.proofs.lemmas.List.Sorted.{All-permutation, IsPermutation-sym, sum_by-IsPermutation}
 use Rattle.std.proofs.lemmas.List.Sums.{sum_by-append, sum_by-cons}
@@ -12,7 +13,7 @@ use Rattle.ray_query.specs.Play.{QueryState}
 use Rattle.ray_nearest.specs.declared.node.WalkNode.{WalkNode}
 use Rattle.ray_nearest.specs.declared.turn.Turn.{Turn}
 use Rattle.ray_nearest.specs.declared.turn.Turn.TheVariants.{Node, Candidate}
-use Rattle.ray_nearest.specs.Adding.{Adds, AddsFound, AddsNode, AddsNodes, AddsOne, IsOpened}
+use Rattle.ray_nearest.specs.Adding.{Adds, AddsFound, AddsNode, AddsNodes, AddsOne, IsOpened, Passes}
 use Rattle.ray_nearest.specs.KeyOrder.{has_key}
 use Rattle.ray_nearest.specs.Scene.{Holds, IsScene, SceneValue, distance_of}
 use Rattle.ray_nearest.proofs.Members.{Each-member, Member, Member-append, Member-append_left, Member-append_right}
@@ -158,16 +159,79 @@ module _ (IsNode : WalkNode → Type 0) (s : SceneValue) (st : QueryState) where
         alone g (inr m) = absurd m
     moves_found f old new (ts, inr one, moved) = moves_with (Candidate f) old new tt (subst (λ us. IsPermutation (us ++ old) new) one moved)
 
-    pub moves_nodes : (ns : List WalkNode) (old new : List Turn) → All IsNode ns → AddsNodes (distance_of st.committed) s ns old new
-        → Moves IsNode s st (flat_map s.every ns) (λ c. sum_by (s.opened c) ns) (sum_by s.size ns) old new
-    moves_nodes [] old new known moved = moves_without [] (λ c. 0) 0 old new (λ f m. absurd m) moved
-    moves_nodes (n ∷ ns) old new known (mid, one, rest) =
+    -- nodes, one after the other
+    abbrev MovesNodes : List WalkNode → List Turn → List Turn → Type 0
+    MovesNodes ns old new = Moves IsNode s st (flat_map s.every ns) (λ c. sum_by (s.opened c) ns) (sum_by s.size ns) old new
+
+    moves_each : (ns : List WalkNode) (old new : List Turn) → All IsNode ns → Adds (AddsNode (distance_of st.committed) s.entry) ns old new
+        → MovesNodes ns old new
+    moves_each [] old new known moved = moves_without [] (λ c. 0) 0 old new (λ f m. absurd m) moved
+    moves_each (n ∷ ns) old new known (mid, one, rest) =
         moves_within (s.every n ++ flat_map s.every ns) (λ c. s.opened c n + sum_by (s.opened c) ns) (λ c. sum_by (s.opened c) (n ∷ ns))
         (s.size n + sum_by s.size ns) (sum_by s.size (n ∷ ns)) old new
         (λ c. let sum : sum_by (s.opened c) (n ∷ ns) ≡ s.opened c n + sum_by (s.opened c) ns = sum_by-cons (s.opened c) n ns in omega (arith, sum))
         (let sum : sum_by s.size (n ∷ ns) ≡ s.size n + sum_by s.size ns = sum_by-cons s.size n ns in omega (arith, sum))
         (moves_more (s.every n) (flat_map s.every ns) (λ c. s.opened c n) (λ c. sum_by (s.opened c) ns) (s.size n) (sum_by s.size ns) old mid new
-        (moves_node n old mid (All-head IsNode n ns known) one) (moves_nodes ns mid new (All-tail IsNode n ns known) rest))
+        (moves_node n old mid (All-head IsNode n ns known) one) (moves_each ns mid new (All-tail IsNode n ns known) rest))
+
+    -- where nothing is found right at a node, what is found below it is all that is found from it down
+    below-every : (n : WalkNode) → IsNode n → s.finds n ≡ [] → s.every n ≡ flat_map s.every (s.below n)
+    below-every n known none = scene.every n known ∙ ap (λ fs. fs ++ flat_map s.every (s.below n)) none
+
+    every-passed : (before after : List WalkNode) (n : WalkNode) → IsNode n → s.finds n ≡ []
+        → flat_map s.every (before ++ (s.below n ++ after)) ≡ flat_map s.every (before ++ n ∷ after)
+    every-passed before after n known none =
+        flat_map-append s.every before (s.below n ++ after)
+        ∙ (ap (λ fs. flat_map s.every before ++ fs)
+        (flat_map-append s.every (s.below n) after ∙ ap (λ fs. fs ++ flat_map s.every after) (sym (below-every n known none)))
+        ∙ sym (flat_map-append s.every before (n ∷ after)))
+
+    -- a sum over what stands in the place of a node is no more than one over the node
+    sum-passed : (f : WalkNode → ℕ) (before after : List WalkNode) (n : WalkNode) → sum_by f (s.below n) ≤ f n
+        → sum_by f (before ++ (s.below n ++ after)) ≤ sum_by f (before ++ n ∷ after)
+    sum-passed f before after n less =
+        let one : sum_by f (before ++ (s.below n ++ after)) ≡ sum_by f before + sum_by f (s.below n ++ after) = sum_by-append f before (s.below n ++ after) in
+        let two : sum_by f (s.below n ++ after) ≡ sum_by f (s.below n) + sum_by f after = sum_by-append f (s.below n) after in
+        let three : sum_by f (before ++ n ∷ after) ≡ sum_by f before + sum_by f (n ∷ after) = sum_by-append f before (n ∷ after) in
+        let four : sum_by f (n ∷ after) ≡ f n + sum_by f after = sum_by-cons f n after in
+        omega (arith, one, two, three, four, less)
+
+    -- of nodes that are known, those that stand for one are
+    known-passed : (before after : List WalkNode) (n : WalkNode) → All IsNode (before ++ n ∷ after) → IsNode n × All IsNode (before ++ (s.below n ++ after))
+    known-passed [] after n known = (
+      All-head IsNode n after known,
+      All-joined (s.below n) after (scene.below n (All-head IsNode n after known)) (All-tail IsNode n after known),
+    )
+      where
+        All-joined : (ms ns : List WalkNode) → All IsNode ms → All IsNode ns → All IsNode (ms ++ ns)
+        All-joined [] ns a b = b
+        All-joined (m ∷ ms) ns a b =
+            All-cons IsNode m (ms ++ ns) (All-head IsNode m ms a) (All-joined ms ns (All-tail IsNode m ms a) b)
+    known-passed (m ∷ ms) after n known =
+        let rest = known-passed ms after n (All-tail IsNode m (ms ++ n ∷ after) known) in
+        (rest.0, All-cons IsNode m (ms ++ (s.below n ++ after)) (All-head IsNode m (ms ++ n ∷ after) known) rest.1)
+
+    -- nodes that stand for others move what these would
+    moves_passed : (k : ℕ) (ns ms : List WalkNode) (old new : List Turn) → All IsNode ns → Passes s k ns ms
+        → (All IsNode ms → MovesNodes ms old new) → MovesNodes ns old new
+    moves_passed zero ns ms old new known same moves =
+        subst (λ xs. MovesNodes xs old new) (sym same) (moves (subst (λ xs. All IsNode xs) same known))
+    moves_passed (suc k) ns ms old new known (before, n, after, split, none, rest) moves =
+        let both = known-passed before after n (subst (λ xs. All IsNode xs) split known) in
+        let passed : MovesNodes (before ++ (s.below n ++ after)) old new = moves_passed k (before ++ (s.below n ++ after)) ms old new both.1 rest moves in
+        subst (λ xs. MovesNodes xs old new) (sym split)
+        (moves_within (flat_map s.every (before ++ n ∷ after)) (λ c. sum_by (s.opened c) (before ++ (s.below n ++ after)))
+        (λ c. sum_by (s.opened c) (before ++ n ∷ after)) (sum_by s.size (before ++ (s.below n ++ after))) (sum_by s.size (before ++ n ∷ after)) old new
+        (λ c. sum-passed (s.opened c) before after n (scene.nested n c both.0))
+        (sum-passed s.size before after n
+        (let size : 1 + (length (s.finds n) + sum_by s.size (s.below n)) ≤ s.size n = scene.size n both.0 in omega (arith, size)))
+        (subst (λ fs. Moves IsNode s st fs (λ c. sum_by (s.opened c) (before ++ (s.below n ++ after))) (sum_by s.size (before ++ (s.below n ++ after))) old new)
+        (every-passed before after n both.0 none) passed))
+
+    pub moves_nodes : (ns : List WalkNode) (old new : List Turn) → All IsNode ns → AddsNodes (distance_of st.committed) s ns old new
+        → MovesNodes ns old new
+    moves_nodes ns old new known (k, ms, passes, added) =
+        moves_passed k ns ms old new known passes (λ there. moves_each ms old new there added)
 
     moves_founds : (fs : List Found) (old new : List Turn) → Adds (AddsFound (distance_of st.committed)) fs old new
         → Moves IsNode s st fs (λ c. 0) (length fs) old new

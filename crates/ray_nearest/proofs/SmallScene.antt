@@ -23,7 +23,7 @@ use Rattle.ray_nearest.specs.declared.turn.Turn.{Turn}
 use Rattle.ray_nearest.specs.declared.turn.Turn.TheVariants.{Node, Candidate}
 use Rattle.ray_nearest.specs.Adding.{AddsNodes, HasValue, IsOpened}
 use Rattle.ray_nearest.specs.Turns.{turn_within}
-use Rattle.ray_nearest.proofs.Added.{IsOpened-inner, IsOpened-leaf, pushed_found, pushed_node}
+use Rattle.ray_nearest.proofs.Added.{each_itself, IsOpened-inner, IsOpened-leaf, pushed_found, pushed_node}
 use Rattle.ray_nearest.specs.KeyOrder.{AreApart, has_key}
 use Rattle.ray_nearest.specs.Parts.{IsBelow, grown, scene_of}
 use Rattle.ray_nearest.specs.Scene.{Holds, IsInOrder, IsScene, found_in}
@@ -134,6 +134,7 @@ module _ (near far : Found) where
     pub begun : (e : Ratio) → e.num ≡ 1 → e.den ≡ 1 → IsPermutation (turn_within None (Node e (Inner 0 0)) ++ old) new
         → AddsNodes None (scene_of (small_parts near far)) (Inner 0 0 ∷ []) old new
     begun e num den moved =
+        each_itself None (scene_of (small_parts near far)) (Inner 0 0 ∷ []) old new
         (new, pushed_node None old new small_entry (Inner 0 0) e (value_of 1 1 (over_suc 1 0) e num den refl) moved, IsPermutation-refl new)
 
     module _ (limit : Option Ratio) where
@@ -141,11 +142,12 @@ module _ (near far : Found) where
           → IsPermutation (turn_within limit (Node d (Leaf 0 0)) ++ old) mid → IsPermutation (turn_within limit (Node e (Leaf 0 1)) ++ mid) new
           → IsOpened limit (scene_of (small_parts near far)) (Inner i n) old new
       opened_inner i n mid d e d_num d_den e_num e_den first second =
-          IsOpened-inner limit (scene_of (small_parts near far)) (Inner i n) old new refl (
+          IsOpened-inner limit (scene_of (small_parts near far)) (Inner i n) old new refl
+          (each_itself limit (scene_of (small_parts near far)) (Leaf 0 0 ∷ (Leaf 0 1 ∷ [])) old new (
             mid,
             pushed_node limit old mid small_entry (Leaf 0 0) d (value_of 2 2 (over_suc 1 0) d d_num d_den refl) first,
             (new, pushed_node limit mid new small_entry (Leaf 0 1) e (value_of 3 1 (over_suc 3 0) e e_num e_den refl) second, IsPermutation-refl new),
-          )
+          ))
 
       pub opened_first : (i n : ℕ) → n ≡ 0 → IsPermutation (turn_within limit (Candidate near) ++ old) new
           → IsOpened limit (scene_of (small_parts near far)) (Leaf i n) old new

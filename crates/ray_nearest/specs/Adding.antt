@@ -1,5 +1,5 @@
 -- What opening a node adds to the turns that wait.
-use Rattle.std.specs.Prelude.{◌≡◌, ◌++◌, ◌⊎◌, false, Option, Some, None, List, [], ◌∷◌}
+use Rattle.std.specs.Prelude.{ℕ, zero, suc, ◌≡◌, ◌++◌, ◌⊎◌, false, Option, Some, None, List, [], ◌∷◌}
 use Rattle.std.specs.List.Sorted.{IsPermutation}
 use Rattle.std.specs.declared.cmp.Ordering.TheVariants.{Equal}
 use Rattle.ray_geom.specs.declared.ratio.Ratio.{Ratio}
@@ -33,9 +33,16 @@ abbrev pub Adds : {X : Type 0} → (X → List Turn → Type 0) → List X → L
 Adds P [] old new = IsPermutation old new
 Adds P (x ∷ xs) old new = (mid : List Turn) × AddsOne (P x) old mid × Adds P xs mid new
 
--- the turns of nodes were added
+-- nodes that stand for others: so many times one at which nothing is found is passed by, and the nodes below it stand in its place
+abbrev pub Passes : SceneValue → ℕ → List WalkNode → List WalkNode → Type 0
+Passes s zero ns ms = ns ≡ ms
+Passes s (suc k) ns ms =
+    (before : List WalkNode) × (n : WalkNode) × (after : List WalkNode) × (ns ≡ before ++ n ∷ after) × (s.finds n ≡ [])
+    × Passes s k (before ++ (s.below n ++ after)) ms
+
+-- the turns of nodes were added, or of nodes that stand for them
 abbrev pub AddsNodes : Option Ratio → SceneValue → List WalkNode → List Turn → List Turn → Type 0
-AddsNodes limit s = Adds (AddsNode limit s.entry)
+AddsNodes limit s ns old new = (k : ℕ) × (ms : List WalkNode) × Passes s k ns ms × Adds (AddsNode limit s.entry) ms old new
 
 -- a node was opened: the turns of what is found there were added, and those of the nodes below it
 abbrev pub IsOpened : Option Ratio → SceneValue → WalkNode → List Turn → List Turn → Type 0

@@ -77,6 +77,7 @@ pub record IsScene (IsNode : WalkNode → Type 0) (s : SceneValue) : Type 0 wher
   -- a node's box holds what is found from there down, and a candidate leaves where it enters or later
   pub holds : (n : WalkNode) → IsNode n → All (Holds (s.entry n)) (s.every n)
   pub in_order : (n : WalkNode) → IsNode n → All IsInOrder (s.every n)
-  -- where a node is opened, what is tested there and opened below is opened from it down
+  -- what is opened below a node is opened from it down; where the node is met, what is tested there is, too
+  pub nested : (n : WalkNode) (limit : Option Ratio) → IsNode n → sum_by (s.opened limit) (s.below n) ≤ s.opened limit n
   pub opened : (n : WalkNode) (limit : Option Ratio) → IsNode n → is_open limit (s.entry n) ≡ true
       → s.tests n + sum_by (s.opened limit) (s.below n) ≤ s.opened limit n

@@ -19,7 +19,9 @@ pub trait Scene {
     /// What the ray meets in it.
     ghost scene: { Self → SceneValue };
 
-    /// Adds the turns of the nodes at which a walk begins, except of such as aren't met.
+    /// Adds the turns of the nodes at which a walk begins, except of such as aren't met. Here, and
+    /// where a node is opened, one at which nothing is found may be passed by: the nodes below it
+    /// are added in its place.
     fn begin(&mut self, turns: &mut Turns) -> Result<(), NoMemory>
         ensures kept { self.new ≡ self.old }
         ensures begun { OnOk result

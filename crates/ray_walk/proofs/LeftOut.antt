@@ -113,7 +113,7 @@ module _ (tree : TreeValue) (wide : WideValue) (trees : AreTrees tree wide) wher
       let within = is.1 in
       (within, (trees.over.collapsed.each v (omega (arith, topped, within))).top.small)
 
-  is-child : (w k : ℕ) → w < length wide.nodes → k < 8 → IsChild tree.nodes wide.tops (w + 1) (child_at (children_in wide.nodes w) k)
+  pub is-child : (w k : ℕ) → w < length wide.nodes → k < 8 → IsChild tree.nodes wide.tops (w + 1) (child_at (children_in wide.nodes w) k)
   is-child w k small few =
       let node = trees.over.collapsed.each w small in
       let eight = node.eight in

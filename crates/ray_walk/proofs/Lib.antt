@@ -5,6 +5,7 @@ pub mod Joined
 pub mod Spread
 pub mod Leaves
 pub mod Aligned
+pub mod Descending
 pub mod Every
 pub mod Missing
 pub mod Everywhere

@@ -29,7 +29,7 @@ use Rattle.ray_nearest.specs.declared.node.WalkNode.TheVariants.{TopInner, TopLe
 use Rattle.ray_nearest.specs.declared.turn.Turn.{Turn}
 use Rattle.ray_nearest.specs.Adding.{Adds, AddsFound, AddsNode, AddsNodes, AddsOne, HasValue, IsOpened}
 use Rattle.ray_nearest.specs.Scene.{is_open}
-use Rattle.ray_nearest.proofs.Added.{Adds-append, IsOpened-inner, IsOpened-leaf}
+use Rattle.ray_nearest.proofs.Added.{Adds-append, IsOpened-inner, IsOpened-leaf, each_itself}
 use Rattle.ray_walk.specs.declared.level.Level.{Level}
 use Rattle.ray_walk.specs.declared.level.Level.TheVariants.{World, Object}
 use Rattle.ray_walk.specs.declared.trees.Trees.{Trees}
@@ -54,7 +54,7 @@ other limit o E node m old new same entry added =
     subst (λ e. AddsOne (AddsNode limit (λ x. e) m) old new) entry (subst (λ x. AddsOne (AddsNode limit (λ y. o) x) old new) same added)
 
 -- the turns of nodes, by equal entries
-Adds-as : (limit : Option Ratio) (E F : WalkNode → Option Ratio) (xs : List WalkNode) → All (λ n. E n ≡ F n) xs → (old new : List Turn)
+pub Adds-as : (limit : Option Ratio) (E F : WalkNode → Option Ratio) (xs : List WalkNode) → All (λ n. E n ≡ F n) xs → (old new : List Turn)
     → Adds (AddsNode limit E) xs old new → Adds (AddsNode limit F) xs old new
 Adds-as limit E F [] same old new added = added
 Adds-as limit E F (x ∷ xs) same old new (mid, first, rest) =
@@ -202,9 +202,14 @@ module _ (s : Traced) (i n : ℕ) (p : Placement) (is : placement_at s i ≡ Som
 -- ---- a node is opened
 
 module _ (s : Traced) (limit : Option Ratio) (old new : List Turn) where
-  pub opened-inner : (n : WalkNode) → finds s (narrow s n) ≡ [] → AddsWide limit s (wide_below s n) old new → IsOpened limit (wide_scene s) n old new
+  pub opened-inner : (n : WalkNode) → finds s (narrow s n) ≡ [] → AddsNodes limit (wide_scene s) (wide_below s n) old new → IsOpened limit (wide_scene s) n old new
   unfolding wide_scene
   opened-inner n none added = IsOpened-inner limit (wide_scene s) n old new none added
+
+  -- each of the nodes below for itself
+  pub below-itself : (ns : List WalkNode) → AddsWide limit s ns old new → AddsNodes limit (wide_scene s) ns old new
+  unfolding wide_scene
+  below-itself ns added = each_itself limit (wide_scene s) ns old new added
 
   pub opened-leaf : (i n : ℕ) (p : Placement) → placement_at s i ≡ Some p → AddsFoundAt limit s i p (places_below p.bottom n) old new
       → IsOpened limit (wide_scene s) (Leaf i n) old new
@@ -220,4 +225,4 @@ same-tests s n now later steps = steps
 -- the walk begins at the root of the top structure
 pub begun : (s : Traced) (old new : List Turn) → AddsWide None s (child World s.top.wide.root) old new → AddsNodes None (wide_scene s) (wide_scene s).roots old new
 unfolding wide_scene
-begun s old new added = added
+begun s old new added = each_itself None (wide_scene s) (wide_scene s).roots old new added

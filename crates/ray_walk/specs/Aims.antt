@@ -1,5 +1,5 @@
 -- Words of private calls alone, which a reader of the public contracts needs not: a ray with its window, and the trees that it is sent through.
-use Rattle.std.specs.Prelude.{ℕ, ◌≡◌, ◌<◌, false, Option, Some, None, IfSome, All, List, length}
+use Rattle.std.specs.Prelude.{ℕ, zero, suc, ◌≡◌, ◌<◌, ◌↔◌, false, Option, Some, None, IfSome, All, List, length}
 use Rattle.ray_geom.specs.declared.ratio.Ratio.{Ratio}
 use Rattle.ray_geom.specs.Boxes.{BoxValue, IsBox, box_value}
 use Rattle.ray_geom.specs.LeastBoxes.{box_of_tri}
@@ -9,9 +9,10 @@ use Rattle.ray_tree.specs.Trees.{TreeValue, box_at}
 use Rattle.ray_wide.specs.declared.node.WideRef.{WideRef}
 use Rattle.ray_wide.specs.declared.node.WideRef.TheVariants as wides
 use Rattle.ray_wide.specs.Subtrees.{IsWideLeaf}
-use Rattle.ray_wide.specs.Wides.{WideValue, WideOver, lane_box, top_at}
+use Rattle.ray_wide.specs.Wides.{WideValue, WideOver, child_at, children_in, lane_box, lanes_in, top_at}
 use Rattle.ray_lanes.specs.declared.lanes.Lanes8.{Lanes8}
 use Rattle.ray_lanes.specs.declared.lanes.Window.{Window}
+use Rattle.ray_lanes.specs.Overlap.{HasBit, Overlaps}
 use Rattle.ray_window.specs.Meets.{Meets}
 use Rattle.ray_window.specs.Windows.{window_of}
 use Rattle.ray_bottom.specs.declared.leaf_item.ItemPoints.{ItemPoints}
@@ -25,6 +26,7 @@ use Rattle.ray_walk.specs.declared.aim.Aim.{Aim}
 use Rattle.ray_walk.specs.declared.aim.Seen.{Seen}
 use Rattle.ray_walk.specs.declared.trees.Trees.{Trees}
 use Rattle.ray_walk.specs.Traced.{entry_in, no_box}
+use Rattle.ray_walk.specs.WideScene.{child}
 
 -- ---- a ray with its window
 
@@ -79,6 +81,39 @@ AddsThrough limit t = Adds (AddsNode limit (entry_through t))
 -- none of them is met within the limit
 abbrev pub AreLeftOut : Option Ratio → Trees → List WalkNode → Type 0
 AreLeftOut limit t = All (λ n. is_open limit (entry_through t n) ≡ false)
+
+-- ---- the way down
+
+-- the bits of the lanes that a window overlaps
+abbrev pub AreMet : Lanes8 → Window → ℕ → Type 0
+AreMet lanes window met = (j : ℕ) → j < 8 → HasBit met j ↔ Overlaps lanes window j
+
+-- one bit alone is set, at the place of a wide node
+pub record IsAlone (children : List WideRef) (met u : ℕ) : Type 0 where
+  pub place : ℕ
+  pub few : place < 8
+  pub is_it : child_at children place ≡ wides.Inner u
+  pub alone : (j : ℕ) → j < 8 → (j ≡ place → ⊥) → HasBit met j → ⊥
+
+-- the ray meets no other child of wide node w than wide node u within the limit
+pub record LeadsOn (limit : Option Ratio) (t : Trees) (w u : ℕ) : Type 0 where
+  pub place : ℕ
+  pub there : place < length (children_in t.wide.now.nodes w)
+  pub is_it : child_at (children_in t.wide.now.nodes w) place ≡ wides.Inner u
+  pub others : (j : ℕ) → j < length (children_in t.wide.now.nodes w) → (j ≡ place → ⊥)
+      → AreLeftOut limit t (child t.level (child_at (children_in t.wide.now.nodes w) j))
+
+-- wide node w leads to v, so many levels down
+abbrev pub LeadsTo : Option Ratio → Trees → ℕ → ℕ → ℕ → Type 0
+LeadsTo limit t zero w v = w ≡ v
+LeadsTo limit t (suc k) w v = (u : ℕ) × LeadsOn limit t w u × LeadsTo limit t k u v
+
+-- where a way down from wide node w ends, with the children that the window overlaps there
+pub record IsDown (limit : Option Ratio) (t : Trees) (window : Window) (w at met : ℕ) : Type 0 where
+  pub node : at < length t.wide.now.nodes
+  pub levels : ℕ
+  pub leads : LeadsTo limit t levels w at
+  pub met_is : AreMet (lanes_in t.wide.now.nodes at) window met
 
 -- ---- primitives
 

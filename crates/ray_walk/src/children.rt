@@ -1,40 +1,44 @@
 //! What is below a wide node of a structure, and its root.
-ghost use Rattle.std.specs.Prelude.{ℕ, ◌≡◌, ◌<◌, ◌≤◌, IfSome, OnOk, length};
+ghost use Rattle.std.specs.Prelude.{◌≡◌, ◌<◌, IfSome, OnOk, length};
 ghost use Rattle.std.specs.List.{flat_map};
 ghost use Rattle.ray_geom.specs.Boxes.{IsBox};
 ghost use Rattle.ray_geom.specs.Vector.{vec3};
-ghost use Rattle.ray_lanes.specs.Overlap.{HasBit, of_box};
+ghost use Rattle.ray_lanes.specs.Overlap.{of_box};
 ghost use Rattle.ray_nearest.specs.Adding.{AddsNode, AddsOne};
 ghost use Rattle.ray_tree.specs.Trees.{box_at};
 ghost use Rattle.ray_wide.specs.Subtrees.{IsWideLeaf};
-ghost use Rattle.ray_wide.specs.Wides.{children_in, lane_box};
+ghost use Rattle.ray_wide.specs.Wides.{children_in, lane_box, lanes_in};
 ghost use Rattle.ray_window.specs.Windows.{window_of};
-ghost use Rattle.ray_walk.specs.Aims.{AddsThrough, AreTrees, HasBox, HasLane};
+ghost use Rattle.ray_walk.specs.Aims.{AddsThrough, AreMet, AreTrees, HasBox, HasLane};
 ghost use Rattle.ray_walk.specs.Traced.{entry_in, no_box};
 ghost use Rattle.ray_walk.specs.WideScene.{child, inner_at, leaf_at};
 
+use crate::bits::next_bit;
 use crate::level::Level;
 use crate::trees::Trees;
 use ray_geom::{Box3, ObjectRay, Ratio, Vec3};
-use ray_lanes::{Lanes8, Window, overlap8};
+use ray_lanes::{Lanes8, Window};
 use ray_nearest::{NoMemory, Turns, WalkNode};
 use ray_prune::reach_box;
 use ray_wide::{WideLeaf, WideRef};
 
 // Adds the turns of the children of a wide node, of which the ray meets the boxes within the
-// limit. Of those that the window doesn't overlap nothing more is asked. The last leaf among the
-// others is kept, since its places stand here, beside its box, and are far away else.
+// limit. Of those whose lanes the window doesn't overlap, whose bits aren't set, nothing more is
+// asked. The last leaf among the others is kept, since its places stand here, beside its box, and
+// are far away else.
 pub(crate) fn push_children(
     trees: &Trees<'_, '_>,
-    window: &Window,
+    _window: &Window,
     w: u32,
+    met: u8,
     limit: Option<Ratio>,
     recent: &mut Option<WideLeaf>,
     turns: &mut Turns,
 ) -> Result<(), NoMemory>
     requires trees { AreTrees trees.now.tree.now trees.now.wide.now }
-    requires window { window.now ≡ window_of trees.now.ray.now limit }
+    requires window { _window.now ≡ window_of trees.now.ray.now limit }
     requires node { w < length trees.now.wide.now.nodes }
+    requires met { AreMet (lanes_in trees.now.wide.now.nodes w) _window.now met }
     requires recent { IfSome recent.old (IsWideLeaf trees.now.tree.now.nodes) }
     ensures added { let children = children_in trees.now.wide.now.nodes w in
         OnOk result (AddsThrough limit trees.now
@@ -45,29 +49,12 @@ pub(crate) fn push_children(
     // A copy, which is read before it is known which child is met, and not after the lanes.
     let children = *trees.wide.children(w);
     let lanes = trees.wide.lanes(w);
-    let met = overlap8(lanes, window);
     let mut k = next_bit(met, 0);
     while k < 8 {
         push_below(trees, lanes, k, limit, children[k as usize], recent, turns)?;
         k = next_bit(met, k + 1);
     }
     Ok(())
-}
-
-// The first bit of a number that is set, of those from a place on; 8 where none is.
-fn next_bit(number: u8, from: u32) -> u32
-    requires { from ≤ 8 }
-    ensures from { from ≤ result }
-    ensures most { result ≤ 8 }
-    ensures set { result < 8 → HasBit number result }
-    ensures clear { (k : ℕ) → from ≤ k → k < result → ¬ HasBit number k }
-{
-    let rest = u32::from(number) >> from;
-    if rest == 0 {
-        8
-    } else {
-        (from + rest.trailing_zeros()).min(8)
-    }
 }
 
 // Adds the turn of a child by its lane, unless the ray doesn't meet it within the limit.

@@ -18,7 +18,9 @@
 #![tactic(auto)]
 
 mod aim;
+mod bits;
 mod children;
+mod descent;
 mod finding;
 mod gathering;
 mod held;

@@ -12,6 +12,7 @@ ghost use Rattle.ray_walk.specs.declared.level.Level.TheVariants.{World, Object}
 
 use crate::aim::{Aim, window_at};
 use crate::children::{push_child, push_children};
+use crate::descent::{Down, descend};
 use crate::held::{Held, Looked, hold};
 use crate::leaf::open_leaf;
 use crate::level::Level;
@@ -64,7 +65,7 @@ pub(crate) fn begin(view: &View<'_>, ray: &ObjectRay, turns: &mut Turns) -> Resu
     push_child(&trees, None, trees.wide.root(), turns)
 }
 
-// Adds the turns of the children of a wide node of the top structure.
+// Adds the turns of the children of a wide node of the top structure, or of that to which it leads.
 fn open_world(
     view: &View<'_>,
     aim: &mut Aim,
@@ -75,13 +76,15 @@ fn open_world(
     requires aim { IsInWorld view.now aim.old }
     requires node { w < length view.now.top.wide.nodes }
     ensures opened { let s = view.now in
-        OnOk result (AddsWide limit s (wide_below s (TopInner w)) turns.old turns.new) }
+        OnOk result (AddsNodes limit (wide_scene s) (wide_below s (TopInner w))
+        turns.old turns.new) }
     ensures aim { IsInWorld view.now aim.new }
 {
     view.known();
     let window = window_at(aim, limit);
     let trees = world(view, &aim.ray);
-    push_children(&trees, &window, w, limit, &mut aim.recent, turns)
+    let Down { at, met } = descend(&trees, &window, w, limit);
+    push_children(&trees, &window, at, met, limit, &mut aim.recent, turns)
 }
 
 // ---- instances
@@ -145,7 +148,8 @@ fn open_instances<'a>(
     Ok(())
 }
 
-// Adds the turns of the children of a wide node of the structure of an instance that is held.
+// Adds the turns of the children of a wide node of the structure of an instance that is held, or of
+// that to which it leads.
 fn open_object(
     view: &View<'_>,
     i: u32,
@@ -158,13 +162,15 @@ fn open_object(
     requires looked { IsLookedAt view.now i looked.now aim.old }
     requires node { w < length looked.now.bottom.now.wide.nodes }
     ensures opened { let s = view.now in
-        OnOk result (AddsWide limit s (wide_below s (Inner i w)) turns.old turns.new) }
+        OnOk result (AddsNodes limit (wide_scene s) (wide_below s (Inner i w))
+        turns.old turns.new) }
     ensures looked { IsLookedAt view.now i looked.now aim.new }
 {
     view.known();
     let window = window_at(aim, limit);
     let trees = object(i, looked, &aim.ray);
-    push_children(&trees, &window, w, limit, &mut aim.recent, turns)
+    let Down { at, met } = descend(&trees, &window, w, limit);
+    push_children(&trees, &window, at, met, limit, &mut aim.recent, turns)
 }
 
 // ---- all nodes

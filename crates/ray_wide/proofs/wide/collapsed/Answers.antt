@@ -6,7 +6,7 @@ use Rattle.ray_wide.proofs.wide.collapsed.Goals as goal
 
 pub grow-requires : goal.grow-requires
 grow-requires c =
-    subst (λ ws. IsGrowing c.args.tree.now.nodes ws c.in_ok-tops.tops.items) (sym c.new-nodes.ensures.items)
+    subst (λ ws. IsGrowing c.args.tree.now.nodes ws c.in_ok-tops.tops.items) (sym c.in_ok-nodes.ensures.items)
     (first_growing c.args.tree.now c.shape.ensures c.root_of-root.result c.in_ok-tops.tops.items c.root_of-root.ensures c.in_ok-tops.ensures)
 
 pub returns : goal.returns

@@ -1,0 +1,62 @@
+//! The way down through wide nodes of which a ray meets one child alone: such nodes are passed by.
+ghost use Rattle.std.specs.Prelude.{◌≡◌, ◌<◌, IfSome, length};
+ghost use Rattle.ray_wide.specs.Wides.{children_in, lanes_in};
+ghost use Rattle.ray_window.specs.Windows.{window_of};
+ghost use Rattle.ray_walk.specs.Aims.{AreMet, AreTrees, IsAlone, IsDown};
+
+use crate::bits::next_bit;
+use crate::trees::Trees;
+use ray_geom::Ratio;
+use ray_lanes::{Window, overlap8};
+use ray_wide::WideRef;
+
+/// Where a way down ends.
+#[derive(Clone, Copy)]
+pub(crate) struct Down {
+    /// The number of the wide node.
+    pub(crate) at: u32,
+    /// A bit for each of its children whose lanes the window overlaps.
+    pub(crate) met: u8,
+}
+
+/// The wide node to which one leads: as long as the window of the ray up to the limit overlaps the
+/// lane of one child alone, and that is a wide node, it is the child. No turn is taken for those
+/// that are passed by, and no box is tested exactly.
+pub(crate) fn descend(trees: &Trees<'_, '_>, window: &Window, w: u32, _limit: Option<Ratio>) -> Down
+    requires trees { AreTrees trees.now.tree.now trees.now.wide.now }
+    requires window { window.now ≡ window_of trees.now.ray.now _limit }
+    requires node { w < length trees.now.wide.now.nodes }
+    ensures { IsDown _limit trees.now window.now w result.at result.met }
+{
+    let _det = trees.ray.det();
+    let mut at = w;
+    let mut met = met_in(trees, window, at);
+    while let Some(below) = only_child(trees, at, met) {
+        at = below;
+        met = met_in(trees, window, at);
+    }
+    Down { at, met }
+}
+
+// The bits of the children of a wide node whose lanes a window overlaps.
+fn met_in(trees: &Trees<'_, '_>, window: &Window, w: u32) -> u8
+    requires { w < length trees.now.wide.now.nodes }
+    ensures { AreMet (lanes_in trees.now.wide.now.nodes w) window.now result }
+{
+    overlap8(trees.wide.lanes(w), window)
+}
+
+// The child of a wide node whose bit is set, where no other is and it is a wide node.
+fn only_child(trees: &Trees<'_, '_>, w: u32, met: u8) -> Option<u32>
+    requires { w < length trees.now.wide.now.nodes }
+    ensures { IfSome result (IsAlone (children_in trees.now.wide.now.nodes w) met) }
+{
+    let k = next_bit(met, 0);
+    if k == 8 || next_bit(met, k + 1) < 8 {
+        return None;
+    }
+    match trees.wide.children(w)[k as usize] {
+        WideRef::Inner(below) => Some(below),
+        _ => None,
+    }
+}
