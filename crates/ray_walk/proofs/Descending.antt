@@ -9,9 +9,8 @@ use Rattle.std.proofs.lemmas.List.Sorted.{IsPermutation-refl}
 use Rattle.ray_geom.specs.declared.ratio.Ratio.{Ratio}
 use Rattle.ray_geom.specs.ObjectRay.{IsObjectRay, object_of}
 use Rattle.ray_geom.specs.Transform.{identity_value}
-use Rattle.ray_lanes.specs.declared.lanes.Lanes8.{Lanes8}
 use Rattle.ray_lanes.specs.declared.lanes.Window.{Window}
-use Rattle.ray_lanes.specs.Overlap.{HasBit, Overlaps}
+use Rattle.ray_lanes.specs.Overlap.{Overlaps}
 use Rattle.ray_wide.specs.declared.node.WideRef.{WideRef}
 use Rattle.ray_wide.specs.declared.node.WideRef.TheVariants as wides
 use Rattle.ray_wide.specs.Wides.{IsChild, WideValue, child_at, children_in, lanes_in}
@@ -22,14 +21,13 @@ use Rattle.ray_nearest.specs.declared.turn.Turn.{Turn}
 use Rattle.ray_nearest.specs.Adding.{Adds, AddsNode, AddsNodes}
 use Rattle.ray_nearest.specs.Scene.{SceneValue, is_open}
 use Rattle.ray_nearest.proofs.Added.{each_itself, passed_by}
-use Rattle.ray_walk.specs.declared.level.Level.{Level}
 use Rattle.ray_walk.specs.declared.level.Level.TheVariants.{World, Object}
 use Rattle.ray_walk.specs.declared.trees.Trees.{Trees}
 use Rattle.ray_walk.specs.Aims.{AddsThrough, AreLeftOut, AreMet, AreTrees, IsAlone, LeadsOn, LeadsTo, entry_by, entry_through}
 use Rattle.ray_walk.specs.Traced.{Placement, Traced, placement_at}
 use Rattle.ray_walk.specs.WideScene.{below_by, child, inner_at, wide_below, wide_entry, wide_scene}
 use Rattle.ray_walk.proofs.LeftOut.{child-out, is-child}
-use Rattle.ray_walk.proofs.Pushing.{Adds-as, IsOfObject, IsOfWorld, object-entries, world-entries}
+use Rattle.ray_walk.proofs.Pushing.{Adds-as, object-entries, world-entries}
 use Rattle.ray_walk.proofs.Walking.{All-append}
 
 -- ---- one level, and one more

@@ -29,7 +29,7 @@ use Rattle.ray_nearest.specs.declared.node.WalkNode.TheVariants.{TopInner, TopLe
 use Rattle.ray_nearest.specs.declared.turn.Turn.{Turn}
 use Rattle.ray_nearest.specs.Adding.{Adds, AddsFound, AddsNode, AddsNodes, AddsOne, HasValue, IsOpened}
 use Rattle.ray_nearest.specs.Scene.{is_open}
-use Rattle.ray_nearest.proofs.Added.{Adds-append, IsOpened-inner, IsOpened-leaf, each_itself}
+use Rattle.ray_nearest.proofs.Added.{Adds-append, IsOpened-inner, IsOpened-leaf, each_itself, passed_by}
 use Rattle.ray_walk.specs.declared.level.Level.{Level}
 use Rattle.ray_walk.specs.declared.level.Level.TheVariants.{World, Object}
 use Rattle.ray_walk.specs.declared.trees.Trees.{Trees}
@@ -206,6 +206,13 @@ module _ (s : Traced) (limit : Option Ratio) (old new : List Turn) where
   unfolding wide_scene
   opened-inner n none added = IsOpened-inner limit (wide_scene s) n old new none added
 
+  -- a node at which nothing is found stands for itself where those below it are added
+  pub passed-alone : (n : WalkNode) → finds s (narrow s n) ≡ [] → AddsNodes limit (wide_scene s) (wide_below s n) old new
+      → AddsNodes limit (wide_scene s) (n ∷ []) old new
+  unfolding wide_scene
+  passed-alone n none added =
+      passed_by limit (wide_scene s) [] [] n old new none (λ turns. IsPermutation-refl turns) (λ turns. IsPermutation-refl turns) added
+
   -- each of the nodes below for itself
   pub below-itself : (ns : List WalkNode) → AddsWide limit s ns old new → AddsNodes limit (wide_scene s) ns old new
   unfolding wide_scene
@@ -223,6 +230,7 @@ unfolding wide_scene
 same-tests s n now later steps = steps
 
 -- the walk begins at the root of the top structure
-pub begun : (s : Traced) (old new : List Turn) → AddsWide None s (child World s.top.wide.root) old new → AddsNodes None (wide_scene s) (wide_scene s).roots old new
+pub begun : (s : Traced) (old new : List Turn) → AddsNodes None (wide_scene s) (child World s.top.wide.root) old new
+    → AddsNodes None (wide_scene s) (wide_scene s).roots old new
 unfolding wide_scene
-begun s old new added = each_itself None (wide_scene s) (wide_scene s).roots old new added
+begun s old new added = added

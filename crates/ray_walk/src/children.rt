@@ -13,8 +13,8 @@ ghost use Rattle.ray_walk.specs.Aims.{AddsThrough, AreMet, AreTrees, HasBox, Has
 ghost use Rattle.ray_walk.specs.Traced.{entry_in, no_box};
 ghost use Rattle.ray_walk.specs.WideScene.{child, inner_at, leaf_at};
 
-use crate::bits::next_bit;
 use crate::level::Level;
+use crate::set_bits::next_bit;
 use crate::trees::Trees;
 use ray_geom::{Box3, ObjectRay, Ratio, Vec3};
 use ray_lanes::{Lanes8, Window};

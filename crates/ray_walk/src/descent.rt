@@ -4,7 +4,7 @@ ghost use Rattle.ray_wide.specs.Wides.{children_in, lanes_in};
 ghost use Rattle.ray_window.specs.Windows.{window_of};
 ghost use Rattle.ray_walk.specs.Aims.{AreMet, AreTrees, IsAlone, IsDown};
 
-use crate::bits::next_bit;
+use crate::set_bits::next_bit;
 use crate::trees::Trees;
 use ray_geom::Ratio;
 use ray_lanes::{Window, overlap8};

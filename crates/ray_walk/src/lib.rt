@@ -18,7 +18,6 @@
 #![tactic(auto)]
 
 mod aim;
-mod bits;
 mod children;
 mod descent;
 mod finding;
@@ -32,6 +31,7 @@ mod opening;
 mod placed;
 mod plain;
 mod ray_scene;
+mod set_bits;
 mod tracing;
 mod trees;
 mod view;

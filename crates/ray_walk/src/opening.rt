@@ -7,7 +7,7 @@ ghost use Rattle.ray_nearest.specs.Adding.{AddsNodes, IsOpened};
 ghost use Rattle.ray_walk.specs.Scenes.{AddsWide, IsHeld, IsInWorld, IsKeeping, IsLookedAt};
 ghost use Rattle.ray_walk.specs.Traced.{items_at, tests};
 ghost use Rattle.ray_walk.specs.WideScene.{IsWideNode, narrow, wide_below, wide_roots, wide_scene};
-ghost use Rattle.ray_nearest.specs.declared.node.WalkNode.TheVariants.{Inner, TopInner};
+ghost use Rattle.ray_nearest.specs.declared.node.WalkNode.TheVariants.{Inner, TopInner, TopLeaf};
 ghost use Rattle.ray_walk.specs.declared.level.Level.TheVariants.{World, Object};
 
 use crate::aim::{Aim, window_at};
@@ -20,6 +20,7 @@ use crate::trees::Trees;
 use crate::view::View;
 use ray_geom::{ObjectRay, Ratio, Steps};
 use ray_nearest::{NoMemory, Turns, WalkNode};
+use ray_wide::WideRef;
 use std::sync::ledger::Ledger;
 
 // The trees of the top structure, with the ray in the world.
@@ -54,15 +55,24 @@ fn object<'a, 'b>(i: u32, looked: &Looked<'a>, ray: &'b ObjectRay) -> Trees<'a, 
 
 // ---- the top structure
 
-// Adds the turn of the root of the top structure, if it has one.
-pub(crate) fn begin(view: &View<'_>, ray: &ObjectRay, turns: &mut Turns) -> Result<(), NoMemory>
-    requires { ray.now ≡ object_of view.now.ray identity_value }
-    ensures { let s = wide_scene view.now in
+// Adds the turns of what is below the root of the top structure, if it has one.
+pub(crate) fn begin<'a>(
+    view: &View<'a>,
+    aim: &mut Aim,
+    held: &mut Option<Held<'a>>,
+    turns: &mut Turns,
+) -> Result<(), NoMemory>
+    requires keeping { IsKeeping view.now aim.old held.old }
+    ensures begun { let s = wide_scene view.now in
         OnOk result (AddsNodes None s s.roots turns.old turns.new) }
+    ensures keeping { IsKeeping view.now aim.new held.new }
 {
     view.known();
-    let trees = world(view, ray);
-    push_child(&trees, None, trees.wide.root(), turns)
+    match view.top().wide().root() {
+        WideRef::Empty => Ok(()),
+        WideRef::Leaf(leaf) => open_instances(view, held, leaf.node, None, turns),
+        WideRef::Inner(w) => open_world(view, aim, w, None, turns),
+    }
 }
 
 // Adds the turns of the children of a wide node of the top structure, or of that to which it leads.
@@ -127,7 +137,50 @@ fn push_root_of(
     push_child(&trees, limit, trees.wide.root(), turns)
 }
 
-// Adds the turns of the roots below a leaf of the top structure.
+// Adds the turns of what is below the root of the structure of an instance, or that of the root, if
+// it is to be looked at and has one.
+fn pass_root<'a>(
+    view: &View<'a>,
+    held: &mut Option<Held<'a>>,
+    limit: Option<Ratio>,
+    i: u32,
+    turns: &mut Turns,
+) -> Result<(), NoMemory>
+    requires held { IfSome held.old (IsHeld view.now) }
+    ensures passed { let s = view.now in
+        OnOk result (AddsNodes limit (wide_scene s) (wide_roots s i) turns.old turns.new) }
+    ensures held { IfSome held.new (IsHeld view.now) }
+{
+    hold(view, held, i);
+    match held {
+        Some(h) => pass_root_of(view, i, &h.looked, &mut h.aim, limit, turns),
+        None => Ok(()),
+    }
+}
+
+// The same of an instance that is held.
+fn pass_root_of(
+    view: &View<'_>,
+    i: u32,
+    looked: &Looked<'_>,
+    aim: &mut Aim,
+    limit: Option<Ratio>,
+    turns: &mut Turns,
+) -> Result<(), NoMemory>
+    requires looked { IsLookedAt view.now i looked.now aim.old }
+    ensures passed { let s = view.now in
+        OnOk result (AddsNodes limit (wide_scene s) (wide_roots s i) turns.old turns.new) }
+    ensures looked { IsLookedAt view.now i looked.now aim.new }
+{
+    view.known();
+    match looked.bottom.wide().root() {
+        WideRef::Inner(w) => open_object(view, i, looked, aim, w, limit, turns),
+        _ => push_root_of(view, i, looked, aim, limit, turns),
+    }
+}
+
+// Adds the turns of the roots below a leaf of the top structure, or, where there is one, of what is
+// below it.
 fn open_instances<'a>(
     view: &View<'a>,
     held: &mut Option<Held<'a>>,
@@ -138,11 +191,30 @@ fn open_instances<'a>(
     requires held { IfSome held.old (IsHeld view.now) }
     requires node { n < length view.now.top.tree.nodes }
     ensures opened { let s = view.now in
-        OnOk result (AddsWide limit s
-        (flat_map (wide_roots s) (items_at s.top.tree n)) turns.old turns.new) }
+        OnOk result (AddsNodes limit (wide_scene s) (wide_below s (TopLeaf n))
+        turns.old turns.new) }
     ensures held { IfSome held.new (IsHeld view.now) }
 {
-    for i in view.top().items_of(n) {
+    match view.top().items_of(n) {
+        [i] => pass_root(view, held, limit, *i, turns),
+        items => push_roots(view, held, limit, items, turns),
+    }
+}
+
+// Adds the turns of the roots of the structures of instances.
+fn push_roots<'a>(
+    view: &View<'a>,
+    held: &mut Option<Held<'a>>,
+    limit: Option<Ratio>,
+    items: &[u32],
+    turns: &mut Turns,
+) -> Result<(), NoMemory>
+    requires held { IfSome held.old (IsHeld view.now) }
+    ensures pushed { let s = view.now in
+        OnOk result (AddsWide limit s (flat_map (wide_roots s) items.now) turns.old turns.new) }
+    ensures held { IfSome held.new (IsHeld view.now) }
+{
+    for i in items {
         push_root(view, held, limit, *i, turns)?;
     }
     Ok(())

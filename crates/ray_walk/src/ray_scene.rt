@@ -50,7 +50,7 @@ impl<'a> Scene for RayScene<'a> {
     ghost scene = { λ s. wide_scene s };
 
     fn begin(&mut self, turns: &mut Turns) -> Result<(), NoMemory> {
-        begin(&self.view, &self.world.ray, turns)
+        begin(&self.view, &mut self.world, &mut self.held, turns)
     }
 
     fn open<L: Ledger>(

@@ -1,6 +1,6 @@
 use Rattle.std.proofs.Common.{ℕ, Option, List, [], ◌≡◌, ◌-◌, ◌<◌, ◌∙◌, ◌+◌, ap, length, subst, sym, take, arith}
 use Rattle.std.specs.List.{flat_map}
-use Rattle.std.specs.Prelude.{◌↔◌, false, slice_index_or}
+use Rattle.std.specs.Prelude.{false, slice_index_or}
 use Rattle.std.proofs.lemmas.List.Elements.{All-nil}
 use Rattle.std.proofs.lemmas.Bool.Decides.{nat_tests}
 use Rattle.ray_lanes.specs.declared.lanes.Lanes8.{Lanes8}

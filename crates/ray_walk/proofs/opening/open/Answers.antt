@@ -6,8 +6,8 @@ use Rattle.ray_nearest.specs.Adding.{IsOpened}
 use Rattle.ray_walk.specs.declared.held.Held.{Held}
 use Rattle.ray_walk.specs.Scenes.{IsHolding, placement_value}
 use Rattle.ray_walk.specs.Traced.{placement_at}
-use Rattle.ray_walk.specs.WideScene.{wide_below, wide_scene}
-use Rattle.ray_walk.proofs.Pushing.{below-itself, opened-inner, opened-leaf}
+use Rattle.ray_walk.specs.WideScene.{wide_scene}
+use Rattle.ray_walk.proofs.Pushing.{opened-inner, opened-leaf}
 use Rattle.ray_walk.proofs.opening.open.Goals as goal
 
 pub returns-in-TopInner-clause-opened : goal.returns-in-TopInner-clause-opened
@@ -26,8 +26,7 @@ returns-in-TopLeaf-clause-opened g c =
     let new = c.open_instances.new.turns in
     on_ok_weaker c.open_instances.result
     (λ added. subst (λ (n : WalkNode). IsOpened c.args.limit (wide_scene s) n old new) (sym c.in-TopLeaf.is)
-    (opened-inner s c.args.limit old new (TopLeaf c.in-TopLeaf.n) refl
-    (below-itself s c.args.limit old new (wide_below s (TopLeaf c.in-TopLeaf.n)) added))) c.open_instances.ensures.opened
+    (opened-inner s c.args.limit old new (TopLeaf c.in-TopLeaf.n) refl added)) c.open_instances.ensures.opened
 
 pub returns-in-Some-clause-opened : goal.returns-in-Some-clause-opened
 returns-in-Some-clause-opened g c =

@@ -1,17 +1,19 @@
-use Rattle.std.proofs.Common.{◌<◌, length, arith}
-use Rattle.std.proofs.lemmas.Bool.Decides.{nat_tests}
-use Rattle.ray_nearest.specs.Adding.{AddsNode}
-use Rattle.ray_walk.specs.WideScene.{wide_entry, wide_roots}
-use Rattle.ray_walk.proofs.Pushing.{Adds-flat}
+use Rattle.std.proofs.Common.{◌≡◌, List, ℕ, subst, rules}
+use Rattle.std.specs.List.{flat_map}
+use Rattle.std.proofs.lemmas.Result.{on_ok_weaker}
+use Rattle.ray_walk.specs.Scenes.{AddsWide}
+use Rattle.ray_walk.specs.Traced.{items_at}
+use Rattle.ray_walk.specs.WideScene.{wide_roots}
+use Rattle.ray_walk.proofs.Pushing.{below-itself}
 use Rattle.ray_walk.proofs.opening.open_instances.Goals as goal
 
-pub loop-i-preserved : goal.loop-i-preserved
-loop-i-preserved c =
+pub returns-in_default-clause-opened : goal.returns-in_default-clause-opened
+returns-in_default-clause-opened c =
     let s = c.args.view.now in
-    let items = c.items_of-i-items.result.now in
-    let k = c.loop-i.i-index in
-    let below : k < length items = (let t = c.loop-i-test.true in grind (arith, nat_tests)) in (
-      Adds-flat (AddsNode c.args.limit (wide_entry s)) (wide_roots s) items k _ c.args.turns.now c.loop-i.turns c.push_root.new.turns below c.loop-i.invariant.0
-          c.in_ok-push_root.ensures.pushed,
-      c.in_ok-push_root.ensures.held,
-    )
+    let items = items_at s.top.tree c.args.n in
+    let old = c.args.turns.now in
+    let new = c.push_roots.new.turns in
+    let same : c.items_of.result.now ≡ items = search rules in
+    on_ok_weaker c.push_roots.result
+    (λ added. below-itself s c.args.limit old new (flat_map (wide_roots s) items)
+    (subst (λ (xs : List ℕ). AddsWide c.args.limit s (flat_map (wide_roots s) xs) old new) same added)) c.push_roots.ensures.pushed

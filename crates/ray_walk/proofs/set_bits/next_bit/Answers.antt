@@ -3,7 +3,7 @@ use Rattle.std.specs.Int.{trailing_zeros, w32}
 use Rattle.std.proofs.Math.Nat.{div-le_self}
 use Rattle.ray_lanes.specs.Overlap.{HasBit}
 use Rattle.ray_walk.proofs.Bits.{is-set, none-before, none-set}
-use Rattle.ray_walk.proofs.bits.next_bit.Goals as goal
+use Rattle.ray_walk.proofs.set_bits.next_bit.Goals as goal
 
 pub returns-then-rest-eq0-clause-clear : goal.returns-then-rest-eq0-clause-clear
 returns-then-rest-eq0-clause-clear c k after below set =
