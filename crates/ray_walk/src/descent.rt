@@ -19,6 +19,15 @@ pub(crate) struct Down {
     pub(crate) met: u8,
 }
 
+// What a window meets of a wide node.
+#[derive(Clone, Copy)]
+pub(crate) struct Met {
+    // A bit for each of its children whose lanes the window overlaps.
+    pub(crate) met: u8,
+    // The child whose bit is set, where no other is and it is a wide node.
+    pub(crate) alone: Option<u32>,
+}
+
 /// The wide node to which one leads: as long as the window of the ray up to the limit overlaps the
 /// lane of one child alone, and that is a wide node, it is the child. No turn is taken for those
 /// that are passed by, and no box is tested exactly.
@@ -30,32 +39,39 @@ pub(crate) fn descend(trees: &Trees<'_, '_>, window: &Window, w: u32, _limit: Op
 {
     let _det = trees.ray.det();
     let mut at = w;
-    let mut met = met_in(trees, window, at);
-    while let Some(below) = only_child(trees, at, met) {
+    let mut seen = met_in(trees, window, at);
+    while let Some(below) = seen.alone {
         at = below;
-        met = met_in(trees, window, at);
+        seen = met_in(trees, window, at);
     }
-    Down { at, met }
+    Down { at, met: seen.met }
 }
 
-// The bits of the children of a wide node whose lanes a window overlaps.
-fn met_in(trees: &Trees<'_, '_>, window: &Window, w: u32) -> u8
+// What a window meets of a wide node.
+fn met_in(trees: &Trees<'_, '_>, window: &Window, w: u32) -> Met
     requires { w < length trees.now.wide.now.nodes }
-    ensures { AreMet (lanes_in trees.now.wide.now.nodes w) window.now result }
+    ensures met { AreMet (lanes_in trees.now.wide.now.nodes w) window.now result.met }
+    ensures alone { IfSome result.alone
+        (IsAlone (children_in trees.now.wide.now.nodes w) result.met) }
 {
-    overlap8(trees.wide.lanes(w), window)
+    // A copy, which is read before it is known which child is met, and not after the lanes.
+    let children = *trees.wide.children(w);
+    let met = overlap8(trees.wide.lanes(w), window);
+    Met {
+        met,
+        alone: only_child(&children, met),
+    }
 }
 
-// The child of a wide node whose bit is set, where no other is and it is a wide node.
-fn only_child(trees: &Trees<'_, '_>, w: u32, met: u8) -> Option<u32>
-    requires { w < length trees.now.wide.now.nodes }
-    ensures { IfSome result (IsAlone (children_in trees.now.wide.now.nodes w) met) }
+// The child whose bit is set, where no other is and it is a wide node.
+fn only_child(children: &[WideRef; 8], met: u8) -> Option<u32>
+    ensures { IfSome result (IsAlone children.now met) }
 {
     let k = next_bit(met, 0);
     if k == 8 || next_bit(met, k + 1) < 8 {
         return None;
     }
-    match trees.wide.children(w)[k as usize] {
+    match children[k as usize] {
         WideRef::Inner(below) => Some(below),
         _ => None,
     }

@@ -1,20 +1,28 @@
-use Rattle.std.proofs.Common.{suc}
+use Rattle.std.proofs.Common.{ℕ, suc, Option, subst}
+use Rattle.std.specs.Prelude.{IfSome}
+use Rattle.ray_wide.specs.Wides.{children_in}
+use Rattle.ray_walk.specs.Aims.{IsAlone}
 use Rattle.ray_walk.proofs.Descending.{later, leads-more, leads-on}
 use Rattle.ray_walk.proofs.descent.descend.Goals as goal
 
-pub loop-below-preserved : goal.loop-below-preserved
-loop-below-preserved c =
+pub loop-seen-preserved : goal.loop-seen-preserved
+loop-seen-preserved c =
     let t = c.args.trees.now in
     let limit = c.args._limit in
-    let at = c.loop-below.at in
+    let at = c.loop-seen.at in
+    let met = c.loop-seen.seen.met in
     let below = c.in-Some.below in
-    let way = c.loop-below.invariant in
+    let way = c.loop-seen.invariant.down in
     let ray = c.det-det.ensures.limits in
-    let after = later limit t c.requires.trees ray c.args.window.now c.requires.window at c.loop-below.met below way.node way.met_is c.in-Some.ensures in
-    let on = leads-on limit t c.requires.trees ray c.args.window.now c.requires.window at c.loop-below.met below way.node way.met_is c.in-Some.ensures in
+    let one = subst (λ (o : Option ℕ). IfSome o (IsAlone (children_in t.wide.now.nodes at) met)) c.in-Some.is c.loop-seen.invariant.alone in
+    let after = later limit t c.requires.trees ray c.args.window.now c.requires.window at met below way.node way.met_is one in
+    let on = leads-on limit t c.requires.trees ray c.args.window.now c.requires.window at met below way.node way.met_is one in
     record {
-      node = after.1;
-      levels = suc way.levels;
-      leads = leads-more limit t way.levels c.args.w at below way.leads on;
-      met_is = c.met_in-met-in-Some.ensures;
+      down = record {
+        node = after.1;
+        levels = suc way.levels;
+        leads = leads-more limit t way.levels c.args.w at below way.leads on;
+        met_is = c.met_in-seen-in-Some.ensures.met;
+      };
+      alone = c.met_in-seen-in-Some.ensures.alone;
     }
