@@ -8,7 +8,9 @@ use crate::triangle_info::TriangleInfo;
 use ray_bytes::{IndexView, VertexView};
 use ray_geom::Point32;
 
-// Corner number k of a geometry.
+// Corner number k of a geometry. All of this is put in place for each of a triangle's three, so that
+// what is read stays in registers.
+#[inline(always)]
 pub(crate) fn read_corner(
     info: &TriangleInfo,
     vertices: &VertexView<'_>,
@@ -25,6 +27,7 @@ pub(crate) fn read_corner(
 }
 
 // The corner that an index value names.
+#[inline(always)]
 fn named(info: &TriangleInfo, vertices: &VertexView<'_>, index: Option<u32>) -> Option<Corner>
     ensures { result ≡ named_corner info.now vertices.now index }
 {
@@ -40,6 +43,7 @@ fn named(info: &TriangleInfo, vertices: &VertexView<'_>, index: Option<u32>) -> 
 }
 
 // The corner of a vertex, where this is whole.
+#[inline(always)]
 fn corner_at(index: u32, at: Option<Point32>) -> Option<Corner>
     ensures { result ≡ corner_with index at }
 {
@@ -50,6 +54,7 @@ fn corner_at(index: u32, at: Option<Point32>) -> Option<Corner>
 }
 
 // A vertex of the buffer.
+#[inline(always)]
 #[tactic(auto, unfolding(crate::specs::TriangleReading::vertex_at))]
 fn vertex(view: &VertexView<'_>, i: u64) -> Option<Point32>
     ensures { result ≡ vertex_at view.now i }
@@ -59,6 +64,7 @@ fn vertex(view: &VertexView<'_>, i: u64) -> Option<Point32>
 }
 
 // An index value of the buffer.
+#[inline(always)]
 #[tactic(auto, unfolding(crate::specs::TriangleReading::index_at))]
 fn index(view: &IndexView<'_>, k: u64) -> Option<u32>
     ensures { result ≡ index_at view.now k }

@@ -196,6 +196,7 @@ fn triangle(source: &TriangleSource<'_>, i: u32) -> Result<KeptTriangle, DataRul
 }
 
 // Corner number k.
+#[inline(always)]
 #[tactic(auto, unfolding(crate::specs::TriangleReading::corner_of))]
 fn corner_in(source: &TriangleSource<'_>, k: u64) -> Option<Corner>
     requires { k < 2 ^ 34 }
