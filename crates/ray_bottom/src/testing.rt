@@ -28,8 +28,8 @@ use std::sync::ledger::Ledger;
 impl Bottom {
     /// What the ray meets of one primitive, where an instance with this transform places the
     /// structure in the world: the hit of the world triangle, or the span of the box. None exactly
-    /// where there is none, the primitive is inactive, or no primitive stands at the place. It takes
-    /// one step. The images of the corners of the bounds are within the limits. (Vulkan, "Ray
+    /// where there is none, the primitive is inactive, or no primitive stands at the place. It
+    /// takes one step. The images of the corners of the bounds are within the limits. (Vulkan, "Ray
     /// Traversal")
     pub fn test_prim<L: Ledger>(
         &self,

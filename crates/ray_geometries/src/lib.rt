@@ -2,8 +2,9 @@
 //! how they are stored.
 //!
 //! The layer above, ray_bottom, uses these:
-//! - [`Contents`], which contracts see as the flags of a build with its geometries (`specs/Contents`),
-//!   and which knows their bounds and how many primitives there are without looking at each;
+//! - [`Contents`], which contracts see as the flags of a build with its geometries
+//!   (`specs/Contents`), and which knows their bounds and how many primitives there are without
+//!   looking at each;
 //! - [`Geometry`] and [`Shapes`], a geometry and its primitives;
 //! - [`Contents::payload`], the bytes that they are stored as (`specs/Storing`), and [`Stored`], a
 //!   geometry as it is stored; by [`stored_back`] and [`stored_again`] each is the other read back.

@@ -8,9 +8,10 @@
 //! The layer above uses [`trace_ray`], whose answer is `trace_answer`: a walk through the trees of
 //! structures, nearest first, which tests no more primitives than those of the leaves whose box,
 //! and every box above it, is met up to the committed distance (`specs/Traced`). It goes over wide
-//! nodes, eight boxes at once (`specs/WideScene`). [`trace_plain`] has the same answer; it tests
-//! every primitive, and stays as the plain program of that definition. The condition of both is on
-//! what they are lent alone; [`standing_law`] gives it from the structures that were in use.
+//! nodes, eight boxes at once (`specs/WideScene`), and passes by those of which the ray's window
+//! meets one child alone. [`trace_plain`] has the same answer; it tests every primitive, and stays
+//! as the plain program of that definition. The condition of both is on what they are lent alone;
+//! [`standing_law`] gives it from the structures that were in use.
 //!
 //! It stands on ray_top and ray_bottom (contents, the test of a primitive), ray_wide, ray_lanes and
 //! ray_window (the wide trees and what a window leaves out), ray_nearest (the walk), ray_query (the
