@@ -21,10 +21,23 @@ pub(crate) fn rounded(p: i128, q: u128) -> Side
     }
 }
 
-// The quotient of natural numbers, rounded down and up and at most 2^30. Most divisors are 65536
-// or 1, since the determinants of most instances are 1 or -1, and divisions of 64 bits are faster
-// than those of 128.
+// The quotient of natural numbers, rounded down and up and at most 2^30. Nearly all of them fit in
+// 64 bits, of which divisions are faster than of 128.
 fn quotients(p: u128, q: u128) -> Side
+    requires { 0 < q }
+    ensures lo { result.lo ≡ pos (min (p / q) (2 ^ 30)) }
+    ensures hi { result.hi ≡ pos (min (div_ceil p q) (2 ^ 30)) }
+{
+    if p <= u64::MAX as u128 && q <= u64::MAX as u128 {
+        short_quotients(p as u64, q as u64)
+    } else {
+        long_quotients(p, q)
+    }
+}
+
+// The same in 64 bits. Most divisors are 65536 or 1, since the determinants of most instances are 1
+// or -1.
+fn short_quotients(p: u64, q: u64) -> Side
     requires { 0 < q }
     ensures lo { result.lo ≡ pos (min (p / q) (2 ^ 30)) }
     ensures hi { result.hi ≡ pos (min (div_ceil p q) (2 ^ 30)) }
@@ -33,15 +46,13 @@ fn quotients(p: u128, q: u128) -> Side
         parts(p)
     } else if q == 1 {
         whole(p)
-    } else if p <= u64::MAX as u128 && q <= u64::MAX as u128 {
-        short_quotients(p as u64, q as u64)
     } else {
-        long_quotients(p, q)
+        divided(p, q)
     }
 }
 
 // The same for the divisor 65536, by shifts.
-fn parts(p: u128) -> Side
+fn parts(p: u64) -> Side
     ensures lo { result.lo ≡ pos (min (p / 65536) (2 ^ 30)) }
     ensures hi { result.hi ≡ pos (min (div_ceil p 65536) (2 ^ 30)) }
 {
@@ -52,7 +63,7 @@ fn parts(p: u128) -> Side
 }
 
 // The same for the divisor 1, which leaves the number as it is.
-fn whole(p: u128) -> Side
+fn whole(p: u64) -> Side
     ensures lo { result.lo ≡ pos (min (p / 1) (2 ^ 30)) }
     ensures hi { result.hi ≡ pos (min (div_ceil p 1) (2 ^ 30)) }
 {
@@ -60,8 +71,8 @@ fn whole(p: u128) -> Side
     Side { lo: most, hi: most }
 }
 
-// The same in 64 bits.
-fn short_quotients(p: u64, q: u64) -> Side
+// The same for another one.
+fn divided(p: u64, q: u64) -> Side
     requires { 0 < q }
     ensures lo { result.lo ≡ pos (min (p / q) (2 ^ 30)) }
     ensures hi { result.hi ≡ pos (min (div_ceil p q) (2 ^ 30)) }
