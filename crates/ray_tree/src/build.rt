@@ -39,8 +39,8 @@ fn nodes_over(alloc: Global, count: usize) -> Result<Vec<Node>, NoMemory>
     requires { count ≤ 2 ^ 20 }
     ensures { IfOk result (λ v. v.items ≡ median_nodes count) }
 {
-    // Leaves have more than two places, but for those of a few.
-    let mut nodes = Vec::with_capacity(alloc, count)?;
+    // Where leaves are full there is a node to two places.
+    let mut nodes = Vec::with_capacity(alloc, count / 2)?;
     if count == 0 {
         return Ok(nodes);
     }
