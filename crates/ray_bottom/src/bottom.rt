@@ -53,7 +53,7 @@ impl Bottom {
         ensures { IfOk result (λ copy. copy ≡ self.now) }
     {
         let contents = self.contents.copy(alloc)?;
-        let hierarchy = self.hierarchy.copy()?;
+        let hierarchy = self.hierarchy.copy(alloc)?;
         let places = self.places.clone()?;
         let leaf_items = self.leaf_items.clone()?;
         Ok(Bottom {

@@ -121,7 +121,7 @@ impl Hierarchy {
     /// # Errors
     ///
     /// For want of memory alone.
-    pub fn copy(&self) -> Result<Hierarchy, NoMemory>
+    pub fn copy(&self, _alloc: Global) -> Result<Hierarchy, NoMemory>
         ensures { IfOk result (λ h. h ≡ self.now) }
     {
         let tree = self.tree.copy()?;

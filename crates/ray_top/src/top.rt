@@ -105,7 +105,7 @@ impl Top {
     {
         let used = copy_used(alloc, self.used.as_slice())?;
         let instances = copy_instances(alloc, self.instances.as_slice())?;
-        let hierarchy = self.hierarchy.copy()?;
+        let hierarchy = self.hierarchy.copy(alloc)?;
         Ok(Top {
             flags: self.flags,
             used,
