@@ -8,8 +8,8 @@ use crate::triangle_info::TriangleInfo;
 use ray_bytes::{IndexView, VertexView};
 use ray_geom::Point32;
 
-// Corner number k of a geometry. All of this is put in place for each of a triangle's three, so that
-// what is read stays in registers.
+// Corner number k of a geometry. All of this is put in place for each of a triangle's three, so
+// that what is read stays in registers.
 #[inline(always)]
 pub(crate) fn read_corner(
     info: &TriangleInfo,

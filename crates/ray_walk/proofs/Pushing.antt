@@ -37,7 +37,6 @@ use Rattle.ray_walk.specs.Aims.{AddsThrough, AreLeftOut, entry_by, entry_through
 use Rattle.ray_walk.specs.Scenes.{AddsFoundAt, AddsWide, found_by, found_by_place}
 use Rattle.ray_walk.specs.WideScene.{child, inner_at, leaf_at, narrow, subtree_of, wide_below, wide_entry, wide_scene}
 use Rattle.ray_walk.proofs.LeftOut.{entry-inner, entry-leaf}
-use Rattle.ray_walk.proofs.Walking.{All-append}
 use Rattle.ray_walk.specs.Traced.{Traced, Placement, entry, entry_in, entry_of_placement, finds, found_at_place, found_in_leaf, found_in_placed, items_at, items_by, no_box, placement_at, tests, tests_in_leaf}
 
 -- ---- entries
@@ -96,14 +95,6 @@ module _ (t : Trees) (limit : Option Ratio) (old new : List Turn) where
 
 -- children are what F makes of a level: those of a wide node, or the root
 module _ (s : Traced) (t : Trees) (limit : Option Ratio) (old new : List Turn) (F : Level → List WalkNode) where
-  pub through-world : t.tree.now ≡ s.top.tree → t.wide.now ≡ s.top.wide → t.ray.now ≡ object_of s.ray identity_value → t.level ≡ World
-      → All (λ n. entry_by s.top.tree s.top.wide (object_of s.ray identity_value) n ≡ wide_entry s n) (F World)
-      → AddsThrough limit t (F t.level) old new → AddsWide limit s (F World) old new
-  through-world tree wide ray level same added =
-      Adds-as limit (entry_by s.top.tree s.top.wide (object_of s.ray identity_value)) (wide_entry s) (F World) same old new
-      (subst (λ (E : WalkNode → Option Ratio). Adds (AddsNode limit E) (F World) old new) (λ i. entry_by (tree i) (wide i) (ray i))
-      (subst (λ (l : Level). AddsThrough limit t (F l) old new) level added))
-
   pub through-object : (i : ℕ) (p : Placement) → t.tree.now ≡ p.bottom.tree → t.wide.now ≡ p.bottom.wide → t.ray.now ≡ object_of s.ray p.instance.matrix
       → t.level ≡ Object i
       → All (λ n. entry_by p.bottom.tree p.bottom.wide (object_of s.ray p.instance.matrix) n ≡ wide_entry s n) (F (Object i))
@@ -133,12 +124,6 @@ object-entries s i p is (wides.Leaf leaf) =
     (sym (ap (λ (o : Option Placement). option_and_then (λ (q : Placement). entry_of_placement s.ray q leaf.node) o) is)) (All-nil (IsOfObject s p))
 object-entries s i p is (wides.Inner w) =
     All-cons (IsOfObject s p) (Inner i w) [] (sym (ap (λ (o : Option Placement). option_and_then (λ (q : Placement). entry_of_placement s.ray q (subtree_of w o)) o) is)) (All-nil (IsOfObject s p))
-
--- those of all children
-pub all-entries : (Q : WalkNode → Type 0) (level : Level) (cs : List WideRef) → ((c : WideRef) → All Q (child level c)) → All Q (flat_map (child level) cs)
-all-entries Q level [] each = All-nil Q
-all-entries Q level (c ∷ cs) each =
-    subst (λ ns. All Q ns) (sym (flat_map-cons (child level) c cs)) (All-append Q (child level c) (flat_map (child level) cs) (each c) (all-entries Q level cs each))
 
 -- ---- one after the other
 
