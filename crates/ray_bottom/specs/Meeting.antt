@@ -5,7 +5,8 @@ use Rattle.ray_geom.specs.Vector.{IsShort}
 use Rattle.ray_geom.specs.Scene.{RayValue, TriValue}
 use Rattle.ray_geom.specs.Boxes.{BoxValue, IsIn}
 use Rattle.ray_geom.specs.Transform.{MatrixValue, image_of, world_tri}
-use Rattle.ray_geom.specs.HitValue.{HitValue, hit_of, hit_value}
+use Rattle.ray_geom.specs.Frac.{numerator, denominator}
+use Rattle.ray_geom.specs.HitValue.{HitValue, hit_of, hit_value, reduced_hit}
 use Rattle.ray_geom.specs.ObjectRay.{object_of}
 use Rattle.ray_prune.specs.BoxReach.{SpanValue, span_of, span_value}
 use Rattle.ray_primitives.specs.Primitives.{TriangleValue}
@@ -15,6 +16,8 @@ use Rattle.ray_geometries.specs.declared.shapes.Shapes.TheVariants.{Triangles, B
 use Rattle.ray_bottom.specs.declared.prim_place.PrimPlace.{PrimPlace}
 use Rattle.ray_bottom.specs.declared.meet.Meet.{Meet}
 use Rattle.ray_bottom.specs.declared.meet.Meet.TheVariants.{Tri, Aabb}
+use Rattle.ray_bottom.specs.declared.raw_meet.RawMeet.{RawMeet}
+use Rattle.ray_bottom.specs.declared.raw_meet.RawMeet.TheVariants as raw
 
 -- what is met: the hit of a triangle, or the span of a box
 pub data MeetValue : Type 0 where
@@ -25,6 +28,14 @@ pub data MeetValue : Type 0 where
 abbrev pub meet_value : Meet → MeetValue
 meet_value (Tri hit) = Hit (hit_value hit)
 meet_value (Aabb span) = Through (span_value span)
+
+-- and of what is met with fractions that aren't in lowest terms yet
+abbrev pub raw_meet_value : RawMeet → MeetValue
+raw_meet_value (raw.Tri hit) = Hit (hit_value (reduced_hit hit))
+raw_meet_value (raw.Aabb entry exit) = Through (record {
+  entry = (numerator entry, denominator entry);
+  exit = (numerator exit, denominator exit);
+})
 
 -- the hit of the world triangle of a triangle
 unfoldable pub hit_in_world : RayValue → MatrixValue → TriValue → Option MeetValue

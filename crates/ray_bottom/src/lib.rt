@@ -21,6 +21,7 @@ mod leaf_item;
 mod leaf_items;
 mod meet;
 mod prim_place;
+mod raw_meet;
 mod testing;
 
 pub use crate::bottom::Bottom;
@@ -29,6 +30,7 @@ pub use crate::builder::Builder;
 pub use crate::leaf_item::{ItemPoints, LeafItem};
 pub use crate::meet::Meet;
 pub use crate::prim_place::PrimPlace;
+pub use crate::raw_meet::RawMeet;
 pub use ray_geometries::{Stored, stored_again, stored_back};
 pub use ray_primitives::{BoxInfo, BuildFault, TriangleInfo};
 pub use std::alloc::AllocError as NoMemory;

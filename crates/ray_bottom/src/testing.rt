@@ -9,7 +9,7 @@ ghost use Rattle.ray_prune.specs.BoxReach.{span_of};
 ghost use Rattle.ray_contents.specs.Bounds.{KeepsBounds};
 ghost use Rattle.ray_primitives.specs.Primitives.{box_of_triangle};
 ghost use Rattle.ray_geometries.specs.Contents.{bounds_of, boxes_of};
-ghost use Rattle.ray_bottom.specs.Meeting.{Hit, Through, meet_value, meet_of, shape_meet};
+ghost use Rattle.ray_bottom.specs.Meeting.{Hit, Through, meet_value, raw_meet_value, meet_of, shape_meet};
 ghost use Rattle.ray_bottom.specs.Meeting.{triangle_meet, box_meet, hit_in_world, span_in_object};
 ghost use Rattle.ray_bottom.specs.LeafItems.{AreKept, IsItemOf, points_meet};
 ghost use Rattle.ray_bottom.specs.Meeting.{KeepsPoints, KeepsBoxes, KeepsTri};
@@ -18,11 +18,14 @@ use crate::bottom::Bottom;
 use crate::leaf_item::{ItemPoints, LeafItem};
 use crate::meet::Meet;
 use crate::prim_place::PrimPlace;
+use crate::raw_meet::RawMeet;
 use ray_contents::kept_image;
-use ray_geom::{Box3, Matrix, ObjectRay, Point32, Ray, Steps, Tri, hit_tri, object_ray};
+use ray_geom::{
+    Box3, Matrix, ObjectRay, Point32, Ray, Steps, Tri, Unreduced, meet_tri, object_ray,
+};
 use ray_geometries::{Geometry, Shapes};
 use ray_primitives::{KeptBox, KeptTriangle};
-use ray_prune::span_box;
+use ray_prune::reach_box;
 use std::sync::ledger::Ledger;
 
 impl Bottom {
@@ -45,20 +48,22 @@ impl Bottom {
     {
         steps.tick();
         let geometry = self.contents.geometry(place.geometry)?;
-        test_in(geometry, place.primitive, ray, m)
+        let meet = test_in(geometry, place.primitive, ray, m)?;
+        Some(meet.reduced())
     }
 
-    /// The same of a primitive at a leaf of this structure, by the copy of its points. (Own.)
+    /// The same of a primitive at a leaf of this structure, by the copy of its points, with
+    /// fractions that aren't put in lowest terms yet. (Own.)
     pub fn test_item<L: Ledger>(
         &self,
         item: &LeafItem,
         ray: &Ray,
         m: &Matrix,
         steps: &mut Steps<L>,
-    ) -> Option<Meet>
+    ) -> Option<RawMeet>
         requires kept { KeepsBounds m.now (bounds_of self.now.geometries) }
         requires held { IsItemOf self.now.geometries item.now }
-        ensures meet { option_map meet_value result
+        ensures meet { option_map raw_meet_value result
             ≡ meet_of self.now.geometries item.now.place ray.now m.now }
         ensures step { steps.new ≡ steps.old + 1 }
     {
@@ -69,9 +74,9 @@ impl Bottom {
 }
 
 // What the ray meets of points.
-fn test_points(points: ItemPoints, ray: &Ray, m: &Matrix) -> Option<Meet>
+fn test_points(points: ItemPoints, ray: &Ray, m: &Matrix) -> Option<RawMeet>
     requires { AreKept m.now points }
-    ensures { option_map meet_value result ≡ points_meet ray.now m.now points }
+    ensures { option_map raw_meet_value result ≡ points_meet ray.now m.now points }
 {
     match points {
         ItemPoints::Triangle { a, b, c } => hit(&tri_of(a, b, c), ray, m),
@@ -97,9 +102,9 @@ fn box_of(lo: Point32, hi: Point32) -> Box3
 }
 
 // What the ray meets of one primitive of a geometry.
-fn test_in(g: &Geometry, primitive: u32, ray: &Ray, m: &Matrix) -> Option<Meet>
+fn test_in(g: &Geometry, primitive: u32, ray: &Ray, m: &Matrix) -> Option<RawMeet>
     requires { KeepsBoxes m.now (boxes_of g.now) }
-    ensures { option_map meet_value result ≡ shape_meet ray.now m.now primitive g.now.shapes }
+    ensures { option_map raw_meet_value result ≡ shape_meet ray.now m.now primitive g.now.shapes }
 {
     match &g.shapes {
         Shapes::Triangles { triangles, .. } => {
@@ -110,9 +115,9 @@ fn test_in(g: &Geometry, primitive: u32, ray: &Ray, m: &Matrix) -> Option<Meet>
 }
 
 // What the ray meets of a triangle of this number.
-fn triangle_at(triangles: &[KeptTriangle], i: u32, ray: &Ray, m: &Matrix) -> Option<Meet>
+fn triangle_at(triangles: &[KeptTriangle], i: u32, ray: &Ray, m: &Matrix) -> Option<RawMeet>
     requires { KeepsBoxes m.now (filter_map box_of_triangle triangles.now) }
-    ensures { option_map meet_value result
+    ensures { option_map raw_meet_value result
         ≡ option_and_then (triangle_meet ray.now m.now) (slice_get triangles.now i) }
 {
     let t = nth(triangles, i)?;
@@ -127,8 +132,8 @@ fn nth<'a>(triangles: &'a [KeptTriangle], i: u32) -> Option<&'a KeptTriangle>
 }
 
 // What the ray meets of a box of this number.
-fn box_at(boxes: &[KeptBox], i: u32, ray: &Ray, m: &Matrix) -> Option<Meet>
-    ensures { option_map meet_value result
+fn box_at(boxes: &[KeptBox], i: u32, ray: &Ray, m: &Matrix) -> Option<RawMeet>
+    ensures { option_map raw_meet_value result
         ≡ option_and_then (box_meet ray.now m.now) (slice_get boxes.now i) }
 {
     let b = boxes.get(i as usize)?;
@@ -136,36 +141,36 @@ fn box_at(boxes: &[KeptBox], i: u32, ray: &Ray, m: &Matrix) -> Option<Meet>
 }
 
 // What the ray meets of a triangle.
-fn test_triangle(t: &KeptTriangle, ray: &Ray, m: &Matrix) -> Option<Meet>
+fn test_triangle(t: &KeptTriangle, ray: &Ray, m: &Matrix) -> Option<RawMeet>
     requires { IfSome (box_of_triangle t.now) (KeepsPoints m.now) }
-    ensures { option_map meet_value result ≡ triangle_meet ray.now m.now t.now }
+    ensures { option_map raw_meet_value result ≡ triangle_meet ray.now m.now t.now }
 {
     let tri = t.tri()?;
     hit(&tri, ray, m)
 }
 
 // What the ray meets of a box.
-fn test_box(b: &KeptBox, ray: &Ray, m: &Matrix) -> Option<Meet>
-    ensures { option_map meet_value result ≡ box_meet ray.now m.now b.now }
+fn test_box(b: &KeptBox, ray: &Ray, m: &Matrix) -> Option<RawMeet>
+    ensures { option_map raw_meet_value result ≡ box_meet ray.now m.now b.now }
 {
     let b = b.bounds()?;
     span(&b, ray, m)
 }
 
 // The hit of the world triangle of a triangle.
-fn hit(tri: &Tri, ray: &Ray, m: &Matrix) -> Option<Meet>
+fn hit(tri: &Tri, ray: &Ray, m: &Matrix) -> Option<RawMeet>
     requires { KeepsTri m.now tri.now }
-    ensures { option_map meet_value result ≡ hit_in_world ray.now m.now tri.now }
+    ensures { option_map raw_meet_value result ≡ hit_in_world ray.now m.now tri.now }
 {
     world_hit(ray, &world(m, tri))
 }
 
 // The hit of a triangle of the world.
-fn world_hit(ray: &Ray, tri: &Tri) -> Option<Meet>
-    ensures { option_map meet_value result ≡ option_map Hit (hit_of ray.now tri.now) }
+fn world_hit(ray: &Ray, tri: &Tri) -> Option<RawMeet>
+    ensures { option_map raw_meet_value result ≡ option_map Hit (hit_of ray.now tri.now) }
 {
-    match hit_tri(ray, tri) {
-        Some(hit) => Some(Meet::Tri(hit)),
+    match meet_tri(ray, tri) {
+        Some(hit) => Some(RawMeet::Tri(hit)),
         None => None,
     }
 }
@@ -188,18 +193,19 @@ fn moved(m: &Matrix, tri: &Tri) -> Tri
 }
 
 // The span of a box of the object's space.
-fn span(b: &Box3, ray: &Ray, m: &Matrix) -> Option<Meet>
-    ensures { option_map meet_value result ≡ span_in_object ray.now m.now b.now }
+fn span(b: &Box3, ray: &Ray, m: &Matrix) -> Option<RawMeet>
+    ensures { option_map raw_meet_value result ≡ span_in_object ray.now m.now b.now }
 {
     object_span(&object_ray(ray, m), b)
 }
 
 // The span of a box, by the ray in the object's space.
-fn object_span(ray: &ObjectRay, b: &Box3) -> Option<Meet>
-    ensures { option_map meet_value result ≡ option_map Through (span_of ray.now b.now) }
+fn object_span(ray: &ObjectRay, b: &Box3) -> Option<RawMeet>
+    ensures { option_map raw_meet_value result ≡ option_map Through (span_of ray.now b.now) }
 {
-    match span_box(ray, b) {
-        Some(span) => Some(Meet::Aabb(span)),
-        None => None,
-    }
+    let reach = reach_box(ray, b)?;
+    Some(RawMeet::Aabb {
+        entry: Unreduced::new(reach.entry.num, reach.entry.den),
+        exit: Unreduced::new(reach.exit.num, reach.exit.den),
+    })
 }

@@ -5,6 +5,7 @@ use Rattle.std.proofs.lemmas.Int.{ints, unsigned_abs-mul}
 use Rattle.std.proofs.Math.Nat.{div-mul_cancel}
 use Rattle.ray_geom.specs.declared.frac.Frac.{Frac}
 use Rattle.ray_geom.specs.declared.tri_hit.TriHit.{TriHit}
+use Rattle.ray_geom.specs.declared.raw_hit.RawHit.{RawHit}
 use Rattle.ray_geom.specs.Fraction.{IsLowest, IsSameValue}
 use Rattle.ray_geom.specs.Scene.{RayValue, TriValue}
 use Rattle.ray_geom.specs.Frac.{numerator, denominator}
@@ -12,7 +13,7 @@ use Rattle.ray_geom.proofs.Fractions.{same_chain, IsLowest-div, IsSameValue-div}
 use Rattle.ray_geom.specs.Gauss.{gcd_exists, same_num, same_den}
 use Rattle.ray_geom.specs.TriangleHit.{num_of, den_of, second_volume, third_volume, IsHit, IsRatio, Tells}
 use Rattle.ray_geom.specs.Decided.{where_so, hit_decided}
-use Rattle.ray_geom.specs.HitValue.{lowest_terms, quotient, is_negative, told_of, hit_of, hit_value}
+use Rattle.ray_geom.specs.HitValue.{lowest_terms, quotient, is_negative, told_of, hit_of, hit_value, reduced_hit}
 
 where_so-yes : {P X : Type 0} (d : Dec P) (x : X) → P → where_so d x ≡ Some x
 where_so-yes (yes p) x h = refl
@@ -70,3 +71,12 @@ hit_of-meets ray tri None some tells =
 hit_of-meets ray tri (Some hit) some tells =
     let is : IsHit ray tri = some.0 refl in
     ap Some (told_of-Tells ray tri hit is tells) ∙ sym (where_so-yes (hit_decided ray tri) (told_of ray tri) is)
+
+-- the same where its fractions aren't in lowest terms yet
+pub hit_of-raw : (ray : RayValue) (tri : TriValue) (o : Option RawHit) → IsSome o ↔ IsHit ray tri → IfSome o (λ h. Tells ray tri (reduced_hit h))
+    → option_map (λ h. hit_value (reduced_hit h)) o ≡ hit_of ray tri
+hit_of-raw ray tri None some tells =
+    sym (where_so-no (hit_decided ray tri) (told_of ray tri) (λ is. let never : IsSome {T = RawHit} None = some.1 is in cc))
+hit_of-raw ray tri (Some hit) some tells =
+    let is : IsHit ray tri = some.0 refl in
+    ap Some (told_of-Tells ray tri (reduced_hit hit) is tells) ∙ sym (where_so-yes (hit_decided ray tri) (told_of ray tri) is)

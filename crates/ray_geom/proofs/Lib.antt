@@ -1,6 +1,7 @@
 pub mod Bounds
 pub mod Odd
 pub mod Fractions
+pub mod Lowest
 pub mod Ring
 pub mod Identity
 pub mod Determinant

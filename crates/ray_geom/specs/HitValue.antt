@@ -2,6 +2,7 @@
 -- query answers stand on it. (Own.)
 use Rattle.std.specs.Prelude.{ℕ, ◌/◌, ℤ, pos, negsuc, unsigned_abs, Bool, true, false, Option}
 use Rattle.ray_geom.specs.declared.tri_hit.TriHit.{TriHit}
+use Rattle.ray_geom.specs.declared.raw_hit.RawHit.{RawHit}
 use Rattle.ray_geom.specs.Scene.{RayValue, TriValue}
 use Rattle.ray_geom.specs.Frac.{numerator, denominator}
 use Rattle.ray_geom.specs.Gauss.{gcd_exists}
@@ -37,6 +38,10 @@ told_of ray tri = record {
   v = quotient (third_volume ray tri) (den_of ray tri);
   den_negative = is_negative (den_of ray tri);
 }
+
+-- a hit whose fractions are in lowest terms, of one whose fractions aren't yet
+abbrev pub reduced_hit : RawHit → TriHit
+reduced_hit hit = record { t = hit.t; u = hit.u; v = hit.v; den_negative = hit.den_negative }
 
 -- the hit of a ray and a triangle, where there is one
 abbrev pub hit_of : RayValue → TriValue → Option HitValue

@@ -12,6 +12,7 @@ pub mod TriangleHit
 pub mod Measures
 pub mod Counted
 pub mod Decided
+pub mod Reduced
 pub mod HitValue
 pub mod Transform
 pub mod Boxes

@@ -3,15 +3,16 @@ ghost use Rattle.std.specs.Ordering.{ordering_then};
 ghost use Rattle.ray_geom.specs.Vector.{IsWithin, IsShort, sign_of, point_cmp};
 ghost use Rattle.ray_geom.specs.EdgeSide.{side_of};
 ghost use Rattle.ray_geom.specs.TriangleHit.{over_size, IsFrom, IsTo, IsHit, IsRatio, Tells};
-ghost use Rattle.ray_geom.specs.HitValue.{hit_of, hit_value};
+ghost use Rattle.ray_geom.specs.HitValue.{hit_of, hit_value, reduced_hit};
 ghost use Rattle.ray_geom.specs.Measures.{side_at_tie_of, IsEdge, IsMeasured, AreInside};
 
 use crate::edge::Edge;
-use crate::frac::Frac;
 use crate::measured::Measured;
+use crate::raw_hit::RawHit;
 use crate::ray::Ray;
 use crate::tri::Tri;
 use crate::tri_hit::TriHit;
+use crate::unreduced::Unreduced;
 use crate::vec3::{Vec3, cross, dot, minus};
 use std::cmp::Ordering;
 
@@ -26,13 +27,24 @@ pub fn hit_tri(ray: &Ray, tri: &Tri) -> Option<TriHit>
     // The same as one function of the ray and the triangle.
     ensures hit { option_map hit_value result ≡ hit_of ray.now tri.now }
 {
+    match meet(ray, tri) {
+        Some(hit) => Some(hit.reduced()),
+        None => None,
+    }
+}
+
+/// The same with fractions that aren't put in lowest terms yet, so that it takes no greatest common
+/// divisor. (Own.)
+pub fn meet_tri(ray: &Ray, tri: &Tri) -> Option<RawHit>
+    ensures { option_map (λ hit. hit_value (reduced_hit hit)) result ≡ hit_of ray.now tri.now }
+{
     meet(ray, tri)
 }
 
 // Where the ray meets the triangle. Most rays pass outside an edge, where no more is asked.
-fn meet(ray: &Ray, tri: &Tri) -> Option<TriHit>
+fn meet(ray: &Ray, tri: &Tri) -> Option<RawHit>
     ensures some { IsSome result ↔ IsHit ray.now tri.now }
-    ensures value { IfSome result (Tells ray.now tri.now) }
+    ensures value { IfSome result (λ hit. Tells ray.now tri.now (reduced_hit hit)) }
 {
     let first = edge_of(ray, tri.v1, tri.v2);
     let second = edge_of(ray, tri.v2, tri.v0);
@@ -47,21 +59,21 @@ fn meet(ray: &Ray, tri: &Tri) -> Option<TriHit>
 }
 
 // The same where the ray passes the three edges on one side.
-fn meet_between(ray: &Ray, tri: &Tri, first: Edge, second: Edge, third: Edge) -> Option<TriHit>
+fn meet_between(ray: &Ray, tri: &Tri, first: Edge, second: Edge, third: Edge) -> Option<RawHit>
     requires first { IsEdge ray.now tri.now.v1 tri.now.v2 first }
     requires second { IsEdge ray.now tri.now.v2 tri.now.v0 second }
     requires third { IsEdge ray.now tri.now.v0 tri.now.v1 third }
     requires second_side { second.side ≡ first.side }
     requires third_side { third.side ≡ first.side }
     ensures some { IsSome result ↔ IsHit ray.now tri.now }
-    ensures value { IfSome result (Tells ray.now tri.now) }
+    ensures value { IfSome result (λ hit. Tells ray.now tri.now (reduced_hit hit)) }
 {
     let m = measure(ray, tri, first, second, third);
     if are_inside(&m) && is_from_to(ray.tmin, ray.tmax, m.num, m.den) {
-        Some(TriHit {
-            t: ratio(m.num, m.den),
-            u: ratio(m.second.volume, m.den),
-            v: ratio(m.third.volume, m.den),
+        Some(RawHit {
+            t: over(m.num, m.den),
+            u: over(m.second.volume, m.den),
+            v: over(m.third.volume, m.den),
             den_negative: m.den < 0,
         })
     } else {
@@ -101,28 +113,21 @@ fn edge_of(ray: &Ray, a: Vec3, b: Vec3) -> Edge
     Edge { volume, side }
 }
 
-// The side of the edge from a to b, by its volume and its normal.
+// The side of the edge from a to b, by its volume and its normal. Where the ray passes through the
+// edge the ties are broken.
 fn side(volume: i64, normal: Vec3, a: Vec3, b: Vec3) -> Ordering
     ensures { result ≡ ordering_then (sign_of volume) (side_at_tie_of normal a b) }
 {
     if volume == 0 {
-        side_at_tie(normal, a, b)
+        normal
+            .x
+            .cmp(&0)
+            .then(normal.y.cmp(&0))
+            .then(normal.z.cmp(&0))
+            .then(b.cmp(&a))
     } else {
         volume.cmp(&0)
     }
-}
-
-// The side of an edge that the ray passes through.
-#[cold]
-fn side_at_tie(normal: Vec3, a: Vec3, b: Vec3) -> Ordering
-    ensures { result ≡ side_at_tie_of normal a b }
-{
-    normal
-        .x
-        .cmp(&0)
-        .then(normal.y.cmp(&0))
-        .then(normal.z.cmp(&0))
-        .then(b.cmp(&a))
 }
 
 // Whether the three sides, which are one, equal the sign of the determinant, which isn't 0.
@@ -156,13 +161,13 @@ fn is_from_to(least: u64, most: u64, num: i64, den: i64) -> bool
     least as u128 * size <= scaled && scaled <= most as u128 * size
 }
 
-// num / den in lowest terms, where it isn't negative.
-fn ratio(num: i64, den: i64) -> Frac
+// num / den, where it isn't negative.
+fn over(num: i64, den: i64) -> Unreduced
     requires den_not_zero { den ≢ pos 0 }
     requires num_short { IsWithin (3 * 2 ^ 61) num }
     requires den_short { IsWithin (3 * 2 ^ 61) den }
     requires not_negative { pos 0 ≤ℤ over_size num den }
     ensures { IsRatio result num den }
 {
-    Frac::new(num.unsigned_abs(), den.unsigned_abs()).unwrap()
+    Unreduced::new(num.unsigned_abs(), den.unsigned_abs())
 }

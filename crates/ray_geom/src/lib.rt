@@ -8,6 +8,8 @@
 //! The layers above use these calls:
 //! - [`hit_tri`], whose clauses `some` and `value` say by `IsHit` and `Tells` of
 //!   `specs/TriangleHit` exactly which triangles are hit and exactly what each hit tells;
+//! - [`meet_tri`], the same with fractions that are put in lowest terms only where that is asked
+//!   for ([`RawHit`], [`Unreduced`]);
 //! - [`object_ray`], which takes a ray into the space of an instance's object without division;
 //! - [`Box3::union`], [`Box3::of_points`] and their kin, which make least boxes by
 //!   `specs/LeastBoxes`.
@@ -39,24 +41,28 @@ mod object;
 mod owner;
 mod point32;
 mod ratio;
+mod raw_hit;
 mod ray;
 mod shared_edge;
 mod steps;
 mod tri;
 mod tri_hit;
+mod unreduced;
 mod vec3;
 
 pub use crate::box3::Box3;
 pub use crate::frac::Frac;
-pub use crate::hit::hit_tri;
+pub use crate::hit::{hit_tri, meet_tri};
 pub use crate::matrix::Matrix;
 pub use crate::object::{ObjectRay, object_ray};
 pub use crate::owner::Owner;
 pub use crate::point32::Point32;
 pub use crate::ratio::Ratio;
+pub use crate::raw_hit::RawHit;
 pub use crate::ray::Ray;
 pub use crate::shared_edge::edge_owner;
 pub use crate::steps::Steps;
 pub use crate::tri::Tri;
 pub use crate::tri_hit::TriHit;
+pub use crate::unreduced::Unreduced;
 pub use crate::vec3::{Vec3, is_short};

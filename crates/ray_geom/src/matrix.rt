@@ -133,7 +133,11 @@ impl Matrix {
         ensures short { IsWithin (6 * 2 ^ 36) result }
         ensures not_zero { result ≢ pos 0 }
     {
-        determinant(self.a, self.b, self.c)
+        if self.is_identity() {
+            1
+        } else {
+            determinant(self.a, self.b, self.c)
+        }
     }
 
     /// M v + T. None exactly where a coordinate of it is above 2^19 in absolute value.

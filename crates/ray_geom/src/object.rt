@@ -28,7 +28,13 @@ impl Model for ObjectRay {
 
     ghost invariant = { λ r. IsObjectRay (object_value r.origin r.dir r.det r.tmin r.tmax) };
 
-    ghost inverse = { λ v. record { origin = v.origin; dir = v.dir; det = v.det; tmin = v.tmin; tmax = v.tmax } };
+    ghost inverse = { λ v. record {
+      origin = v.origin;
+      dir = v.dir;
+      det = v.det;
+      tmin = v.tmin;
+      tmax = v.tmax;
+    } };
 }
 
 impl ObjectRay {
@@ -102,6 +108,7 @@ fn in_place(ray: &Ray) -> ObjectRay
 }
 
 // The ray in the space of another object.
+#[inline(always)]
 fn moved(ray: &Ray, m: &Matrix) -> ObjectRay
     ensures { result ≡ object_of ray.now m.now }
 {

@@ -9,3 +9,4 @@ mod Underway
 pub mod Growing
 pub mod Added
 pub mod SmallScene
+mod SameDistance

@@ -2,6 +2,7 @@
 use mathlib.Core.Bool.{not}
 use Rattle.std.proofs.Common.{◌≡◌, ◌∙◌, ◌++◌, ap, sym, refl, subst, Bool, true, false, if◌then◌else◌, List, [], ◌∷◌, All, slice_index_or, Option, Some, None, arith}
 use Rattle.std.specs.BinaryHeap.{IsUpperBound}
+use Rattle.std.specs.Cmp.{IsTotalOrder}
 use Rattle.std.specs.Prelude.{IfSome, IsTrue}
 use Rattle.std.specs.List.{cons_option}
 use Rattle.std.specs.List.Sorted.{IsPermutation}
@@ -23,19 +24,22 @@ NotBefore x y = is_before y x ≡ false
 
 -- ---- what comes first
 
--- what isn't below another isn't below what that isn't below
-not_below : (x a y : Waiting) → is_lt (waiting_cmp x a) ≡ false → is_lt (waiting_cmp a y) ≡ false → is_lt (waiting_cmp x y) ≡ false
-not_below x a y h k = by (waiting_cmp x a) refl (waiting_cmp x y) refl
+-- what isn't below another isn't below what that isn't below, in any order
+not_below_in : {K : Type 0} (R : K → K → Ordering) → IsTotalOrder R → (x a y : K) → is_lt (R x a) ≡ false → is_lt (R a y) ≡ false → is_lt (R x y) ≡ false
+not_below_in R order x a y h k = by (R x a) refl (R x y) refl
   where
-    by : (p : Ordering) → waiting_cmp x a ≡ p → (q : Ordering) → waiting_cmp x y ≡ q → is_lt q ≡ false
+    by : (p : Ordering) → R x a ≡ p → (q : Ordering) → R x y ≡ q → is_lt q ≡ false
     by p e Equal f = refl
     by p e Greater f = refl
     by Less e Less f = absurd (cc)
-    by Equal e Less f = let same = waiting_cmp-total.congr x a y e in absurd (cc)
+    by Equal e Less f = let same = order.congr x a y e in absurd (cc)
     by Greater e Less f =
-        let back = waiting_cmp-total.antisymm a x ∙ ap ordering_reverse e in
-        let below = waiting_cmp-total.trans a x y back f in
+        let back = order.antisymm a x ∙ ap ordering_reverse e in
+        let below = order.trans a x y back f in
         absurd (cc)
+
+not_below : (x a y : Waiting) → is_lt (waiting_cmp x a) ≡ false → is_lt (waiting_cmp a y) ≡ false → is_lt (waiting_cmp x y) ≡ false
+not_below x a y h k = not_below_in waiting_cmp waiting_cmp-total x a y h k
 
 -- of two one isn't below the other
 not_both : (x a : Waiting) → is_lt (waiting_cmp a x) ≡ true → is_lt (waiting_cmp x a) ≡ false
@@ -182,3 +186,11 @@ all_beyond limit x old new late moved first =
     All-permutation (λ y. is_within limit (turn_at y) ≡ false) (x ∷ new) old (IsPermutation-sym old (x ∷ new) moved)
     (All-cons (λ y. is_within limit (turn_at y) ≡ false) x new late
     (λ k d below. beyond-farther limit (turn_at x) (turn_at (slice_index_or new k d)) (turn-farther x (slice_index_or new k d) (first k d below)) late))
+
+-- a turn that comes beyond the limit isn't
+pub left_out : (limit : Option Ratio) (t : Turn) (old : List Turn) → is_within limit (turn_at t) ≡ false → IsPermutation (turn_within limit t ++ old) old
+left_out limit t old out = beyond (is_within limit (turn_at t)) out
+  where
+    beyond : (b : Bool) → b ≡ false → IsPermutation ((if b then t ∷ [] else []) ++ old) old
+    beyond true p = absurd (cc)
+    beyond false p = IsPermutation-refl old

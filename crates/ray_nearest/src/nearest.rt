@@ -1,4 +1,7 @@
 ghost use Rattle.std.specs.Prelude.{◌≡◌, ◌+◌, ◌≤◌, IfOk, OnOk, None, option_map};
+ghost use Rattle.ray_query.specs.Key.{commit_key, found_key, is_below, key_lt};
+ghost use Rattle.ray_query.specs.Play.{play_one};
+ghost use Rattle.ray_query.specs.Raw.{reduced_found};
 ghost use Rattle.ray_nearest.specs.Answer.{answer_in};
 ghost use Rattle.ray_nearest.specs.Scene.{IsScene, distance_of, opened_in};
 ghost use Rattle.ray_nearest.specs.Taking.{IsKnown, IsNext, Takes};
@@ -9,7 +12,7 @@ use crate::turns::{Turns, is_within};
 use crate::waiting::{Kept, Waiting};
 use ray_flags::RayFlags;
 use ray_geom::{Ratio, Steps};
-use ray_query::{Client, Commit, Query, parts_law, passing_law};
+use ray_query::{Client, Commit, Query, RawFound, parts_law, passing_law};
 use std::alloc::AllocError as NoMemory;
 use std::sync::ledger::Ledger;
 
@@ -81,7 +84,7 @@ fn take<S: Scene, C: Client, L: Ledger>(
     match kept {
         Kept::Node(node) => scene.open(node, distance_of(query), turns, steps),
         Kept::Candidate(found) => {
-            query.play_one(client, *found);
+            play(query, client, &found);
             turns.keep(found);
             Ok(())
         }
@@ -94,4 +97,40 @@ fn distance_of(query: &Query) -> Option<Ratio>
 {
     let commit = query.committed()?;
     Some(Ratio::of(commit.t))
+}
+
+// Plays a candidate. It is put in lowest terms only where its key is below that of the committed
+// hit: else it is passed over.
+fn play<C: Client>(query: &mut Query, client: &C, found: &RawFound)
+    requires { query.old.asked ≡ None }
+    ensures { let q = query.old in
+        let f = reduced_found found.now in
+        query.new ≡ record q { state = play_one (C.meaning client.now) q.ray q.flags q.state f } }
+{
+    if is_below(query, found) {
+        query.play_one(client, found.reduced());
+    }
+}
+
+// Whether the key of what was found is below that of the committed hit, if there is one.
+fn is_below(query: &Query, found: &RawFound) -> bool
+    ensures { result ≡ is_below (found_key (reduced_found found.now)) query.now.state.committed }
+{
+    match query.committed() {
+        Some(commit) => is_nearer(found, &commit),
+        None => true,
+    }
+}
+
+// Whether the key of what was found is below that of a committed hit.
+fn is_nearer(found: &RawFound, commit: &Commit) -> bool
+    ensures { result ≡ key_lt (found_key (reduced_found found.now)) (commit_key commit.now) }
+{
+    let geometry = found.geometry.cmp(&commit.found.geometry);
+    let primitive = found.primitive.cmp(&commit.found.primitive);
+    let instance = found.instance.cmp(&commit.found.instance);
+    let distance = found.t.ratio().cmp(&Ratio::of(commit.t));
+    distance
+        .then(instance.then(geometry.then(primitive)))
+        .is_lt()
 }

@@ -1,4 +1,7 @@
-ghost use Rattle.std.specs.Prelude.{◌≡◌, ◌+◌, ◌*◌, ◌<◌, ◌≤◌, OnOk};
+ghost use Rattle.std.specs.Prelude.{◌++◌, ◌≡◌, ◌+◌, ◌*◌, ◌<◌, ◌≤◌, OnOk};
+ghost use Rattle.std.specs.List.Sorted.{IsPermutation};
+ghost use Rattle.ray_nearest.specs.Turns.{turn_within};
+ghost use Rattle.ray_nearest.specs.declared.turn.Turn.TheVariants.{Candidate};
 ghost use Rattle.ray_nearest.specs.Adding.{IsOpened};
 ghost use Rattle.ray_nearest.specs.Parts.{scene_of};
 ghost use Rattle.ray_nearest.specs.Small.{IsSmallNode, small_parts, small_tests};
@@ -7,7 +10,7 @@ ghost use Rattle.ray_geom.specs.Frac.{denominator, numerator};
 use crate::{NoMemory, Scene, Turns, WalkNode, walk};
 use ray_flags::{Kind, RayFlags};
 use ray_geom::{Frac, Ratio, Steps};
-use ray_query::{Candidate, Client, Decision, Found};
+use ray_query::{Candidate, Client, Decision, Found, RawFound};
 use std::marker::{Brand, Model};
 use std::sync::ledger::Ledger;
 
@@ -78,6 +81,14 @@ const SECOND: WalkNode = WalkNode::Leaf {
     node: 1,
 };
 
+// Adds the turn of what was found, unless its distance is beyond the limit.
+fn push(turns: &mut Turns, limit: Option<Ratio>, found: &Found) -> Result<(), NoMemory>
+    ensures { OnOk result
+        (IsPermutation (turn_within limit (Candidate found.now) ++ turns.old) turns.new) }
+{
+    turns.push_found(limit, RawFound::of(*found))
+}
+
 // Opens a node of the small scene.
 fn open<L: Ledger>(
     near: &Found,
@@ -101,9 +112,9 @@ fn open<L: Ledger>(
         WalkNode::Leaf { node, .. } => {
             steps.tick();
             if node == 0 {
-                turns.push_found(limit, *near)
+                push(turns, limit, near)
             } else {
-                turns.push_found(limit, *far)
+                push(turns, limit, far)
             }
         }
         _ => Ok(()),

@@ -4,6 +4,7 @@ ghost use Rattle.std.specs.List.{cons_option};
 ghost use Rattle.std.specs.List.Sorted.{IsPermutation};
 ghost use Rattle.std.specs.Ordering.{is_lt};
 ghost use Rattle.ray_nearest.specs.declared.turn.Turn.TheVariants.{Node, Candidate};
+ghost use Rattle.ray_query.specs.Raw.{reduced_found};
 ghost use Rattle.ray_nearest.specs.Scene.{is_within};
 ghost use Rattle.ray_nearest.specs.TurnLaws.{IsFirst, turn_of, waiting_cmp};
 ghost use Rattle.ray_nearest.specs.Turns.{IsTaken, turn_within};
@@ -11,7 +12,7 @@ ghost use Rattle.ray_nearest.specs.Turns.{IsTaken, turn_within};
 use crate::node::WalkNode;
 use crate::waiting::{Waiting, boxed};
 use ray_geom::Ratio;
-use ray_query::Found;
+use ray_query::RawFound;
 use std::alloc::{AllocError as NoMemory, Global};
 use std::collections::BinaryHeap;
 use std::marker::Model;
@@ -26,7 +27,7 @@ pub struct Turns {
     // the next turn; it needs no place in the heap.
     next: Option<Waiting>,
     heap: BinaryHeap<Waiting>,
-    spare: Vec<Box<Found>>,
+    spare: Vec<Box<RawFound>>,
     alloc: Global,
 }
 
@@ -83,11 +84,11 @@ impl Turns {
     }
 
     /// Adds the turn of what was found, unless its distance is beyond the limit.
-    pub fn push_found(&mut self, limit: Option<Ratio>, found: Found) -> Result<(), NoMemory>
-        ensures { OnOk result
-            (IsPermutation (turn_within limit (Candidate found) ++ self.old) self.new) }
+    pub fn push_found(&mut self, limit: Option<Ratio>, found: RawFound) -> Result<(), NoMemory>
+        ensures { let turn = Candidate (reduced_found found) in
+            OnOk result (IsPermutation (turn_within limit turn ++ self.old) self.new) }
     {
-        if is_within(limit, Ratio::of(found.t)) {
+        if is_within(limit, found.t.ratio()) {
             let found = boxed(self.alloc, &mut self.spare, found)?;
             self.push(Waiting::candidate(found))?;
         }
@@ -121,7 +122,7 @@ impl Turns {
     }
 
     // Keeps the box of what was played for what is found next. Without memory it is dropped.
-    pub(crate) fn keep(&mut self, found: Box<Found>)
+    pub(crate) fn keep(&mut self, found: Box<RawFound>)
         ensures { self.new ≡ self.old }
     {
         let _refused = self.spare.push(found);

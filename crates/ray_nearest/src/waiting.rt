@@ -2,11 +2,14 @@ ghost use Rattle.std.specs.Prelude.{◌≡◌, IfOk};
 ghost use Rattle.ray_nearest.specs.declared.turn.Turn.TheVariants.{Node, Candidate};
 ghost use Rattle.ray_nearest.specs.Kept.{kept_turn};
 ghost use Rattle.ray_nearest.specs.Turns.{turn_at};
+ghost use Rattle.ray_query.specs.Raw.{reduced_found};
+ghost use Rattle.ray_geom.specs.Ratio.{ratio_cmp};
+ghost use Rattle.std.specs.declared.cmp.Ordering.TheVariants.{Equal};
 
 use crate::node::WalkNode;
 use crate::tie::tie_of;
 use ray_geom::Ratio;
-use ray_query::Found;
+use ray_query::RawFound;
 use std::alloc::{AllocError as NoMemory, Global};
 use std::cmp::Ordering;
 
@@ -15,7 +18,7 @@ use std::cmp::Ordering;
 pub(crate) struct Waiting {
     pub(crate) at: Ratio,
     pub(crate) kept: Kept,
-    pub(crate) ghost same: { at ≡ turn_at (kept_turn at kept) },
+    pub(crate) ghost same: { ratio_cmp at (turn_at (kept_turn at kept)) ≡ Equal },
 }
 
 // What is kept of a turn beside its distance. What was found stands in a box of its own, since it
@@ -23,7 +26,7 @@ pub(crate) struct Waiting {
 #[derive(Drop)]
 pub(crate) enum Kept {
     Node(WalkNode),
-    Candidate(Box<Found>),
+    Candidate(Box<RawFound>),
 }
 
 impl Waiting {
@@ -38,11 +41,11 @@ impl Waiting {
     }
 
     // The turn of what was found.
-    pub(crate) fn candidate(found: Box<Found>) -> Waiting
-        ensures { kept_turn result.at result.kept ≡ Candidate found.value }
+    pub(crate) fn candidate(found: Box<RawFound>) -> Waiting
+        ensures { kept_turn result.at result.kept ≡ Candidate (reduced_found found.value) }
     {
         Waiting {
-            at: Ratio::of(found.t),
+            at: found.t.ratio(),
             kept: Kept::Candidate(found),
         }
     }
@@ -51,9 +54,9 @@ impl Waiting {
 // What was found in a box: in one that is spare, or in a new one.
 pub(crate) fn boxed(
     alloc: Global,
-    spare: &mut Vec<Box<Found>>,
-    found: Found,
-) -> Result<Box<Found>, NoMemory>
+    spare: &mut Vec<Box<RawFound>>,
+    found: RawFound,
+) -> Result<Box<RawFound>, NoMemory>
     ensures { IfOk result (λ kept. kept.value ≡ found) }
 {
     match spare.pop() {

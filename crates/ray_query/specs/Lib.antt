@@ -4,3 +4,4 @@ pub mod Machine
 pub mod Record
 pub mod Laws
 pub mod Deciding
+pub mod Raw

@@ -8,7 +8,8 @@
 //!
 //! The layer above uses the clauses of [`Query::play_one`] and [`Query::play`], by which a query
 //! and a client play as the client's meaning says, and that of [`record_of`], the record of a
-//! committed hit. A [`Client`] tells its meaning, a decision as a function of the candidate;
+//! committed hit. [`RawFound`] is what was found before its fractions are put in lowest terms. A
+//! [`Client`] tells its meaning, a decision as a function of the candidate;
 //! [`ByFn`] makes one of a function. They await the traces that find candidates.
 //!
 //! Laws are calls that do nothing and whose contract is the law: [`chosen_law`], [`ignoring_law`],
@@ -28,6 +29,7 @@ mod found;
 mod key;
 mod laws;
 mod query;
+mod raw_found;
 mod record;
 mod step;
 
@@ -40,5 +42,6 @@ pub use found::Found;
 pub use key::Key;
 pub use laws::{chosen_law, confirming_law, ignoring_law, parts_law, passing_law};
 pub use query::Query;
+pub use raw_found::RawFound;
 pub use record::record_of;
 pub use step::Step;

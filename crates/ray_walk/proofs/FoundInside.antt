@@ -25,7 +25,7 @@ use Rattle.ray_bottom.specs.Trees.{place_at}
 use Rattle.ray_bottom.proofs.Held.{All-KeepsPoints, KeepsTri-box}
 use Rattle.ray_query.specs.declared.found.Found.{Found}
 use Rattle.ray_nearest.specs.Scene.{IsInOrder}
-use Rattle.ray_walk.specs.Fractions.{fraction_of}
+use Rattle.ray_geom.specs.Reduced.{fraction_of}
 use Rattle.ray_walk.specs.Candidates.{Placed, placed, passes_over, found_of, admitted, found_at}
 use Rattle.ray_walk.specs.Traced.{Traced, Placement, found_in_placed, found_at_place, found_of_item}
 use Rattle.ray_walk.specs.Sound.{shape_box, prim_box, IsWellPlaced}

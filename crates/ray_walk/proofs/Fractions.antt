@@ -1,12 +1,14 @@
 -- The fraction of the numbers of a fraction is that fraction.
-use Rattle.std.proofs.Common.{◌≡◌, ◌∙◌, refl, sym, ap, subst, Option, Some, None, option_map, IfSome}
+use Rattle.std.proofs.Common.{ℕ, ◌≡◌, ◌∙◌, refl, sym, ap, subst, Option, Some, None, option_map, IfSome}
 use Rattle.ray_geom.specs.declared.frac.Frac.{Frac}
 use Rattle.ray_geom.specs.Frac.{numerator, denominator}
+use Rattle.ray_geom.specs.Fraction.{IsSameValue}
 use Rattle.ray_geom.specs.FracLaws.{same_value}
 use Rattle.ray_bottom.specs.declared.meet.Meet.{Meet}
 use Rattle.ray_bottom.specs.declared.meet.Meet.TheVariants.{Tri, Aabb}
 use Rattle.ray_bottom.specs.Meeting.{MeetValue, meet_value}
-use Rattle.ray_walk.specs.Fractions.{IsReduced, fraction_of, fraction_where, reduced_decided}
+use Rattle.ray_geom.specs.Reduced.{IsReduced, fraction_of, fraction_where, reduced_decided, zero_reduced}
+use Rattle.ray_walk.proofs.Reduced.{KeepsNumbers-reduced}
 use Rattle.ray_walk.specs.Laws.{KeepsNumbers, KeepsAllNumbers}
 
 by_decision : (f : Frac) (d : Dec (IsReduced f.num f.den)) → fraction_where f.num f.den d ≡ f
@@ -18,8 +20,10 @@ unfolding fraction_of
 fraction_back f = by_decision f (reduced_decided f.num f.den)
 
 -- 0 is that of 0/1
-pub fraction_zero : (f : Frac) → numerator f ≡ 0 → denominator f ≡ 1 → f ≡ fraction_of (0, 1)
-fraction_zero f num den = sym (fraction_back f) ∙ (λ i. fraction_of (num i, den i))
+pub fraction_zero : (f : Frac) → IsSameValue (numerator f) (denominator f) 0 1 → f ≡ fraction_of (0, 1)
+fraction_zero f value =
+    let zero = KeepsNumbers-reduced 0 1 zero_reduced in
+    same_value f (fraction_of (0, 1)) (subst (λ (p : ℕ × ℕ). IsSameValue f.num f.den p.0 p.1) (λ i. (sym zero.num i, sym zero.den i)) value)
 
 pub KeepsNumbers-back : (f : Frac) → KeepsNumbers (numerator f, denominator f)
 KeepsNumbers-back f = record { num = ap numerator (fraction_back f); den = ap denominator (fraction_back f) }

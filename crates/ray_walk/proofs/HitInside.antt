@@ -19,7 +19,7 @@ use Rattle.ray_geom.proofs.Determinant.{den_of-dot_of}
 use Rattle.ray_prune.specs.BoxSpan.{IsInside}
 use Rattle.ray_prune.specs.Pruning.{IsDistance}
 use Rattle.ray_prune.proofs.Inside.{IsInside-hit}
-use Rattle.ray_walk.specs.Fractions.{fraction_of}
+use Rattle.ray_geom.specs.Reduced.{fraction_of}
 use Rattle.ray_walk.proofs.Reduced.{same_lowest}
 
 -- ---- how large the numbers are

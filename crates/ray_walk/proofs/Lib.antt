@@ -7,6 +7,7 @@ pub mod Leaves
 pub mod Aligned
 pub mod Descending
 pub mod Every
+pub mod MetAtPlace
 pub mod Missing
 pub mod Everywhere
 pub mod Walking

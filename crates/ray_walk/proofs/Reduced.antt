@@ -5,7 +5,7 @@ use Rattle.ray_geom.specs.Frac.{numerator, denominator}
 use Rattle.ray_geom.specs.Gauss.{gcd_exists}
 use Rattle.ray_geom.specs.HitValue.{lowest_terms}
 use Rattle.ray_geom.proofs.Fractions.{IsLowest-div, IsFraction-div, IsSameValue-div}
-use Rattle.ray_walk.specs.Fractions.{IsReduced, fraction_of, fraction_where, reduced_decided}
+use Rattle.ray_geom.specs.Reduced.{IsReduced, fraction_of, fraction_where, reduced_decided}
 use Rattle.ray_walk.specs.Laws.{KeepsNumbers}
 
 -- the fraction where the numbers are so

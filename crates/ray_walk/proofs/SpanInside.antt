@@ -20,7 +20,7 @@ use Rattle.ray_prune.specs.Slabs.{IsAxis}
 use Rattle.ray_prune.proofs.Slabs.{EndsFit, ends_fit}
 use Rattle.ray_prune.proofs.Entries.{reach_of-some}
 use Rattle.ray_prune.proofs.Spans.{at_most_left, at_most_right}
-use Rattle.ray_walk.specs.Fractions.{fraction_of}
+use Rattle.ray_geom.specs.Reduced.{fraction_of}
 use Rattle.ray_walk.proofs.Reduced.{same_lowest}
 use Rattle.ray_walk.proofs.Opened.{le_tells}
 

@@ -24,7 +24,7 @@ use Rattle.ray_query.specs.declared.decision.Decision.{Decision}
 use Rattle.ray_query.specs.declared.found.Found.{Found}
 use Rattle.ray_query.specs.Play.{play, start}
 use Rattle.ray_nearest.specs.KeyOrder.{in_key_order}
-use Rattle.ray_walk.specs.Fractions.{fraction_of}
+use Rattle.ray_geom.specs.Reduced.{fraction_of}
 
 -- the bottom structures: the contents of the one that stands under an id, if one does
 abbrev pub Structures : Type 0

@@ -13,7 +13,7 @@ use Rattle.ray_top.specs.Instances.{InstanceValue}
 use Rattle.ray_top.specs.Contents.{ContentsValue as TopContents}
 use Rattle.ray_query.specs.declared.found.Found.{Found}
 use Rattle.ray_query.specs.Key.{KeysRise}
-use Rattle.ray_walk.specs.Fractions.{fraction_of}
+use Rattle.ray_geom.specs.Reduced.{fraction_of}
 use Rattle.ray_walk.specs.Candidates.{Placed, Structures, is_seen, placed, sees_front, passes_over, found_of, candidates}
 
 -- a ray finds this: there is an active instance of its number, whose mask is seen; the structure of that instance; a geometry

@@ -1,4 +1,3 @@
-pub mod Fractions
 pub mod Candidates
 pub mod Laws
 pub mod Standing

@@ -46,8 +46,7 @@ pub(crate) fn push_children(
     ensures recent { IfSome recent.new (IsWideLeaf trees.now.tree.now.nodes) }
 {
     let _det = trees.ray.det();
-    // A copy, which is read before it is known which child is met, and not after the lanes.
-    let children = *trees.wide.children(w);
+    let children = trees.wide.children(w);
     let lanes = trees.wide.lanes(w);
     let mut k = next_bit(met, 0);
     while k < 8 {

@@ -47,19 +47,19 @@ pub(crate) fn descend(trees: &Trees<'_, '_>, window: &Window, w: u32, _limit: Op
     Down { at, met: seen.met }
 }
 
-// What a window meets of a wide node.
+// What a window meets of a wide node. It is put in place, so that the window stays in registers on
+// the way down.
+#[inline(always)]
 fn met_in(trees: &Trees<'_, '_>, window: &Window, w: u32) -> Met
     requires { w < length trees.now.wide.now.nodes }
     ensures met { AreMet (lanes_in trees.now.wide.now.nodes w) window.now result.met }
     ensures alone { IfSome result.alone
         (IsAlone (children_in trees.now.wide.now.nodes w) result.met) }
 {
-    // A copy, which is read before it is known which child is met, and not after the lanes.
-    let children = *trees.wide.children(w);
     let met = overlap8(trees.wide.lanes(w), window);
     Met {
         met,
-        alone: only_child(&children, met),
+        alone: only_child(trees.wide.children(w), met),
     }
 }
 

@@ -2,19 +2,19 @@ ghost use Rattle.std.specs.Prelude.{◌≡◌, ◌+◌, Some};
 ghost use Rattle.std.specs.Option.{option_to_list};
 ghost use Rattle.ray_contents.specs.Bounds.{KeepsBounds};
 ghost use Rattle.ray_geometries.specs.Contents.{bounds_of};
-ghost use Rattle.ray_bottom.specs.LeafItems.{IsItemOf};
-ghost use Rattle.ray_bottom.specs.Meeting.{Hit, Through, meet_value};
-ghost use Rattle.ray_geom.specs.HitValue.{hit_value};
-ghost use Rattle.ray_prune.specs.BoxReach.{span_value};
+ghost use Rattle.ray_bottom.specs.Meeting.{Hit, Through, raw_meet_value};
+ghost use Rattle.ray_geom.specs.HitValue.{hit_value, reduced_hit};
+ghost use Rattle.ray_geom.specs.Transform.{det_of};
+ghost use Rattle.ray_prune.specs.Facing.{is_front};
+ghost use Rattle.ray_query.specs.Raw.{reduced_found};
 ghost use Rattle.ray_walk.specs.Candidates.{admitted, found_at, found_box, found_triangle};
-ghost use Rattle.ray_walk.specs.Telling.{placed_value};
+ghost use Rattle.ray_walk.specs.Telling.{found_raw, placed_value, span_at};
 
 use crate::placed::Placed;
-use ray_bottom::{Bottom, LeafItem, Meet, PrimPlace};
+use ray_bottom::{Bottom, PrimPlace, RawMeet};
 use ray_flags::{Kind, RayFlags, culled, shows_front};
-use ray_geom::{Frac, Ray, Steps, TriHit};
-use ray_prune::{Span, is_front};
-use ray_query::Found;
+use ray_geom::{Matrix, RawHit, Ray, Steps, Unreduced};
+use ray_query::{Found, RawFound};
 use std::sync::ledger::Ledger;
 
 // What the ray finds of one primitive of a geometry. It takes one step.
@@ -36,68 +36,70 @@ pub(crate) fn find<L: Ledger>(
         primitive,
     };
     let meet = bottom.test_prim(place, ray, &at.instance.matrix, steps)?;
-    admit(at, primitive, meet, flags)
+    let found = admit(at, primitive, RawMeet::of(meet), flags)?;
+    Some(found.reduced())
 }
 
-// What the ray finds of a primitive at a leaf, by the copy of its points. It takes one step.
-pub(crate) fn find_item<L: Ledger>(
-    bottom: &Bottom,
+// What is found where this is met, unless the ray passes over it. No fraction is put in lowest
+// terms.
+pub(crate) fn admit(
     at: &Placed<'_>,
-    item: &LeafItem,
-    ray: &Ray,
+    primitive: u32,
+    meet: RawMeet,
     flags: RayFlags,
-    steps: &mut Steps<L>,
-) -> Option<Found>
-    requires kept { KeepsBounds at.now.instance.now.matrix (bounds_of bottom.now.geometries) }
-    requires held { IsItemOf bottom.now.geometries item.now }
-    requires there { at.now.geometry ≡ item.now.place.geometry }
-    ensures value { option_to_list result ≡ found_at ray.now flags bottom.now.geometries
-        (placed_value at.now) item.now.place.primitive }
-    ensures step { steps.new ≡ steps.old + 1 }
-{
-    let meet = bottom.test_item(item, ray, &at.instance.matrix, steps)?;
-    admit(at, item.place.primitive, meet, flags)
-}
-
-// What is found where this is met, unless the ray passes over it.
-fn admit(at: &Placed<'_>, primitive: u32, meet: Meet, flags: RayFlags) -> Option<Found>
-    ensures { option_to_list result
-        ≡ admitted flags (placed_value at.now) primitive (Some (meet_value meet)) }
+) -> Option<RawFound>
+    ensures { found_raw result
+        ≡ admitted flags (placed_value at.now) primitive (Some (raw_meet_value meet)) }
 {
     match meet {
-        Meet::Tri(hit) => admit_triangle(at, primitive, &hit, flags),
-        Meet::Aabb(span) => admit_box(at, primitive, &span, flags),
+        RawMeet::Tri(hit) => admit_triangle(at, primitive, hit, flags),
+        RawMeet::Aabb { entry, exit } => admit_box(at, primitive, entry, exit, flags),
     }
 }
 
 // What is found of a triangle that is hit, unless the ray passes over it.
-fn admit_triangle(at: &Placed<'_>, primitive: u32, hit: &TriHit, flags: RayFlags) -> Option<Found>
-    ensures { option_to_list result
-        ≡ admitted flags (placed_value at.now) primitive (Some (Hit (hit_value hit.now))) }
+fn admit_triangle(at: &Placed<'_>, primitive: u32, hit: RawHit, flags: RayFlags) -> Option<RawFound>
+    ensures { found_raw result ≡ admitted flags
+        (placed_value at.now) primitive (Some (Hit (hit_value (reduced_hit hit)))) }
 {
-    let front = is_front(hit, &at.instance.matrix);
+    let front = sees_front(hit.den_negative, &at.instance.matrix);
     if culled(Kind::Triangle, at.opaque, front, at.instance.flags, flags) {
         return None;
     }
-    Some(triangle(at, primitive, hit))
+    Some(triangle(at, primitive, front, hit))
+}
+
+// Whether the ray sees the front of a triangle that it hits, before the instance's flip.
+fn sees_front(den_negative: bool, m: &Matrix) -> bool
+    ensures { result ≡ is_front den_negative (det_of m.now) }
+{
+    den_negative != (m.det() < 0)
 }
 
 // What is found of a box that is met, unless the ray passes over it.
-fn admit_box(at: &Placed<'_>, primitive: u32, span: &Span, flags: RayFlags) -> Option<Found>
-    ensures { option_to_list result
-        ≡ admitted flags (placed_value at.now) primitive (Some (Through (span_value span.now))) }
+fn admit_box(
+    at: &Placed<'_>,
+    primitive: u32,
+    entry: Unreduced,
+    exit: Unreduced,
+    flags: RayFlags,
+) -> Option<RawFound>
+    ensures { found_raw result ≡ admitted flags
+        (placed_value at.now) primitive (Some (Through (span_at entry exit))) }
 {
     if culled(Kind::Aabb, at.opaque, false, at.instance.flags, flags) {
         return None;
     }
-    Some(aabb(at, primitive, span))
+    Some(aabb(at, primitive, entry, exit))
 }
 
-// What is found of a triangle that is hit.
-fn triangle(at: &Placed<'_>, primitive: u32, hit: &TriHit) -> Found
-    ensures { result ≡ found_triangle (placed_value at.now) primitive (hit_value hit.now) }
+// What is found of a triangle that is hit, of which the ray sees the front or not.
+fn triangle(at: &Placed<'_>, primitive: u32, front: bool, hit: RawHit) -> RawFound
+    requires { front ≡ is_front hit.den_negative (det_of at.now.instance.now.matrix) }
+    ensures { reduced_found result
+        ≡ found_triangle (placed_value at.now) primitive (hit_value (reduced_hit hit)) }
 {
-    Found {
+    RawFound {
         kind: Kind::Triangle,
         opaque: at.opaque,
         instance: at.number,
@@ -105,19 +107,20 @@ fn triangle(at: &Placed<'_>, primitive: u32, hit: &TriHit) -> Found
         primitive,
         custom: at.instance.custom,
         sbt: at.instance.sbt,
-        front: shows_front(is_front(hit, &at.instance.matrix), at.instance.flags),
+        front: shows_front(front, at.instance.flags),
         t: hit.t,
-        exit: hit.t,
+        exit: None,
         u: hit.u,
         v: hit.v,
     }
 }
 
 // What is found of a box that is met.
-fn aabb(at: &Placed<'_>, primitive: u32, span: &Span) -> Found
-    ensures { result ≡ found_box (placed_value at.now) primitive (span_value span.now) }
+fn aabb(at: &Placed<'_>, primitive: u32, entry: Unreduced, exit: Unreduced) -> RawFound
+    ensures { reduced_found result
+        ≡ found_box (placed_value at.now) primitive (span_at entry exit) }
 {
-    Found {
+    RawFound {
         kind: Kind::Aabb,
         opaque: at.opaque,
         instance: at.number,
@@ -126,9 +129,9 @@ fn aabb(at: &Placed<'_>, primitive: u32, span: &Span) -> Found
         custom: at.instance.custom,
         sbt: at.instance.sbt,
         front: false,
-        t: span.entry,
-        exit: span.exit,
-        u: Frac::zero(),
-        v: Frac::zero(),
+        t: entry,
+        exit: Some(exit),
+        u: Unreduced::new(0, 1),
+        v: Unreduced::new(0, 1),
     }
 }

@@ -1,30 +1,32 @@
 //! What is found in a leaf of the structure of an instance.
 ghost use Rattle.std.specs.Prelude.{◌≡◌, ◌+◌, ◌<◌, ◌≤◌, All, IfSome, OnOk, Some, length, map};
-ghost use Rattle.std.specs.Option.{option_to_list};
 ghost use Rattle.ray_contents.specs.Bounds.{KeepsBounds};
 ghost use Rattle.ray_geometries.specs.Contents.{bounds_of};
 ghost use Rattle.ray_bottom.specs.LeafItems.{IsItemOf, place_of_item};
+ghost use Rattle.ray_bottom.specs.Meeting.{raw_meet_value};
 ghost use Rattle.ray_bottom.specs.Trees.{places_below};
 ghost use Rattle.ray_flags.specs.Admission.{AsksBoth, ForcesBoth};
 ghost use Rattle.ray_wide.specs.Subtrees.{IsWideLeaf};
 ghost use Rattle.ray_nearest.specs.Adding.{Adds, AddsFound};
 ghost use Rattle.ray_geom.specs.ObjectRay.{object_of};
 ghost use Rattle.ray_window.specs.Windows.{window_of};
-ghost use Rattle.ray_walk.specs.Scenes.{AddsFoundAt, IsLookedAt, found_by_place, placement_value};
+ghost use Rattle.ray_walk.specs.Scenes.{AddsFoundAt, IsLookedAt, found_by_place};
+ghost use Rattle.ray_walk.specs.Scenes.{met_at_place, placement_value};
+ghost use Rattle.ray_walk.specs.Telling.{found_raw};
 ghost use Rattle.ray_walk.specs.Traced.{found_at_place, placement_at};
 
 use crate::aim::{Aim, window_at};
-use crate::finding::find_item;
+use crate::finding::admit;
 use crate::held::Looked;
 use crate::meeting::meets_points;
 use crate::placed::Placed;
 use crate::view::View;
-use ray_bottom::{Bottom, LeafItem};
+use ray_bottom::{Bottom, LeafItem, PrimPlace, RawMeet};
 use ray_flags::{RayFlags, effective};
 use ray_geom::{Ratio, Ray, Steps};
 use ray_lanes::Window;
 use ray_nearest::{NoMemory, Turns};
-use ray_query::Found;
+use ray_query::RawFound;
 use ray_wide::WideLeaf;
 use std::sync::ledger::Ledger;
 
@@ -139,10 +141,10 @@ fn find_at<L: Ledger>(
     i: u32,
     item: &LeafItem,
     steps: &mut Steps<L>,
-) -> Option<Found>
+) -> Option<RawFound>
     requires is_it { placement_at view.now i ≡ Some (placement_value looked.now) }
     requires held { IsItemOf looked.now.bottom.now.geometries item.now }
-    ensures value { option_to_list result
+    ensures value { found_raw result
         ≡ found_at_place view.now i (placement_value looked.now) item.now.place }
     ensures step { steps.new ≡ steps.old + 1 }
 {
@@ -158,19 +160,36 @@ fn find_in<L: Ledger>(
     ray: &Ray,
     flags: RayFlags,
     steps: &mut Steps<L>,
-) -> Option<Found>
+) -> Option<RawFound>
     requires held { IsItemOf looked.now.bottom.now.geometries item.now }
     requires kept { KeepsBounds looked.now.instance.matrix
         (bounds_of looked.now.bottom.now.geometries) }
     requires instance_agrees { ¬ ForcesBoth looked.now.instance.flags }
     requires flags_agree { ¬ AsksBoth flags }
-    ensures value { option_to_list result ≡ found_by_place ray.now flags i
+    ensures value { found_raw result ≡ found_by_place ray.now flags i
         (placement_value looked.now) item.now.place }
     ensures step { steps.new ≡ steps.old + 1 }
 {
-    let place = item.place;
+    let matrix = &looked.instance.matrix;
+    let meet = looked.bottom.test_item(item, ray, matrix, steps)?;
+    find_met(looked, i, item.place, meet, flags)
+}
+
+// What is found of a primitive at a place, where this is met there. Whether it counts as opaque
+// isn't asked before, since most primitives aren't met.
+fn find_met(
+    looked: &Looked<'_>,
+    i: u32,
+    place: PrimPlace,
+    meet: RawMeet,
+    flags: RayFlags,
+) -> Option<RawFound>
+    requires instance_agrees { ¬ ForcesBoth looked.now.instance.flags }
+    requires flags_agree { ¬ AsksBoth flags }
+    ensures { found_raw result ≡ met_at_place flags i (placement_value looked.now) place
+        (Some (raw_meet_value meet)) }
+{
     if place.geometry >= looked.bottom.geometries() {
-        steps.tick();
         return None;
     }
     let opaque = effective(
@@ -184,12 +203,12 @@ fn find_in<L: Ledger>(
         geometry: place.geometry,
         opaque,
     };
-    find_item(looked.bottom, &at, item, ray, flags, steps)
+    admit(&at, place.primitive, meet, flags)
 }
 
 // Adds the turn of what is found, if anything is.
-fn push(turns: &mut Turns, limit: Option<Ratio>, found: Option<Found>) -> Result<(), NoMemory>
-    ensures { OnOk result (Adds (AddsFound limit) (option_to_list found) turns.old turns.new) }
+fn push(turns: &mut Turns, limit: Option<Ratio>, found: Option<RawFound>) -> Result<(), NoMemory>
+    ensures { OnOk result (Adds (AddsFound limit) (found_raw found) turns.old turns.new) }
 {
     match found {
         Some(found) => turns.push_found(limit, found),

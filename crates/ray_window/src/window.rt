@@ -66,13 +66,17 @@ fn window_to(det: i64, origin: Vec3, dir: Vec3, tmin: u64, n: u64, d: u64) -> Wi
     }
 }
 
-// On one axis, from where to where a window goes.
+// On one axis, from where to where a window goes. Where the ray doesn't move along the axis that is
+// where it begins.
 fn side_of(det: i64, o: i64, m: i64, tmin: u64, n: u64, d: u64) -> Side
     requires line { IsLine det o m }
     requires den { 0 < d }
     ensures lo { result.lo ≡ begins_at det o m tmin n d }
     ensures hi { result.hi ≡ ends_at det o m tmin n d }
 {
+    if m == 0 {
+        return start(det, o);
+    }
     let a = first_side(det, o, m, tmin);
     let b = side_at(det, o, m, n, d);
     Side {

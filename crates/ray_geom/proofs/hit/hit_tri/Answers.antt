@@ -1,5 +1,10 @@
+use Rattle.std.proofs.Common.{rules, Some, refl}
+use Rattle.ray_geom.specs.TriangleHit.{IsHit, Tells}
 use Rattle.ray_geom.proofs.HitValues.{hit_of-meets}
 use Rattle.ray_geom.proofs.hit.hit_tri.Goals as goal
 
-pub returns-clause-hit : goal.returns-clause-hit
-returns-clause-hit c = hit_of-meets c.args.ray.now c.args.tri.now _ c.meet.ensures.some c.meet.ensures.value
+pub returns-in-Some-clause-hit : goal.returns-in-Some-clause-hit
+returns-in-Some-clause-hit c =
+    let is : IsHit c.args.ray.now c.args.tri.now = c.meet.ensures.some.0 (search rules) in
+    let tells : Tells c.args.ray.now c.args.tri.now c.reduced.result = search rules in
+    hit_of-meets c.args.ray.now c.args.tri.now (Some c.reduced.result) (λ _. is, λ _. refl) tells

@@ -5,23 +5,23 @@ use Rattle.ray_geom.proofs.Hits.{IsFromTo, AreWeights-from, IsHit-from, IsHit-in
 use Rattle.ray_geom.proofs.hit.meet_between.Goals as goal
 use Rattle.ray_geom.proofs.hit.meet_between.Goals.{else-are_inside-via-then-are_inside+else-is_from_to, else-are_inside-via-else-are_inside}
 
-pub ratio-requires-clause-not_negative : goal.ratio-requires-clause-not_negative
-ratio-requires-clause-not_negative c =
+pub over-requires-clause-not_negative : goal.over-requires-clause-not_negative
+over-requires-clause-not_negative c =
     let between : IsFromTo c.args.ray.now.tmin c.args.ray.now.tmax c.measure-m.result.num c.measure-m.result.den =
     search (rules, to_z-of_z) in
     let later = over_size-IsFrom _ _ _ between.0 in
     search (rules, to_z-of_z)
 
-pub ratio-requires-then-is_from_to-clause-not_negative :
-    goal.ratio-requires-then-is_from_to-clause-not_negative
-ratio-requires-then-is_from_to-clause-not_negative c =
+pub over-requires-then-is_from_to-clause-not_negative :
+    goal.over-requires-then-is_from_to-clause-not_negative
+over-requires-then-is_from_to-clause-not_negative c =
     let inside : AreInside c.measure-m.result = search rules in
     let weights = AreWeights-from _ _ _ c.measure-m.ensures.measured inside in
     search (rules, to_z-of_z)
 
-pub ratio-requires-then-is_from_to-2-clause-not_negative :
-    goal.ratio-requires-then-is_from_to-2-clause-not_negative
-ratio-requires-then-is_from_to-2-clause-not_negative c =
+pub over-requires-then-is_from_to-2-clause-not_negative :
+    goal.over-requires-then-is_from_to-2-clause-not_negative
+over-requires-then-is_from_to-2-clause-not_negative c =
     let inside : AreInside c.measure-m.result = search rules in
     let weights = AreWeights-from _ _ _ c.measure-m.ensures.measured inside in
     search (rules, to_z-of_z)

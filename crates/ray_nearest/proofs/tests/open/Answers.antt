@@ -22,16 +22,16 @@ pub returns-then-node-eq0-clause-opened : goal.returns-then-node-eq0-clause-open
 returns-then-node-eq0-clause-opened g c =
     let near = c.args.near.now in
     let far = c.args.far.now in
-    on_ok_weaker c.push_found.result
-    (λ moved. subst (λ n. IsOpened c.args.limit (scene_of (small_parts near far)) n c.args.turns.now c.push_found.new.self) (sym c.in-Leaf.is)
-    (opened_first near far c.args.turns.now c.push_found.new.self c.args.limit c.in-Leaf.instance c.in-Leaf.node c.if-node-eq0.true moved))
-    c.push_found.ensures
+    on_ok_weaker c.push.result
+    (λ moved. subst (λ n. IsOpened c.args.limit (scene_of (small_parts near far)) n c.args.turns.now c.push.new.self) (sym c.in-Leaf.is)
+    (opened_first near far c.args.turns.now c.push.new.self c.args.limit c.in-Leaf.instance c.in-Leaf.node c.if-node-eq0.true moved))
+    c.push.ensures
 
 pub returns-else-node-eq0-clause-opened : goal.returns-else-node-eq0-clause-opened
 returns-else-node-eq0-clause-opened g c =
     let near = c.args.near.now in
     let far = c.args.far.now in
-    on_ok_weaker c.push_found-else-node-eq0.result
-    (λ moved. subst (λ n. IsOpened c.args.limit (scene_of (small_parts near far)) n c.args.turns.now c.push_found-else-node-eq0.new.self) (sym c.in-Leaf.is)
-    (opened_second near far c.args.turns.now c.push_found-else-node-eq0.new.self c.args.limit c.in-Leaf.instance c.in-Leaf.node c.if-node-eq0.false moved))
-    c.push_found-else-node-eq0.ensures
+    on_ok_weaker c.push-else-node-eq0.result
+    (λ moved. subst (λ n. IsOpened c.args.limit (scene_of (small_parts near far)) n c.args.turns.now c.push-else-node-eq0.new.self) (sym c.in-Leaf.is)
+    (opened_second near far c.args.turns.now c.push-else-node-eq0.new.self c.args.limit c.in-Leaf.instance c.in-Leaf.node c.if-node-eq0.false moved))
+    c.push-else-node-eq0.ensures

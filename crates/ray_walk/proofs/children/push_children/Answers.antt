@@ -45,7 +45,7 @@ push_below-requires-clause-lane c =
     let few : k < 8 = (let h = c.loop-k-test.true in grind (arith, nat_tests)) in
     let eight = (c.requires.trees.over.collapsed.each w c.requires.node).eight in
     let at = any-default (children_in nodes w) k wides.Empty (wides.Leaf (wide_leaf 0 0 0)) (omega (arith, eight, few))
-    ∙ ap (λ (cs : List WideRef). slice_index_or cs k (wides.Leaf (wide_leaf 0 0 0))) (sym c.children.ensures) in
+    ∙ ap (λ (cs : List WideRef). slice_index_or cs k (wides.Leaf (wide_leaf 0 0 0))) (sym c.children-children.ensures) in
     subst (λ (b : WideRef). HasLane t.tree.now t.wide.now c.lanes-lanes.result.now k b) at
     (subst (λ (l : Lanes8). HasLane t.tree.now t.wide.now l k (child_at (children_in nodes w) k)) (sym c.lanes-lanes.ensures)
     (lane-at t.tree.now t.wide.now c.requires.trees w k c.requires.node few))
@@ -54,16 +54,16 @@ pub loop-k-init : goal.loop-k-init
 loop-k-init c =
     let t = c.args.trees.now in
     let w = c.args.w in
-    let children = c.children.result.now in
+    let children = c.children-children.result.now in
     let first : ℕ = c.next_bit-k.result in
     let most = c.next_bit-k.ensures.most in
-    let full : length children ≡ 8 = ap (λ (cs : List WideRef). length cs) c.children.ensures ∙ (c.requires.trees.over.collapsed.each w c.requires.node).eight in
+    let full : length children ≡ 8 = ap (λ (cs : List WideRef). length cs) c.children-children.ensures ∙ (c.requires.trees.over.collapsed.each w c.requires.node).eight in
     record {
       most = most;
       so_far = subst (λ n. AddsThrough c.args.limit t (flat_map (child t.level) (take n children)) c.args.turns.now c.args.turns.now) (omega arith)
           (Adds-skip t c.args.limit children (wides.Leaf (wide_leaf 0 0 0)) c.args.turns.now c.args.turns.now 0 first (omega (arith, full, most))
           (λ j after below. out t c.args._window.now w c.args.limit c.args.met children c.requires.trees
-          c.det-det.ensures.limits c.requires.window c.requires.node c.requires.met c.children.ensures
+          c.det-det.ensures.limits c.requires.window c.requires.node c.requires.met c.children-children.ensures
           j (omega (arith, below, most)) (c.next_bit-k.ensures.clear j after (omega (arith, below))))
           (left-out t c.args.limit c.args.turns.now c.args.turns.now [] (All-nil (λ m. is_open c.args.limit (entry_through t m) ≡ false)) c.args.turns.now));
       recent = c.requires.recent;
@@ -74,14 +74,14 @@ loop-k-preserved c =
     let t = c.args.trees.now in
     let w = c.args.w in
     let k = c.loop-k.k in
-    let children = c.children.result.now in
+    let children = c.children-children.result.now in
     let next = c.next_bit-k-in-loop-k.result in
     let most = c.next_bit-k-in-loop-k.ensures.most in
     let later = c.next_bit-k-in-loop-k.ensures.from in
     let before = c.args.turns.now in
     let now = c.push_below.new.turns in
     let few : k < 8 = (let h = c.loop-k-test.true in grind (arith, nat_tests)) in
-    let full : length children ≡ 8 = ap (λ (cs : List WideRef). length cs) c.children.ensures ∙ (c.requires.trees.over.collapsed.each w c.requires.node).eight in
+    let full : length children ≡ 8 = ap (λ (cs : List WideRef). length cs) c.children-children.ensures ∙ (c.requires.trees.over.collapsed.each w c.requires.node).eight in
     let pushed = Adds-flat (AddsNode c.args.limit (entry_through t)) (child t.level) children k (wides.Leaf (wide_leaf 0 0 0)) before c.loop-k.turns now
     (omega (arith, full, few)) c.loop-k.invariant.so_far c.in_ok-push_below.ensures.added in
     let gap : k + 1 + (next - (k + 1)) ≡ next = omega (arith, later) in
@@ -90,7 +90,7 @@ loop-k-preserved c =
       so_far = subst (λ n. AddsThrough c.args.limit t (flat_map (child t.level) (take n children)) before now) gap
           (Adds-skip t c.args.limit children (wides.Leaf (wide_leaf 0 0 0)) before now (k + 1) (next - (k + 1)) (omega (arith, full, most, later))
           (λ j after below. out t c.args._window.now w c.args.limit c.args.met children c.requires.trees
-          c.det-det.ensures.limits c.requires.window c.requires.node c.requires.met c.children.ensures
+          c.det-det.ensures.limits c.requires.window c.requires.node c.requires.met c.children-children.ensures
           j (omega (arith, below, gap, most)) (c.next_bit-k-in-loop-k.ensures.clear j after (omega (arith, below, gap)))) pushed);
       recent = c.push_below.ensures.recent;
     }

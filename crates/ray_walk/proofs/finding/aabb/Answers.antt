@@ -13,8 +13,8 @@ returns c = λ i. record {
   custom = c.args.at.now.instance.now.custom;
   sbt = c.args.at.now.instance.now.sbt;
   front = false;
-  t = sym (fraction_back c.args.span.now.entry) i;
-  exit = sym (fraction_back c.args.span.now.exit) i;
-  u = fraction_zero c.zero.result c.zero.ensures.num c.zero.ensures.den i;
-  v = fraction_zero c.zero-2.result c.zero-2.ensures.num c.zero-2.ensures.den i;
+  t = sym (fraction_back c.args.entry) i;
+  exit = sym (fraction_back c.args.exit) i;
+  u = fraction_zero c.new.result c.new.ensures i;
+  v = fraction_zero c.new-2.result c.new-2.ensures i;
 }

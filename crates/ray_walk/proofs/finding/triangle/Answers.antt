@@ -13,9 +13,9 @@ returns c = λ i. record {
   primitive = c.args.primitive;
   custom = c.args.at.now.instance.now.custom;
   sbt = c.args.at.now.instance.now.sbt;
-  front = (c.shows_front.ensures ∙ ap (λ b. shows_front b c.args.at.now.instance.now.flags) c.is_front.ensures.value) i;
-  t = sym (fraction_back c.args.hit.now.t) i;
-  exit = sym (fraction_back c.args.hit.now.t) i;
-  u = sym (fraction_back c.args.hit.now.u) i;
-  v = sym (fraction_back c.args.hit.now.v) i;
+  front = (c.shows_front.ensures ∙ ap (λ b. shows_front b c.args.at.now.instance.now.flags) c.requires) i;
+  t = sym (fraction_back c.args.hit.t) i;
+  exit = sym (fraction_back c.args.hit.t) i;
+  u = sym (fraction_back c.args.hit.u) i;
+  v = sym (fraction_back c.args.hit.v) i;
 }

@@ -1,5 +1,5 @@
--- The fraction of a numerator and a denominator, as the distances of what is found are given. (Own.)
-use Rattle.std.specs.Prelude.{ℕ, ◌≡◌, ◌*◌, ◌^◌}
+-- The fraction of a numerator and a denominator in lowest terms, and that of numbers that are not. (Own.)
+use Rattle.std.specs.Prelude.{ℕ, ◌≡◌, ◌*◌, ◌^◌, ◌/◌}
 use Rattle.std.specs.Int.{◌∣◌}
 use Rattle.std.proofs.Common.{arith, subst}
 use Rattle.std.proofs.Math.Nat.{eq-one_of_dvd-one}
@@ -52,3 +52,7 @@ fraction_where num den (no h) = record { num = 0; den = 1; limits = zero_reduced
 -- its limits has no others, and of others it is 0
 unfoldable pub fraction_of : ℕ × ℕ → Frac
 fraction_of parts = fraction_where parts.0 parts.1 (reduced_decided parts.0 parts.1)
+
+-- the fraction of a numerator and a denominator that aren't in lowest terms
+abbrev pub lowest_of : ℕ → ℕ → Frac
+lowest_of num den = fraction_of (num / (gcd_exists num den).0, den / (gcd_exists num den).0)
