@@ -1,6 +1,6 @@
 ghost use Rattle.std.specs.Prelude.{◌≡◌, ◌≤◌, ◌^◌, None, Some, [], IfOk, IsSome, option_copied, option_and_then, option_map, length, slice_get, false};
 ghost use Rattle.ray_flags.specs.declared.kind.Kind.TheVariants.{Triangle, Aabb};
-ghost use Rattle.ray_geometries.specs.Contents.{has_both_fast, HasRoom, IsContents};
+ghost use Rattle.ray_geometries.specs.Contents.{has_both_fast, HasRoom};
 ghost use Rattle.ray_bottom.specs.Builders.{bare, with_triangles, with_boxes, IsAdded};
 ghost use Rattle.ray_bottom.specs.Builders.{IsNew, size_of_indices};
 ghost use Rattle.ray_bottom.specs.Builders.{triangles_in, boxes_in, IsRestored};

@@ -4,7 +4,6 @@ ghost use Rattle.ray_geom.specs.Boxes.{IsBox, box_value};
 ghost use Rattle.ray_geom.specs.Scene.{IsTri, tri_value};
 ghost use Rattle.ray_geom.specs.HitValue.{hit_of};
 ghost use Rattle.ray_geom.specs.Transform.{world_tri};
-ghost use Rattle.ray_geom.specs.ObjectRay.{object_of};
 ghost use Rattle.ray_prune.specs.BoxReach.{span_of};
 ghost use Rattle.ray_contents.specs.Bounds.{KeepsBounds};
 ghost use Rattle.ray_primitives.specs.Primitives.{box_of_triangle};

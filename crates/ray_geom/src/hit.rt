@@ -1,6 +1,6 @@
-ghost use Rattle.std.specs.Prelude.{◌≡◌, ◌≢◌, ◌*◌, ◌^◌, ◌↔◌, ◌*ℤ◌, ◌≤ℤ◌, ℤ, pos, unsigned_abs, IsTrue, IsSome, IfSome, option_map};
+ghost use Rattle.std.specs.Prelude.{◌≡◌, ◌≢◌, ◌*◌, ◌^◌, ◌↔◌, ◌≤ℤ◌, ℤ, pos, unsigned_abs, IsTrue, IsSome, IfSome, option_map};
 ghost use Rattle.std.specs.Ordering.{ordering_then};
-ghost use Rattle.ray_geom.specs.Vector.{IsWithin, IsShort, sign_of, point_cmp};
+ghost use Rattle.ray_geom.specs.Vector.{IsWithin, IsShort, sign_of};
 ghost use Rattle.ray_geom.specs.EdgeSide.{side_of};
 ghost use Rattle.ray_geom.specs.TriangleHit.{over_size, IsFrom, IsTo, IsHit, IsRatio, Tells};
 ghost use Rattle.ray_geom.specs.HitValue.{hit_of, hit_value, reduced_hit};
@@ -27,24 +27,18 @@ pub fn hit_tri(ray: &Ray, tri: &Tri) -> Option<TriHit>
     // The same as one function of the ray and the triangle.
     ensures hit { option_map hit_value result ≡ hit_of ray.now tri.now }
 {
-    match meet(ray, tri) {
+    match meet_tri(ray, tri) {
         Some(hit) => Some(hit.reduced()),
         None => None,
     }
 }
 
 /// The same with fractions that aren't put in lowest terms yet, so that it takes no greatest common
-/// divisor. (Own.)
+/// divisor. Most rays pass outside an edge, where no more is asked. (Own.)
 pub fn meet_tri(ray: &Ray, tri: &Tri) -> Option<RawHit>
-    ensures { option_map (λ hit. hit_value (reduced_hit hit)) result ≡ hit_of ray.now tri.now }
-{
-    meet(ray, tri)
-}
-
-// Where the ray meets the triangle. Most rays pass outside an edge, where no more is asked.
-fn meet(ray: &Ray, tri: &Tri) -> Option<RawHit>
     ensures some { IsSome result ↔ IsHit ray.now tri.now }
     ensures value { IfSome result (λ hit. Tells ray.now tri.now (reduced_hit hit)) }
+    ensures hit { option_map (λ hit. hit_value (reduced_hit hit)) result ≡ hit_of ray.now tri.now }
 {
     let first = edge_of(ray, tri.v1, tri.v2);
     let second = edge_of(ray, tri.v2, tri.v0);

@@ -1,8 +1,8 @@
-ghost use Rattle.std.specs.Prelude.{◌≡◌, ◌^◌, ◌↔◌, IfSome, [], fold};
+ghost use Rattle.std.specs.Prelude.{◌≡◌, ◌^◌, ◌↔◌, IfSome, []};
 ghost use Rattle.std.specs.List.{All};
 ghost use Rattle.ray_geom.specs.Vector.{IsShort};
 ghost use Rattle.ray_geom.specs.Boxes.{corners_of};
-ghost use Rattle.ray_geom.specs.LeastBoxes.{lesser_of, greater_of, point_box, union_of, joined_of, box_of_points, box_of_boxes, box_of_tri, HoldsPoints, HoldsBoxes, HoldsBoth, HoldsTri, IsLeast};
+ghost use Rattle.ray_geom.specs.LeastBoxes.{point_box, union_of, joined_of, box_of_points, box_of_boxes, box_of_tri, HoldsPoints, HoldsBoxes, HoldsBoth, HoldsTri, IsLeast};
 
 use crate::box3::Box3;
 use crate::point32::Point32;
@@ -32,28 +32,46 @@ impl Box3 {
         ensures least { IsLeast (HoldsBoth self.now other.now) result }
     {
         Box3 {
-            lo: lesser(self.lo, other.lo),
-            hi: greater(self.hi, other.hi),
+            lo: Point32 {
+                x: self.lo.x.min(other.lo.x),
+                y: self.lo.y.min(other.lo.y),
+                z: self.lo.z.min(other.lo.z),
+            },
+            hi: Point32 {
+                x: self.hi.x.max(other.hi.x),
+                y: self.hi.y.max(other.hi.y),
+                z: self.hi.z.max(other.hi.z),
+            },
         }
     }
 
     /// The least box of points. None exactly where there are none. (Own.)
+    #[tactic(auto, using(std::proofs::lemmas::List::Sums::fold_more))]
     pub fn of_points(points: &[Vec3]) -> Option<Box3>
         requires { All (IsShort (2 ^ 19)) points.now }
         ensures value { result ≡ box_of_points points.now }
         ensures least { IfSome result (IsLeast (HoldsPoints points.now)) }
         ensures none { (result ≡ None) ↔ (points.now ≡ []) }
     {
-        joined_points(points)
+        let mut least = None;
+        for v in points {
+            least = joined(least, Box3::of_point(*v));
+        }
+        least
     }
 
     /// The least box of boxes. None exactly where there are none. (Own.)
+    #[tactic(auto, using(std::proofs::lemmas::List::Sums::fold_more))]
     pub fn of_boxes(boxes: &[Box3]) -> Option<Box3>
         ensures value { result ≡ box_of_boxes boxes.now }
         ensures least { IfSome result (IsLeast (HoldsBoxes boxes.now)) }
         ensures none { (result ≡ None) ↔ (boxes.now ≡ []) }
     {
-        joined_boxes(boxes)
+        let mut least = None;
+        for b in boxes {
+            least = joined(least, *b);
+        }
+        least
     }
 
     /// The eight corners, z changing first. (Own.)
@@ -119,28 +137,6 @@ impl Tri {
     }
 }
 
-// Coordinate by coordinate the lesser of two points.
-fn lesser(a: Point32, b: Point32) -> Point32
-    ensures { result ≡ lesser_of a b }
-{
-    Point32 {
-        x: a.x.min(b.x),
-        y: a.y.min(b.y),
-        z: a.z.min(b.z),
-    }
-}
-
-// Coordinate by coordinate the greater of two points.
-fn greater(a: Point32, b: Point32) -> Point32
-    ensures { result ≡ greater_of a b }
-{
-    Point32 {
-        x: a.x.max(b.x),
-        y: a.y.max(b.y),
-        z: a.z.max(b.z),
-    }
-}
-
 // The union of what there is so far and one box more.
 pub(crate) fn joined(so_far: Option<Box3>, more: Box3) -> Option<Box3>
     ensures { result ≡ joined_of so_far more }
@@ -149,29 +145,4 @@ pub(crate) fn joined(so_far: Option<Box3>, more: Box3) -> Option<Box3>
         None => Some(more),
         Some(b) => Some(b.union(&more)),
     }
-}
-
-// The union of the boxes of points.
-#[tactic(auto, using(std::proofs::lemmas::List::Sums::fold_more))]
-fn joined_points(points: &[Vec3]) -> Option<Box3>
-    requires { All (IsShort (2 ^ 19)) points.now }
-    ensures { result ≡ box_of_points points.now }
-{
-    let mut least = None;
-    for v in points {
-        least = joined(least, Box3::of_point(*v));
-    }
-    least
-}
-
-// The union of boxes.
-#[tactic(auto, using(std::proofs::lemmas::List::Sums::fold_more))]
-fn joined_boxes(boxes: &[Box3]) -> Option<Box3>
-    ensures { result ≡ box_of_boxes boxes.now }
-{
-    let mut least = None;
-    for b in boxes {
-        least = joined(least, *b);
-    }
-    least
 }

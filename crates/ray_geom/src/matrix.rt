@@ -1,8 +1,8 @@
 ghost use Rattle.std.specs.Prelude.{◌≡◌, ◌≢◌, ◌*◌, ◌^◌, ◌+ℤ◌, ◌↔◌, pos, IsTrue, SomeIff};
 ghost use Rattle.ray_geom.specs.declared.vec3.Vec3.{Vec3};
-ghost use Rattle.ray_geom.specs.Vector.{IsWithin, IsShort, cross_of, dot_of, vec3};
+ghost use Rattle.ray_geom.specs.Vector.{IsWithin, IsShort, cross_of, dot_of};
 ghost use Rattle.ray_geom.specs.Transform.{IsMatrix, matrix_of, matrix_value, rows_of, table_of, identity_value, det_of, image_of};
-ghost use Rattle.ray_geom.specs.Equality.{matrix_eq, matrix_eq-laws, matrix_eq-equivalence, point_eq};
+ghost use Rattle.ray_geom.specs.Equality.{matrix_eq, matrix_eq-laws, matrix_eq-equivalence};
 
 use crate::vec3::{Vec3, cross, dot, is_short};
 use std::marker::Model;
@@ -222,14 +222,11 @@ fn of_parts(a: Vec3, b: Vec3, c: Vec3, t: Vec3) -> Matrix
 fn do_stay(a: Vec3, b: Vec3, c: Vec3, t: Vec3) -> bool
     ensures { result ≡ matrix_eq (matrix_value a b c t) identity_value }
 {
-    is_at(a, 1, 0, 0) && is_at(b, 0, 1, 0) && is_at(c, 0, 0, 1) && is_at(t, 0, 0, 0)
-}
-
-// Whether a point has these coordinates.
-fn is_at(v: Vec3, x: i64, y: i64, z: i64) -> bool
-    ensures { result ≡ point_eq v (vec3 x y z) }
-{
-    v == (Vec3 { x, y, z })
+    let x = Vec3 { x: 1, y: 0, z: 0 };
+    let y = Vec3 { x: 0, y: 1, z: 0 };
+    let z = Vec3 { x: 0, y: 0, z: 1 };
+    let origin = Vec3 { x: 0, y: 0, z: 0 };
+    (a, b, c, t) == (x, y, z, origin)
 }
 
 // The determinant of the matrix with these rows.

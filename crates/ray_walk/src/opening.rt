@@ -1,11 +1,9 @@
 //! What is below a node of a scene, and what is found there.
 ghost use Rattle.std.specs.Prelude.{◌≡◌, ◌+◌, ◌<◌, ◌≤◌, IfSome, OnOk, None, length};
 ghost use Rattle.std.specs.List.{flat_map};
-ghost use Rattle.ray_geom.specs.ObjectRay.{object_of};
-ghost use Rattle.ray_geom.specs.Transform.{identity_value};
 ghost use Rattle.ray_nearest.specs.Adding.{AddsNodes, IsOpened};
 ghost use Rattle.ray_walk.specs.Scenes.{AddsWide, IsHeld, IsInWorld, IsKeeping, IsLookedAt};
-ghost use Rattle.ray_walk.specs.Traced.{items_at, tests};
+ghost use Rattle.ray_walk.specs.Traced.{tests};
 ghost use Rattle.ray_walk.specs.WideScene.{IsWideNode, narrow, wide_below, wide_roots, wide_scene};
 ghost use Rattle.ray_nearest.specs.declared.node.WalkNode.TheVariants.{Inner, TopInner, TopLeaf};
 ghost use Rattle.ray_walk.specs.declared.level.Level.TheVariants.{World, Object};

@@ -1,8 +1,10 @@
+use Rattle.std.proofs.Common.{rules}
+use Rattle.std.proofs.lemmas.List.{take_all}
 use Rattle.ray_geom.proofs.LeastBoxes.{IsLeastOf-points}
 use Rattle.ray_geom.proofs.box3.Box3.of_points.Goals as goal
 
 pub returns-clause-least : goal.returns-clause-least
-returns-clause-least c = (IsLeastOf-points c.args.points.now c.joined_points.result c.joined_points.ensures).0
+returns-clause-least c = (IsLeastOf-points c.args.points.now _ (search (rules, take_all))).0
 
 pub returns-clause-none : goal.returns-clause-none
-returns-clause-none c = (IsLeastOf-points c.args.points.now c.joined_points.result c.joined_points.ensures).1
+returns-clause-none c = (IsLeastOf-points c.args.points.now _ (search (rules, take_all))).1

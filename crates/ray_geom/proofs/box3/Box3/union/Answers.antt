@@ -12,5 +12,8 @@ invariant_of-result c =
     let limits : IsBox (union_of this that) = IsBox-union this that c.self.invariant c.other.invariant in
     search (rules, to_z-of_z)
 
+pub returns-clause-value : goal.returns-clause-value
+returns-clause-value c = search (rules, to_z-of_z)
+
 pub returns-clause-least : goal.returns-clause-least
 returns-clause-least c = IsLeast-is_union c.args.self.now c.args.other.now _ (search (rules, to_z-of_z))
