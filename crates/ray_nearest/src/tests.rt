@@ -1,7 +1,7 @@
 ghost use Rattle.std.specs.Prelude.{◌++◌, ◌≡◌, ◌+◌, ◌*◌, ◌<◌, ◌≤◌, OnOk};
 ghost use Rattle.std.specs.List.Sorted.{IsPermutation};
 ghost use Rattle.ray_nearest.specs.Turns.{turn_within};
-ghost use Rattle.ray_nearest.specs.declared.turn.Turn.TheVariants.{Candidate};
+ghost use Rattle.ray_nearest.specs.declared.turn.Turn.TheVariants.{Candidate as ACandidate};
 ghost use Rattle.ray_nearest.specs.Adding.{IsOpened};
 ghost use Rattle.ray_nearest.specs.Parts.{scene_of};
 ghost use Rattle.ray_nearest.specs.Small.{IsSmallNode, small_parts, small_tests};
@@ -84,7 +84,7 @@ const SECOND: WalkNode = WalkNode::Leaf {
 // Adds the turn of what was found, unless its distance is beyond the limit.
 fn push(turns: &mut Turns, limit: Option<Ratio>, found: &Found) -> Result<(), NoMemory>
     ensures { OnOk result
-        (IsPermutation (turn_within limit (Candidate found.now) ++ turns.old) turns.new) }
+        (IsPermutation (turn_within limit (ACandidate found.now) ++ turns.old) turns.new) }
 {
     turns.push_found(limit, RawFound::of(*found))
 }

@@ -23,8 +23,8 @@ returns-then-node-eq0-clause-opened g c =
     let near = c.args.near.now in
     let far = c.args.far.now in
     on_ok_weaker c.push.result
-    (λ moved. subst (λ n. IsOpened c.args.limit (scene_of (small_parts near far)) n c.args.turns.now c.push.new.self) (sym c.in-Leaf.is)
-    (opened_first near far c.args.turns.now c.push.new.self c.args.limit c.in-Leaf.instance c.in-Leaf.node c.if-node-eq0.true moved))
+    (λ moved. subst (λ n. IsOpened c.args.limit (scene_of (small_parts near far)) n c.args.turns.now c.push.new.turns) (sym c.in-Leaf.is)
+    (opened_first near far c.args.turns.now c.push.new.turns c.args.limit c.in-Leaf.instance c.in-Leaf.node c.if-node-eq0.true moved))
     c.push.ensures
 
 pub returns-else-node-eq0-clause-opened : goal.returns-else-node-eq0-clause-opened
@@ -32,6 +32,6 @@ returns-else-node-eq0-clause-opened g c =
     let near = c.args.near.now in
     let far = c.args.far.now in
     on_ok_weaker c.push-else-node-eq0.result
-    (λ moved. subst (λ n. IsOpened c.args.limit (scene_of (small_parts near far)) n c.args.turns.now c.push-else-node-eq0.new.self) (sym c.in-Leaf.is)
-    (opened_second near far c.args.turns.now c.push-else-node-eq0.new.self c.args.limit c.in-Leaf.instance c.in-Leaf.node c.if-node-eq0.false moved))
+    (λ moved. subst (λ n. IsOpened c.args.limit (scene_of (small_parts near far)) n c.args.turns.now c.push-else-node-eq0.new.turns) (sym c.in-Leaf.is)
+    (opened_second near far c.args.turns.now c.push-else-node-eq0.new.turns c.args.limit c.in-Leaf.instance c.in-Leaf.node c.if-node-eq0.false moved))
     c.push-else-node-eq0.ensures
