@@ -38,11 +38,6 @@ module _ (limit : Option Ratio) (old new : List Turn) where
       by true in_ p = (Candidate f ∷ [], inr refl, p)
       by false far p = ([], inl (refl, far), p)
 
--- a node was left out, since it isn't met within the limit
-pub left_node : (limit : Option Ratio) (entry : WalkNode → Option Ratio) (n : WalkNode) (turns : List Turn) → is_open limit (entry n) ≡ false
-    → AddsOne (AddsNode limit entry n) turns turns
-left_node limit entry n turns far = ([], inl (refl, far), IsPermutation-refl turns)
-
 -- ---- one after the other
 
 module _ {X : Type 0} (P : X → List Turn → Type 0) where

@@ -51,11 +51,6 @@ lt-turned Less p = absurd (cc)
 lt-turned Equal p = absurd (cc)
 lt-turned Greater p = refl
 
-pub le-from_lt : (r : Ordering) → is_lt r ≡ true → is_le r ≡ true
-le-from_lt Less p = refl
-le-from_lt Equal p = absurd (cc)
-le-from_lt Greater p = absurd (cc)
-
 not_gt : (r : Ordering) → is_le r ≡ true → is_gt r ≡ false
 not_gt Less p = refl
 not_gt Equal p = refl

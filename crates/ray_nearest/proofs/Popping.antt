@@ -84,10 +84,6 @@ next_without (Some w) given later xs ys e first same =
     subst (λ zs. IsFirst w zs) (sym same)
     (All-tail (λ z. is_lt (waiting_cmp w z) ≡ false) later xs (subst (λ o. IsFirst w (cons_option o xs)) e first))
 
-pub next_alone : (next given : Option Waiting) (xs : List Waiting) → given ≡ None
-    → IfSome next (λ w. IsFirst w (cons_option given xs)) → IfSome next (λ w. IsFirst w xs)
-next_alone next given xs e first = subst (λ o. IfSome next (λ w. IsFirst w (cons_option o xs))) e first
-
 -- what isn't below the greatest of a heap is a first one
 pub first_of_heap : (x a : Waiting) (xs : List Waiting) → is_lt (waiting_cmp x a) ≡ false → IsUpperBound waiting_cmp a xs → IsFirst x xs
 first_of_heap x a [] h bound = All-nil _

@@ -160,6 +160,8 @@ fn keeps_instances(rt: HostRuntime) -> Result<(), Fail> {
     assert!(rt; third.active && third.flags == InstanceFlags::FORCE_OPAQUE);
     assert!(rt; third.custom == 5 && third.mask == 2 && third.sbt == 7 && third.id == 3);
     assert!(rt; third.matrix.det() == -1);
+    assert!(rt; copy.active_instance(1).is_none() && copy.active_instance(3).is_none());
+    assert!(rt; copy.active_instance(2).expect(&rt, "lent").id == 3);
     Ok(())
 }
 

@@ -1,6 +1,6 @@
 -- The instances of top structures, and how a record of the buffer says one. (VkAccelerationStructureInstanceKHR, with whole
 -- numbers in its transform and a reference in place of a device address.)
-use Rattle.std.specs.Prelude.{ℕ, ℤ, ◌%◌, ◌&&◌, Bool, true, false, Option, Some, None, List}
+use Rattle.std.specs.Prelude.{ℕ, ℤ, ◌%◌, ◌&&◌, Bool, true, false, Option, Some, None, option_and_then, List, slice_get}
 use Rattle.ray_geom.specs.Transform.{MatrixValue, matrix_of, table_of, identity_value}
 use Rattle.ray_bytes.specs.declared.instance_record.InstanceRecord.{InstanceRecord}
 use Rattle.ray_flags.specs.declared.instance_flags.InstanceFlags.{InstanceFlags}
@@ -16,6 +16,10 @@ pub record InstanceValue : Type 0 where
   pub sbt : ℕ
   pub flags : InstanceFlags
   pub id : ℕ
+
+-- an active instance that is told, as a value
+abbrev pub instance_value : Instance → InstanceValue
+instance_value i = record { matrix = i.matrix; custom = i.custom; mask = i.mask; sbt = i.sbt; flags = i.flags; id = i.id }
 
 -- the transform of the twelve numbers of a record, row by row
 unfoldable pub matrix_from : List ℤ → MatrixValue
@@ -60,3 +64,7 @@ told_instance None = record {
   flags = record { 0 = 0 };
   id = 0;
 }
+
+-- the instance of a number, where it is active
+abbrev pub active_at : List (Option InstanceValue) → ℕ → Option InstanceValue
+active_at instances i = option_and_then (λ o. o) (slice_get instances i)

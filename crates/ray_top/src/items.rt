@@ -1,10 +1,9 @@
 //! The items of a top structure's tree: the boxes of its instances in the world.
-ghost use Rattle.std.specs.Prelude.{◌≡◌, IfSome, IfOk, map, Some, option_and_then};
+ghost use Rattle.std.specs.Prelude.{◌≡◌, IfOk, map, Some, option_and_then};
 ghost use Rattle.std.specs.List.{All};
 ghost use Rattle.ray_contents.specs.Bounds.{KeepsBounds};
 ghost use Rattle.ray_prune.specs.Pruning.{KeepsCorners};
 ghost use Rattle.ray_top.specs.Contents.{IsInstance, IsActive};
-ghost use Rattle.ray_top.specs.InstanceReading.{bounds_in};
 ghost use Rattle.ray_top.specs.Trees.{item_of, world_box};
 
 use crate::placed::Placed;
@@ -46,7 +45,7 @@ fn placed_box(used: &UsedIndex<'_>, placed: &Placed) -> Option<Box3>
     ensures { result ≡ item_of used.now (Some placed.now) }
 {
     match used.get(placed.id()) {
-        Some(bounds) => bounds_box(&placed.matrix(), bounds),
+        Some(bounds) => bounds_box(placed.matrix(), bounds),
         None => None,
     }
 }

@@ -8,43 +8,40 @@ use ray_flags::InstanceFlags;
 use ray_geom::Matrix;
 use std::marker::Model;
 
-/// An active instance in 64 bytes, with its transform as the twelve numbers of its record. Contracts
-/// see it as its value.
+/// An active instance as it is told, so that it can be lent. Contracts see it as its value.
 #[derive(Debug, Drop)]
 pub(crate) struct Placed {
-    rows: [i32; 12],
-    custom: u32,
-    sbt: u32,
-    id: u32,
-    mask: u8,
-    flags: InstanceFlags,
+    told: Instance,
 }
 
 impl Model for Placed {
-    ghost use Rattle.ray_geom.specs.Transform.{IsMatrix};
-    ghost use Rattle.ray_top.specs.Instances.{InstanceValue, matrix_from};
-    ghost use Rattle.ray_top.specs.Keeping.{instance_value};
+    ghost use Rattle.std.specs.Prelude.{◌≡◌, true};
+    ghost use Rattle.ray_top.specs.Instances.{InstanceValue, instance_value};
 
     ghost Value = { InstanceValue };
 
-    ghost view = { λ p. instance_value p.rows p.custom p.mask p.sbt p.flags p.id };
+    ghost view = { λ p. instance_value p.told };
 
-    ghost invariant = { λ p. IsMatrix (matrix_from p.rows) };
+    ghost invariant = { λ p. p.told.active ≡ true };
 }
 
 impl Placed {
     // The instance of a record, with the id to which it refers.
+    #[tactic(auto, unfolding(crate::specs::Instances::matrix_from))]
     pub(crate) fn new(from: &InstanceRecord, id: u32) -> Placed
         requires { IsMatrix (matrix_from from.now.rows) }
         ensures { result ≡ instance_from from.now id }
     {
         Placed {
-            rows: from.rows,
-            custom: from.custom,
-            sbt: from.sbt,
-            id,
-            mask: from.mask,
-            flags: InstanceFlags(from.flags % 16),
+            told: Instance {
+                active: true,
+                matrix: Matrix::of_words(from.rows),
+                custom: from.custom,
+                mask: from.mask,
+                sbt: from.sbt,
+                flags: InstanceFlags(from.flags % 16),
+                id,
+            },
         }
     }
 
@@ -52,44 +49,28 @@ impl Placed {
     pub(crate) fn copy(&self) -> Placed
         ensures { result ≡ self.now }
     {
-        Placed {
-            rows: self.rows,
-            custom: self.custom,
-            sbt: self.sbt,
-            id: self.id,
-            mask: self.mask,
-            flags: self.flags,
-        }
+        Placed { told: self.told }
     }
 
     // The instance as it is told.
-    fn told(&self) -> Instance
-        ensures { result ≡ told_instance (Some self.now) }
+    pub(crate) fn told(&self) -> &Instance
+        ensures { result.now ≡ told_instance (Some self.now) }
     {
-        Instance {
-            active: true,
-            matrix: self.matrix(),
-            custom: self.custom,
-            mask: self.mask,
-            sbt: self.sbt,
-            flags: self.flags,
-            id: self.id,
-        }
+        &self.told
     }
 
     // The id of its structure.
     pub(crate) fn id(&self) -> u32
         ensures { result ≡ self.now.id }
     {
-        self.id
+        self.told.id
     }
 
     // Its transform.
-    #[tactic(auto, unfolding(crate::specs::Instances::matrix_from))]
-    pub(crate) fn matrix(&self) -> Matrix
-        ensures { result ≡ self.now.matrix }
+    pub(crate) fn matrix(&self) -> &Matrix
+        ensures { result.now ≡ self.now.matrix }
     {
-        Matrix::of_words(self.rows)
+        &self.told.matrix
     }
 }
 
@@ -98,7 +79,7 @@ pub(crate) fn told(instance: &Option<Placed>) -> Instance
     ensures { result ≡ told_instance instance.now }
 {
     match instance {
-        Some(placed) => placed.told(),
+        Some(placed) => *placed.told(),
         None => inactive(),
     }
 }

@@ -1,5 +1,6 @@
-ghost use Rattle.std.specs.Prelude.{◌≡◌, ◌≤◌, ◌<◌, ◌^◌, IfOk, false, Some, None, length, option_map, option_copied, slice_get};
-ghost use Rattle.ray_top.specs.Instances.{told_instance};
+ghost use Rattle.std.specs.Prelude.{◌≡◌, ◌≤◌, ◌<◌, ◌^◌, IfOk, IfSome, false, true, Some, None};
+ghost use Rattle.std.specs.Prelude.{length, option_map, option_copied, slice_get};
+ghost use Rattle.ray_top.specs.Instances.{active_at, instance_value, told_instance};
 ghost use Rattle.ray_top.specs.InstanceReading.{instances_read};
 ghost use Rattle.ray_top.specs.Contents.{top_value, top_with, top_built, top_updated};
 ghost use Rattle.ray_top.specs.Contents.{active_of, has_both_fast, IsTop};
@@ -130,6 +131,19 @@ impl Top {
         match self.instances.as_slice().get(i as usize) {
             Some(instance) => Some(told(instance)),
             None => None,
+        }
+    }
+
+    /// An active instance by its number, where it stands. None exactly where the number is at least
+    /// `len`, or the instance is inactive.
+    pub fn active_instance(&self, i: u32) -> Option<&Instance>
+        ensures value { option_map instance_value (option_copied result)
+            ≡ active_at self.now.contents.instances i }
+        ensures active { IfSome (option_copied result) (λ i. i.active ≡ true) }
+    {
+        match self.instances.as_slice().get(i as usize) {
+            Some(Some(placed)) => Some(placed.told()),
+            _ => None,
         }
     }
 

@@ -1,5 +1,5 @@
 -- The fraction of the numbers of a fraction is that fraction.
-use Rattle.std.proofs.Common.{ℕ, ◌≡◌, ◌∙◌, refl, sym, ap, subst, Option, Some, None, option_map, IfSome}
+use Rattle.std.proofs.Common.{ℕ, ◌≡◌, refl, sym, ap, subst, Option, Some, None, option_map, IfSome}
 use Rattle.ray_geom.specs.declared.frac.Frac.{Frac}
 use Rattle.ray_geom.specs.Frac.{numerator, denominator}
 use Rattle.ray_geom.specs.Fraction.{IsSameValue}

@@ -9,13 +9,13 @@ use Rattle.ray_flags.specs.declared.instance_flags.InstanceFlags.{InstanceFlags}
 use Rattle.ray_geometries.specs.Contents.{ContentsValue as BottomContents, bounds_of}
 use Rattle.ray_top.specs.declared.instance.Instance.{Instance}
 use Rattle.ray_top.specs.declared.used.Used.{Used}
-use Rattle.ray_top.specs.Instances.{InstanceValue, forces_both}
+use Rattle.ray_top.specs.Instances.{InstanceValue, forces_both, instance_value}
 use Rattle.ray_top.specs.InstanceReading.{bounds_in, noted}
 use Rattle.ray_top.specs.Contents.{TopValue, IsTop, IsActive, IsInstance}
 use Rattle.ray_nearest.proofs.Orders.{Each, Each-from_All}
 use Rattle.ray_walk.specs.Candidates.{Structures, active_instance}
 use Rattle.ray_walk.specs.Standing.{IsStanding, AreStanding, IsHere}
-use Rattle.ray_walk.specs.Telling.{IsPlaceable, instance_of}
+use Rattle.ray_walk.specs.Telling.{IsPlaceable}
 
 -- what holds of all holds of one by its number
 pub All-at : {X : Type 0} (P : X → Type 0) (xs : List X) (n : ℕ) (x : X) → All P xs → slice_get xs n ≡ Some x → P x
@@ -61,11 +61,11 @@ active_at (Some None) i p = absurd (cc)
 active_at (Some (Some j)) i p = ap Some p
 
 pub placeable : (top : TopValue) (bottoms : Structures) (n : ℕ) (o : Option Instance) → IsTop top → AreStanding top bottoms
-    → option_map instance_of o ≡ active_instance top.contents n → IfSome o (λ i. IsPlaceable bottoms (instance_of i))
+    → option_map instance_value o ≡ active_instance top.contents n → IfSome o (λ i. IsPlaceable bottoms (instance_value i))
 placeable top bottoms n None limits standing told = tt
 placeable top bottoms n (Some i) limits standing told =
-    placeable_at top bottoms n (instance_of i) limits standing
-    (active_at (slice_get top.contents.instances n) (instance_of i) (sym told))
+    placeable_at top bottoms n (instance_value i) limits standing
+    (active_at (slice_get top.contents.instances n) (instance_value i) (sym told))
 
 -- ---- from the structures in use
 

@@ -1,6 +1,6 @@
 -- What the calls of a scene add to the turns that wait.
 use Rattle.std.proofs.Common.{ℕ, zero, suc, ◌≡◌, ◌+◌, ◌++◌, ◌<◌, ◌≤◌, Option, Some, None, List, [], ◌∷◌, length, map, take, drop, slice_index_or, refl, sym, ap, subst, ◌∙◌, inl, arith}
-use Rattle.std.specs.Prelude.{All, false, option_map, option_and_then, slice_get}
+use Rattle.std.specs.Prelude.{All, false, option_map, option_and_then}
 use Rattle.std.specs.List.{flat_map}
 use Rattle.std.proofs.lemmas.List.{append-nil, drop-map, length-map, take-map, take_more}
 use Rattle.std.proofs.lemmas.List.Concat.{flat_map-cons}
@@ -20,10 +20,7 @@ use Rattle.ray_tree.specs.Trees.{box_at}
 use Rattle.ray_wide.specs.declared.node.WideRef.{WideRef}
 use Rattle.ray_wide.specs.declared.node.WideRef.TheVariants as wides
 use Rattle.ray_wide.specs.Wides.{top_at}
-use Rattle.ray_geometries.specs.declared.geometry.Geometry.{Geometry}
-use Rattle.ray_bottom.specs.declared.prim_place.PrimPlace.{PrimPlace}
 use Rattle.ray_bottom.specs.Trees.{place_at, places_below, places_by}
-use Rattle.ray_query.specs.declared.found.Found.{Found}
 use Rattle.ray_nearest.specs.declared.node.WalkNode.{WalkNode}
 use Rattle.ray_nearest.specs.declared.node.WalkNode.TheVariants.{TopInner, TopLeaf, Inner, Leaf}
 use Rattle.ray_nearest.specs.declared.turn.Turn.{Turn}
@@ -34,10 +31,10 @@ use Rattle.ray_walk.specs.declared.level.Level.{Level}
 use Rattle.ray_walk.specs.declared.level.Level.TheVariants.{World, Object}
 use Rattle.ray_walk.specs.declared.trees.Trees.{Trees}
 use Rattle.ray_walk.specs.Aims.{AddsThrough, AreLeftOut, entry_by, entry_through}
-use Rattle.ray_walk.specs.Scenes.{AddsFoundAt, AddsWide, found_by, found_by_place}
+use Rattle.ray_walk.specs.Scenes.{AddsFoundAt, AddsWide}
 use Rattle.ray_walk.specs.WideScene.{child, inner_at, leaf_at, narrow, subtree_of, wide_below, wide_entry, wide_scene}
 use Rattle.ray_walk.proofs.LeftOut.{entry-inner, entry-leaf}
-use Rattle.ray_walk.specs.Traced.{Traced, Placement, entry, entry_in, entry_of_placement, finds, found_at_place, found_in_leaf, found_in_placed, items_at, items_by, no_box, placement_at, tests, tests_in_leaf}
+use Rattle.ray_walk.specs.Traced.{Traced, Placement, entry, entry_in, entry_of_placement, finds, found_at_place, found_in_leaf, items_at, items_by, no_box, placement_at, tests, tests_in_leaf}
 
 -- ---- entries
 
@@ -151,17 +148,6 @@ Adds-skip t limit cs d old now k (suc n) within out before =
     (left-out t limit old now (child t.level (slice_index_or cs (k + n) d)) (out (k + n) (omega arith) (omega arith)) now))
 
 -- ---- what is found
-
-pub pushed-found : (limit : Option Ratio) (f : Found) (old new : List Turn) → AddsOne (AddsFound limit f) old new → Adds (AddsFound limit) (f ∷ []) old new
-pushed-found limit f old new one = (new, one, IsPermutation-refl new)
-
--- what is found at a place, by the ray and its flags alone
-pub same-found : (s : Traced) (i : ℕ) (p : Placement) (place : PrimPlace) → found_by_place s.ray s.flags i p place ≡ found_at_place s i p place
-same-found s i p place = by (slice_get p.bottom.geometries place.geometry)
-  where
-    by : (o : Option Geometry) → found_by s.ray s.flags i p place o ≡ found_in_placed s i p place o
-    by None = refl
-    by (Some g) = refl
 
 -- the places of a leaf are those of its items
 leaf-places : (p : Placement) (node : Node) → places_by (map (place_at p.bottom.geometries) p.bottom.tree.order) node

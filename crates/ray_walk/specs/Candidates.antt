@@ -3,7 +3,7 @@
 -- ray with its flags and its cull mask. Nothing here knows of trees, or of an order in which things are looked at.
 -- (Vulkan, "Ray Traversal" and "Ray Intersection Candidate Determination"; own: the order of the candidates, and
 -- that distances are exact.)
-use Rattle.std.specs.Prelude.{ℕ, zero, suc, ◌==◌, ◌++◌, Bool, false, not, if◌then◌else◌, Option, Some, None, option_and_then, List, [], ◌∷◌, length, slice_get}
+use Rattle.std.specs.Prelude.{ℕ, zero, suc, ◌==◌, ◌++◌, Bool, false, not, if◌then◌else◌, Option, Some, None, List, [], ◌∷◌, length, slice_get}
 use Rattle.std.specs.Int.RustNames.{bit_and}
 use Rattle.ray_geom.specs.Scene.{RayValue}
 use Rattle.ray_geom.specs.Transform.{det_of}
@@ -16,7 +16,7 @@ use Rattle.ray_flags.specs.Admission.{opacity_of, shows_front, is_culled}
 use Rattle.ray_geometries.specs.declared.geometry.Geometry.{Geometry}
 use Rattle.ray_geometries.specs.Contents.{ContentsValue as BottomContents, count_of}
 use Rattle.ray_bottom.specs.Meeting.{MeetValue, Hit, Through, meet_of}
-use Rattle.ray_top.specs.Instances.{InstanceValue}
+use Rattle.ray_top.specs.Instances.{InstanceValue, active_at}
 use Rattle.ray_top.specs.Contents.{ContentsValue as TopContents}
 use Rattle.ray_query.specs.declared.candidate.Candidate.{Candidate}
 use Rattle.ray_query.specs.declared.commit.Commit.{Commit}
@@ -137,7 +137,7 @@ found_in_instance bottoms ray flags mask number (Some i) =
 
 -- the instance of a number, where it is active
 abbrev pub active_instance : TopContents → ℕ → Option InstanceValue
-active_instance top number = option_and_then (λ i. i) (slice_get top.instances number)
+active_instance top number = active_at top.instances number
 
 -- of all instances
 abbrev pub found_in : TopContents → Structures → RayValue → RayFlags → ℕ → List Found

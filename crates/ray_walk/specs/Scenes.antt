@@ -22,7 +22,7 @@ use Rattle.ray_walk.specs.declared.held.Held.{Held}
 use Rattle.ray_walk.specs.declared.held.Looked.{Looked}
 use Rattle.ray_walk.specs.Aims.{IsAimed}
 use Rattle.ray_walk.specs.WideScene.{wide_entry}
-use Rattle.ray_walk.specs.Telling.{instance_of}
+use Rattle.ray_top.specs.Instances.{instance_value}
 use Rattle.ray_walk.specs.Sound.{IsWalkable}
 use Rattle.ray_walk.specs.Traced.{Placement, Traced, found_at_place, placement_at}
 
@@ -50,7 +50,7 @@ met_at_place flags i p place meet = met_in flags i p place meet (slice_get p.bot
 
 -- an instance that is looked at, with its structure
 abbrev pub placement_value : Looked → Placement
-placement_value looked = record { instance = instance_of looked.instance; bottom = looked.bottom.now }
+placement_value looked = record { instance = instance_value looked.instance.now; bottom = looked.bottom.now }
 
 -- ---- what a scene of the program keeps
 
@@ -63,7 +63,7 @@ pub record IsInWorld (s : Traced) (world : Aim) : Type 0 where
 -- an instance of a number that is looked at: it is placed, and the ray is in its object's space
 pub record IsLookedAt (s : Traced) (number : ℕ) (looked : Looked) (aim : Aim) : Type 0 where
   pub placed : placement_at s number ≡ Some (placement_value looked)
-  pub ray_is : aim.ray ≡ object_of s.ray looked.instance.matrix
+  pub ray_is : aim.ray ≡ object_of s.ray looked.instance.now.matrix
   pub aimed : IsAimed aim
   pub recent : IfSome aim.recent (IsWideLeaf looked.bottom.now.tree.nodes)
 

@@ -10,18 +10,13 @@ use Rattle.ray_geometries.specs.Contents.{ContentsValue as BottomContents, bound
 use Rattle.ray_query.specs.declared.found.Found.{Found}
 use Rattle.ray_query.specs.declared.raw_found.RawFound.{RawFound}
 use Rattle.ray_query.specs.Raw.{reduced_found}
-use Rattle.ray_top.specs.declared.instance.Instance.{Instance}
-use Rattle.ray_top.specs.Instances.{InstanceValue}
+use Rattle.ray_top.specs.Instances.{InstanceValue, instance_value}
 use Rattle.ray_walk.specs.declared.placed.Placed.{Placed as PlacedHere}
 use Rattle.ray_walk.specs.Candidates.{Placed, Structures}
 
--- the instance that is told, where it is active
-abbrev pub instance_of : Instance → InstanceValue
-instance_of i = record { matrix = i.matrix; custom = i.custom; mask = i.mask; sbt = i.sbt; flags = i.flags; id = i.id }
-
 -- a placed geometry of the program as a value
 abbrev pub placed_value : PlacedHere → Placed
-placed_value at = record { number = at.number; instance = instance_of at.instance.now; geometry = at.geometry; opaque = at.opaque }
+placed_value at = record { number = at.number; instance = instance_value at.instance.now; geometry = at.geometry; opaque = at.opaque }
 
 -- an instance may be placed: its flags agree, and its transform keeps the bounds of the structure that stands under its id
 pub record IsPlaceable (bottoms : Structures) (i : InstanceValue) : Type 0 where

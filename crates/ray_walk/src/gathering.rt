@@ -1,15 +1,16 @@
 ghost use Rattle.std.specs.Prelude.{◌≡◌, ◌≤◌, ◌<◌, ◌++◌, IfSome, OnOk, IfOk, Some};
-ghost use Rattle.std.specs.Prelude.{length, option_map, slice_get};
+ghost use Rattle.std.specs.Prelude.{length, option_copied, option_map, slice_get};
 ghost use Rattle.std.specs.Option.{option_to_list};
 ghost use Rattle.ray_contents.specs.Bounds.{KeepsBounds};
 ghost use Rattle.ray_flags.specs.Admission.{AsksBoth, ForcesBoth};
 ghost use Rattle.ray_geometries.specs.Contents.{bounds_of};
 ghost use Rattle.ray_bottom.specs.Trees as bottom_trees;
 ghost use Rattle.ray_top.specs.Trees.{without_tree};
-ghost use Rattle.ray_walk.specs.Candidates.{active_instance, found_at, found_in, found_in_geometry};
+ghost use Rattle.ray_walk.specs.Candidates.{found_at, found_in, found_in_geometry};
 ghost use Rattle.ray_walk.specs.Candidates.{found_in_instance, found_in_structure, joined};
 ghost use Rattle.ray_walk.specs.Standing.{AreStanding, structures_in};
-ghost use Rattle.ray_walk.specs.Telling.{IsPlaceable, instance_of, placed_value};
+ghost use Rattle.ray_walk.specs.Telling.{IsPlaceable, placed_value};
+ghost use Rattle.ray_top.specs.Instances.{instance_value};
 
 use crate::finding::find;
 use crate::placed::Placed;
@@ -39,7 +40,7 @@ pub(crate) fn gather<L: Ledger>(
 {
     let mut found = Vec::new(alloc);
     for number in 0..top.len() {
-        let instance = active(top, number);
+        let instance = top.active_instance(number);
         add_instance(
             &mut found, bottoms, number, instance, ray, flags, mask, steps,
         )?;
@@ -47,35 +48,23 @@ pub(crate) fn gather<L: Ledger>(
     Ok(found)
 }
 
-// The instance of a number, where it is active.
-pub(crate) fn active(top: &Top, number: u32) -> Option<Instance>
-    ensures { option_map instance_of result ≡ active_instance top.now.contents number }
-{
-    let instance = top.instance(number)?;
-    if instance.active {
-        Some(instance)
-    } else {
-        None
-    }
-}
-
 // Adds what the ray finds of an instance, if it is active and its mask is seen.
 fn add_instance<L: Ledger>(
     found: &mut Vec<Found>,
     bottoms: &Bottoms,
     number: u32,
-    instance: Option<Instance>,
+    instance: Option<&Instance>,
     ray: &Ray,
     flags: RayFlags,
     mask: u8,
     steps: &mut Steps<L>,
 ) -> Result<(), NoMemory>
-    requires placeable { IfSome instance (λ i.
-        IsPlaceable (structures_in bottoms.now) (instance_of i)) }
+    requires placeable { IfSome (option_copied instance) (λ i.
+        IsPlaceable (structures_in bottoms.now) (instance_value i)) }
     requires flags_agree { ¬ AsksBoth flags }
     ensures value { OnOk result (found.new.items ≡ found.old.items
         ++ found_in_instance (structures_in bottoms.now) ray.now flags mask number
-        (option_map instance_of instance)) }
+        (option_map instance_value (option_copied instance.entry))) }
     ensures rising { steps.old ≤ steps.new }
 {
     let Some(instance) = instance else {
@@ -87,7 +76,7 @@ fn add_instance<L: Ledger>(
     let Some(bottom) = bottoms.get(instance.id) else {
         return Ok(());
     };
-    add_structure(found, bottom, number, &instance, ray, flags, steps)
+    add_structure(found, bottom, number, instance, ray, flags, steps)
 }
 
 // Adds what the ray finds of the structure of an instance.
@@ -104,7 +93,7 @@ fn add_structure<L: Ledger>(
     requires instance_agrees { ¬ ForcesBoth instance.now.flags }
     requires flags_agree { ¬ AsksBoth flags }
     ensures value { OnOk result (found.new.items ≡ found.old.items
-        ++ found_in_structure ray.now flags number (instance_of instance.now)
+        ++ found_in_structure ray.now flags number (instance_value instance.now)
         (Some (bottom_trees.without_tree bottom.now))) }
     ensures rising { steps.old ≤ steps.new }
 {
@@ -131,7 +120,7 @@ fn add_geometry<L: Ledger>(
     requires flags_agree { ¬ AsksBoth flags }
     ensures value { OnOk result (found.new.items ≡ found.old.items
         ++ found_in_geometry ray.now flags bottom.now.geometries number
-        (instance_of instance.now) geometry (slice_get bottom.now.geometries geometry)) }
+        (instance_value instance.now) geometry (slice_get bottom.now.geometries geometry)) }
     ensures rising { steps.old ≤ steps.new }
 {
     let opaque = effective(bottom.opaque(geometry), instance.flags, flags);

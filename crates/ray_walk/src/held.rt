@@ -1,21 +1,20 @@
 //! The instance at which a walk looked last, kept for the nodes that come next.
 ghost use Rattle.std.specs.Prelude.{◌≡◌, option_map, IfSome};
 ghost use Rattle.ray_walk.specs.Scenes.{IsHeld, IsHolding, is_of, placement_value};
-ghost use Rattle.ray_walk.specs.Telling.{instance_of};
+ghost use Rattle.ray_top.specs.Instances.{instance_value};
 ghost use Rattle.ray_walk.specs.Traced.{placement_at, placement_of};
 
 use crate::aim::Aim;
-use crate::gathering::active;
 use crate::view::View;
 use ray_bottom::{Bottom, Bottoms};
 use ray_geom::object_ray;
 use ray_top::Instance;
 
 /// An instance that is looked at, with the bottom structure that it places in the world.
-#[derive(Drop)]
+#[derive(Clone, Copy)]
 pub(crate) struct Looked<'a> {
     /// The instance, which is active, and whose mask is seen.
-    pub(crate) instance: Instance,
+    pub(crate) instance: &'a Instance,
     /// The structure that stands under its id.
     pub(crate) bottom: &'a Bottom,
 }
@@ -83,14 +82,14 @@ fn held_for<'a>(view: &View<'a>, i: u32) -> Option<Held<'a>>
 fn looked_at<'a>(view: &View<'a>, i: u32) -> Option<Looked<'a>>
     ensures { option_map placement_value result ≡ placement_at view.now i }
 {
-    let instance = active(view.top(), i)?;
+    let instance = view.top().active_instance(i)?;
     look(view.bottoms(), view.mask(), instance)
 }
 
 // The same of an instance that is active.
-fn look<'a>(bottoms: &'a Bottoms, mask: u8, instance: Instance) -> Option<Looked<'a>>
+fn look<'a>(bottoms: &'a Bottoms, mask: u8, instance: &'a Instance) -> Option<Looked<'a>>
     ensures { option_map placement_value result
-        ≡ placement_of bottoms.now mask (instance_of instance) }
+        ≡ placement_of bottoms.now mask (instance_value instance.now) }
 {
     if instance.mask & mask == 0 {
         return None;

@@ -89,7 +89,7 @@ fn add_items<L: Ledger>(
 ) -> Result<(), NoMemory>
     requires is_it { placement_at view.now i ≡ Some (placement_value looked.now) }
     requires window { window.now ≡ window_of
-        (object_of view.now.ray looked.now.instance.matrix) limit }
+        (object_of view.now.ray looked.now.instance.now.matrix) limit }
     requires places { map place_of_item items.now ≡ places_below looked.now.bottom.now _n }
     requires held { All (IsItemOf looked.now.bottom.now.geometries) items.now }
     ensures found { OnOk result (AddsFoundAt limit view.now i (placement_value looked.now)
@@ -118,7 +118,7 @@ fn add_item<L: Ledger>(
 ) -> Result<(), NoMemory>
     requires is_it { placement_at view.now i ≡ Some (placement_value looked.now) }
     requires window { window.now ≡ window_of
-        (object_of view.now.ray looked.now.instance.matrix) limit }
+        (object_of view.now.ray looked.now.instance.now.matrix) limit }
     requires held { IsItemOf looked.now.bottom.now.geometries item.now }
     ensures added { OnOk result (Adds (AddsFound limit)
         (found_at_place view.now i (placement_value looked.now) item.now.place)
@@ -162,9 +162,9 @@ fn find_in<L: Ledger>(
     steps: &mut Steps<L>,
 ) -> Option<RawFound>
     requires held { IsItemOf looked.now.bottom.now.geometries item.now }
-    requires kept { KeepsBounds looked.now.instance.matrix
+    requires kept { KeepsBounds looked.now.instance.now.matrix
         (bounds_of looked.now.bottom.now.geometries) }
-    requires instance_agrees { ¬ ForcesBoth looked.now.instance.flags }
+    requires instance_agrees { ¬ ForcesBoth looked.now.instance.now.flags }
     requires flags_agree { ¬ AsksBoth flags }
     ensures value { found_raw result ≡ found_by_place ray.now flags i
         (placement_value looked.now) item.now.place }
@@ -184,7 +184,7 @@ fn find_met(
     meet: RawMeet,
     flags: RayFlags,
 ) -> Option<RawFound>
-    requires instance_agrees { ¬ ForcesBoth looked.now.instance.flags }
+    requires instance_agrees { ¬ ForcesBoth looked.now.instance.now.flags }
     requires flags_agree { ¬ AsksBoth flags }
     ensures { found_raw result ≡ met_at_place flags i (placement_value looked.now) place
         (Some (raw_meet_value meet)) }
@@ -199,7 +199,7 @@ fn find_met(
     );
     let at = Placed {
         number: i,
-        instance: &looked.instance,
+        instance: looked.instance,
         geometry: place.geometry,
         opaque,
     };

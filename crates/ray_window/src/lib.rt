@@ -10,6 +10,7 @@
 //! It stands on `ray_lanes`, `ray_prune` and `ray_geom`. No call takes memory.
 #![tactic(auto)]
 
+mod line;
 mod quotients;
 mod side;
 mod window;

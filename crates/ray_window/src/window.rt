@@ -1,17 +1,18 @@
-ghost use Rattle.std.specs.Prelude.{◌≡◌, ◌≢◌, ◌<◌, unsigned_abs, ◌+ℤ◌, ◌-ℤ◌, ◌*ℤ◌, ℕ, pos, Option};
-ghost use Rattle.std.specs.Int.{w128};
-ghost use Rattle.std.specs.Int.RustNames.{FitsSigned};
+ghost use Rattle.std.specs.Prelude.{◌≡◌, ◌<◌, ◌^◌, ℕ, Option};
+ghost use Rattle.std.specs.Prelude.{pos, unsigned_abs, neg_ℤ, ◌+ℤ◌, ◌*ℤ◌};
 ghost use Rattle.ray_geom.specs.declared.ratio.Ratio.{Ratio};
 ghost use Rattle.ray_geom.specs.Ratio.{earlier_of};
+ghost use Rattle.ray_geom.specs.Vector.{IsShort};
 ghost use Rattle.ray_prune.specs.BoxSpan.{IsInside};
 ghost use Rattle.ray_lanes.specs.Padding.{IsNear};
-ghost use Rattle.ray_window.specs.Lines.{IsLine, AreLines, SumFits};
-ghost use Rattle.ray_window.specs.Windows.{floor_of, ceiling_of, moved, turned};
-ghost use Rattle.ray_window.specs.Windows.{spot_of, below_at, above_at, begins_at, ends_at};
+ghost use Rattle.ray_window.specs.Lines.{IsLine, AreLines, SumFits, turned_point};
+ghost use Rattle.ray_window.specs.Windows.{floor_of, ceiling_of, moved};
+ghost use Rattle.ray_window.specs.Windows.{below_at, above_at, begins_at, ends_at};
 ghost use Rattle.ray_window.specs.Windows.{last_of, window_to, window_of};
 ghost use Rattle.ray_window.specs.Meets.{IsUpTo, Meets};
 
-use crate::quotients::rounded;
+use crate::line::Line;
+use crate::quotients::{rounded, rounded_whole};
 use crate::side::Side;
 use ray_geom::{Box3, ObjectRay, Ratio, Vec3};
 use ray_lanes::Window;
@@ -51,11 +52,59 @@ fn earlier(a: Ratio, b: Ratio) -> Ratio
 }
 
 // The window from tmin to the distance n / d.
-#[tactic(auto, unfolding(crate::specs::Windows::window_to))]
 fn window_to(det: i64, origin: Vec3, dir: Vec3, tmin: u64, n: u64, d: u64) -> Window
     requires lines { AreLines det origin dir }
     requires den { 0 < d }
     ensures { result ≡ window_to det origin dir tmin n d }
+{
+    let line = upright(det, origin, dir);
+    window_along(line.det, line.origin, line.dir, tmin, n, d)
+}
+
+// The line of a ray with a determinant above 0. Where it is negative all are turned at once, which
+// is seldom.
+fn upright(det: i64, origin: Vec3, dir: Vec3) -> Line
+    requires { AreLines det origin dir }
+    ensures det { result.det ≡ unsigned_abs det }
+    ensures origin { result.origin ≡ turned_point det origin }
+    ensures dir { result.dir ≡ turned_point det dir }
+{
+    let size = det.unsigned_abs();
+    if det < 0 {
+        Line {
+            det: size,
+            origin: opposite(origin),
+            dir: opposite(dir),
+        }
+    } else {
+        Line {
+            det: size,
+            origin,
+            dir,
+        }
+    }
+}
+
+// The point on the other side of 0.
+fn opposite(v: Vec3) -> Vec3
+    requires { IsShort (2 ^ 62) v }
+    ensures x { result.x ≡ neg_ℤ v.x }
+    ensures y { result.y ≡ neg_ℤ v.y }
+    ensures z { result.z ≡ neg_ℤ v.z }
+{
+    Vec3 {
+        x: -v.x,
+        y: -v.y,
+        z: -v.z,
+    }
+}
+
+// The window from tmin to the distance n / d, for a determinant above 0.
+#[tactic(auto, unfolding(crate::specs::Windows::window_to))]
+fn window_along(det: u64, origin: Vec3, dir: Vec3, tmin: u64, n: u64, d: u64) -> Window
+    requires lines { AreLines (pos det) origin dir }
+    requires den { 0 < d }
+    ensures { result ≡ window_to (pos det) origin dir tmin n d }
 {
     let x = side_of(det, origin.x, dir.x, tmin, n, d);
     let y = side_of(det, origin.y, dir.y, tmin, n, d);
@@ -68,11 +117,12 @@ fn window_to(det: i64, origin: Vec3, dir: Vec3, tmin: u64, n: u64, d: u64) -> Wi
 
 // On one axis, from where to where a window goes. Where the ray doesn't move along the axis that is
 // where it begins.
-fn side_of(det: i64, o: i64, m: i64, tmin: u64, n: u64, d: u64) -> Side
-    requires line { IsLine det o m }
+#[inline(always)]
+fn side_of(det: u64, o: i64, m: i64, tmin: u64, n: u64, d: u64) -> Side
+    requires line { IsLine (pos det) o m }
     requires den { 0 < d }
-    ensures lo { result.lo ≡ begins_at det o m tmin n d }
-    ensures hi { result.hi ≡ ends_at det o m tmin n d }
+    ensures lo { result.lo ≡ begins_at (pos det) o m tmin n d }
+    ensures hi { result.hi ≡ ends_at (pos det) o m tmin n d }
 {
     if m == 0 {
         return start(det, o);
@@ -87,64 +137,56 @@ fn side_of(det: i64, o: i64, m: i64, tmin: u64, n: u64, d: u64) -> Side
 
 // On one axis, where the ray is at tmin, rounded down and up. At 0 the fraction over the
 // determinant alone has the same value and takes less.
-fn first_side(det: i64, o: i64, m: i64, tmin: u64) -> Side
-    requires { IsLine det o m }
-    ensures lo { result.lo ≡ below_at det o m tmin 65536 }
-    ensures hi { result.hi ≡ above_at det o m tmin 65536 }
+fn first_side(det: u64, o: i64, m: i64, tmin: u64) -> Side
+    requires { IsLine (pos det) o m }
+    ensures lo { result.lo ≡ below_at (pos det) o m tmin 65536 }
+    ensures hi { result.hi ≡ above_at (pos det) o m tmin 65536 }
 {
     if tmin == 0 {
         start(det, o)
     } else {
-        side_at(det, o, m, tmin, 65536)
+        later_side(det, o, m, tmin)
     }
 }
 
-// On one axis, where the ray begins, rounded down and up.
-fn start(det: i64, o: i64) -> Side
-    requires { det ≢ pos 0 }
-    ensures lo { result.lo ≡ moved (floor_of (turned det o) (unsigned_abs det)) }
-    ensures hi { result.hi ≡ moved (ceiling_of (turned det o) (unsigned_abs det)) }
+// The same where tmin is not 0, which is seldom.
+#[inline(never)]
+fn later_side(det: u64, o: i64, m: i64, tmin: u64) -> Side
+    requires { IsLine (pos det) o m }
+    ensures lo { result.lo ≡ below_at (pos det) o m tmin 65536 }
+    ensures hi { result.hi ≡ above_at (pos det) o m tmin 65536 }
 {
-    rounded(turned(det, i128::from(o)), u128::from(det.unsigned_abs()))
+    side_at(det, o, m, tmin, 65536)
+}
+
+// On one axis, where the ray begins, rounded down and up.
+fn start(det: u64, o: i64) -> Side
+    requires { 0 < det }
+    ensures lo { result.lo ≡ moved (floor_of o det) }
+    ensures hi { result.hi ≡ moved (ceiling_of o det) }
+{
+    rounded_whole(o, det)
 }
 
 // On one axis, where the ray is at the distance n / d, rounded down and up.
-#[tactic(auto, unfolding(crate::specs::Windows::below_at, crate::specs::Windows::above_at))]
-fn side_at(det: i64, o: i64, m: i64, n: u64, d: u64) -> Side
-    requires line { IsLine det o m }
+#[tactic(auto, unfolding(crate::specs::Windows::spot_of, crate::specs::Windows::below_at, crate::specs::Windows::above_at))]
+#[inline(always)]
+fn side_at(det: u64, o: i64, m: i64, n: u64, d: u64) -> Side
+    requires line { IsLine (pos det) o m }
     requires den { 0 < d }
-    ensures lo { result.lo ≡ below_at det o m n d }
-    ensures hi { result.hi ≡ above_at det o m n d }
+    ensures lo { result.lo ≡ below_at (pos det) o m n d }
+    ensures hi { result.hi ≡ above_at (pos det) o m n d }
 {
-    let size = det.unsigned_abs() as u128 * d as u128;
-    rounded(spot(det, o, m, n, d), size)
-}
-
-// On one axis, where the ray is at the distance n / d, times |det| d.
-#[tactic(auto, unfolding(crate::specs::Windows::spot_of))]
-fn spot(det: i64, o: i64, m: i64, n: u64, d: u64) -> i128
-    requires { IsLine det o m }
-    ensures { result ≡ spot_of det o m n d }
-{
-    let (o, m) = (i128::from(o), i128::from(m));
-    turned(det, sum(o, m, i128::from(n), i128::from(d)))
+    let spot = sum(i128::from(o), i128::from(m), i128::from(n), i128::from(d));
+    rounded(spot, u128::from(det) * u128::from(d))
 }
 
 // o d + n m.
 fn sum(o: i128, m: i128, n: i128, d: i128) -> i128
     requires { SumFits o m n d }
-    ensures value { result ≡ (o *ℤ d) +ℤ (n *ℤ m) }
-    ensures opposite { FitsSigned w128 (pos 0 -ℤ result) }
+    ensures { result ≡ (o *ℤ d) +ℤ (n *ℤ m) }
 {
     o * d + n * m
-}
-
-// A number, or its opposite where det is negative.
-fn turned(det: i64, p: i128) -> i128
-    requires { FitsSigned w128 (pos 0 -ℤ p) }
-    ensures { result ≡ turned det p }
-{
-    if det < 0 { -p } else { p }
 }
 
 /// The law of windows: a box in which the ray is at a distance up to the limit is met by the window

@@ -1,18 +1,27 @@
-use Rattle.std.proofs.Common.{rules, ◌≡◌, [], ◌∷◌, to_z, of_z, w32, to_z-of_z}
-use Rattle.ray_window.specs.Windows.{begins_at, ends_at, window_to}
+use Rattle.std.proofs.Common.{rules, ◌≡◌, ◌∙◌, sym, subst, ap, unsigned_abs, pos, to_z, of_z, w64, to_z-of_z}
+use Rattle.ray_window.specs.Lines.{AreLines, turned_point}
+use Rattle.ray_window.specs.Windows.{window_to}
+use Rattle.ray_window.proofs.Turned.{AreLines-turned, window_to-turned}
 use Rattle.ray_window.proofs.window.window_to.Goals as goal
 
+pub window_along-requires-clause-lines : goal.window_along-requires-clause-lines
+window_along-requires-clause-lines c =
+    let a = c.args in
+    let line = c.upright-line.ensures in
+    let same : to_z w64 (of_z w64 a.det) ≡ a.det = search (rules, to_z-of_z) in
+    let det = line.det ∙ ap unsigned_abs same in
+    let origin = line.origin ∙ ap (λ t. turned_point t a.origin) same in
+    let dir = line.dir ∙ ap (λ t. turned_point t a.dir) same in
+    subst (λ p. p) (λ i. AreLines (pos (sym det i)) (sym origin i) (sym dir i))
+    (AreLines-turned a.det a.origin a.dir c.requires.lines)
+
 pub returns : goal.returns
-unfolding window_to
 returns c =
     let a = c.args in
-    let x = c.side_of-x.result in
-    let y = c.side_of-y.result in
-    let z = c.side_of-z.result in
-    let x_lo : to_z w32 (of_z w32 x.lo) ≡ begins_at a.det a.origin.x a.dir.x a.tmin a.n a.d = search (rules, to_z-of_z) in
-    let y_lo : to_z w32 (of_z w32 y.lo) ≡ begins_at a.det a.origin.y a.dir.y a.tmin a.n a.d = search (rules, to_z-of_z) in
-    let z_lo : to_z w32 (of_z w32 z.lo) ≡ begins_at a.det a.origin.z a.dir.z a.tmin a.n a.d = search (rules, to_z-of_z) in
-    let x_hi : to_z w32 (of_z w32 x.hi) ≡ ends_at a.det a.origin.x a.dir.x a.tmin a.n a.d = search (rules, to_z-of_z) in
-    let y_hi : to_z w32 (of_z w32 y.hi) ≡ ends_at a.det a.origin.y a.dir.y a.tmin a.n a.d = search (rules, to_z-of_z) in
-    let z_hi : to_z w32 (of_z w32 z.hi) ≡ ends_at a.det a.origin.z a.dir.z a.tmin a.n a.d = search (rules, to_z-of_z) in
-    λ i. record { lo = x_lo i ∷ y_lo i ∷ z_lo i ∷ []; hi = x_hi i ∷ y_hi i ∷ z_hi i ∷ [] }
+    let line = c.upright-line.ensures in
+    let same : to_z w64 (of_z w64 a.det) ≡ a.det = search (rules, to_z-of_z) in
+    let det = line.det ∙ ap unsigned_abs same in
+    let origin = line.origin ∙ ap (λ t. turned_point t a.origin) same in
+    let dir = line.dir ∙ ap (λ t. turned_point t a.dir) same in
+    c.window_along.ensures
+    ∙ ((λ i. window_to (pos (det i)) (origin i) (dir i) a.tmin a.n a.d) ∙ window_to-turned a.det a.origin a.dir a.tmin a.n a.d)
