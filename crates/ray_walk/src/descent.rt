@@ -29,8 +29,9 @@ pub(crate) struct Met {
 }
 
 /// The wide node to which one leads: as long as the window of the ray up to the limit overlaps the
-/// lane of one child alone, and that is a wide node, it is the child. No turn is taken for those
-/// that are passed by, and no box is tested exactly.
+/// lane of one child alone, and that is a wide node, it is the child; the way ends, too, at a node
+/// whose middle child is a leaf. No turn is taken for those that are passed by, and no box is tested
+/// exactly.
 pub(crate) fn descend(trees: &Trees<'_, '_>, window: &Window, w: u32, _limit: Option<Ratio>) -> Down
     requires trees { AreTrees trees.now.tree.now trees.now.wide.now }
     requires window { window.now ≡ window_of trees.now.ray.now _limit }
@@ -63,10 +64,15 @@ fn met_in(trees: &Trees<'_, '_>, window: &Window, w: u32) -> Met
     }
 }
 
-// The child whose bit is set, where no other is and it is a wide node.
+// The child whose bit is set, where no other is and it is a wide node. None is looked for where the
+// child in the middle is a leaf, since then nearly all of them are. That one is read beside the
+// lanes, so that the line of memory in which most children stand comes beside theirs.
 fn only_child(children: &[WideRef; 8], met: u8) -> Option<u32>
     ensures { IfSome result (IsAlone children.now met) }
 {
+    if let WideRef::Leaf(_) = children[4] {
+        return None;
+    }
     let k = next_bit(met, 0);
     if k == 8 || next_bit(met, k + 1) < 8 {
         return None;
