@@ -2,7 +2,8 @@
 //! `bench/run` can say how the proved program's speed compares on the machine where both run: the
 //! same field, the same rays, the same exact tests, a tree of eight boxes a node over leaves of up
 //! to four triangles, and a walk nearest first. It knows no instances, transforms, flags, masks or
-//! clients, which the proved program looks at for each ray. It prints the same line.
+//! clients, which the proved program looks at for each ray. It prints the same line. A third word is
+//! the number of cells a side, 256 where there is none.
 
 mod exact;
 mod field;
@@ -12,13 +13,14 @@ use std::collections::BinaryHeap;
 
 fn main() {
     let words: Vec<String> = std::env::args().skip(1).collect();
-    let times: u32 = match words.as_slice() {
-        [work, times] if work == "traces" => times.parse().expect("a number"),
-        _ => panic!("the words are: traces N"),
+    let (times, side): (u32, i32) = match words.as_slice() {
+        [work, times] if work == "traces" => (number(times), 256),
+        [work, times, side] if work == "traces" => (number(times), number(side)),
+        _ => panic!("the words are: traces N [SIDE]"),
     };
-    let scene = field::field(256);
+    let scene = field::field(side);
     let mut turns = BinaryHeap::new();
-    let (rays, width) = (16384, 2056);
+    let (rays, width) = (16384, 8 * i64::from(side) + 8);
     let mut hits = 0;
     for _ in 0..times {
         hits = 0;
@@ -38,4 +40,8 @@ fn main() {
         }
     }
     println!("traces {times} rays {rays} hits {hits}");
+}
+
+fn number<N: std::str::FromStr>(word: &str) -> N {
+    word.parse().ok().expect("a number")
 }
