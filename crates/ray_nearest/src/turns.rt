@@ -1,5 +1,5 @@
-ghost use Rattle.std.specs.Prelude.{◌≡◌, ◌++◌, ◌∷◌, [], IfSome, IsTrue, OnOk, option_map};
-ghost use Rattle.std.specs.BinaryHeap.{IsHeap, heap_items};
+ghost use Rattle.std.specs.Prelude.{◌≡◌, ◌++◌, ◌∷◌, [], IfNone, IfSome, IsTrue, OnOk, option_map};
+ghost use Rattle.std.specs.BinaryHeap.{IsHeap, IsUpperBound, heap_items};
 ghost use Rattle.std.specs.List.{cons_option};
 ghost use Rattle.std.specs.List.Sorted.{IsPermutation};
 ghost use Rattle.std.specs.Ordering.{is_lt};
@@ -115,7 +115,7 @@ impl Turns {
         match self.next.take() {
             Some(next) => Some(next),
             None => {
-                let first = self.heap.pop()?;
+                let first = first_of(&mut self.heap)?;
                 Some(first)
             }
         }
@@ -127,6 +127,21 @@ impl Turns {
     {
         let _refused = self.spare.push(found);
     }
+}
+
+// Takes a turn of a heap before which none of its others comes, if there is one. That is seldom, since
+// most turns are known before, and stands apart, so that the next one is taken with few registers.
+#[inline(never)]
+fn first_of(heap: &mut BinaryHeap<Waiting>) -> Option<Waiting>
+    requires heap { IsHeap waiting_cmp (heap_items heap.old) }
+    ensures permutation { IfSome result
+        (λ w. IsPermutation (heap_items heap.old) (w ∷ heap_items heap.new)) }
+    ensures first { IfSome result (λ w. IsUpperBound waiting_cmp w (heap_items heap.new)) }
+    ensures none { IfNone result (heap_items heap.old ≡ []) }
+    ensures heap { IsHeap waiting_cmp (heap_items heap.new) }
+{
+    let first = heap.pop()?;
+    Some(first)
 }
 
 // Makes a turn the next one, if it comes before all others. Gives the one that belongs into the

@@ -41,3 +41,4 @@ pub mod BoxLimits
 pub mod LeftOut
 pub mod Pushing
 mod Bits
+pub mod Together

@@ -47,7 +47,17 @@ fn hold_another<'a>(view: &View<'a>, held: &mut Option<Held<'a>>, i: u32)
     requires { IfSome held.old (IsHeld view.now) }
     ensures { IsHolding view.now i held.new }
 {
-    *held = held_for(view, i);
+    match looked_at(view, i) {
+        Some(looked) => {
+            let ray = object_ray(view.ray(), &looked.instance.matrix);
+            *held = Some(Held {
+                number: i,
+                looked,
+                aim: Aim::new(ray),
+            });
+        }
+        None => *held = None,
+    }
 }
 
 // Whether the instance that is held is that of a number.
@@ -57,23 +67,6 @@ fn is_of(held: &Option<Held<'_>>, i: u32) -> bool
     match held {
         Some(h) => h.number == i,
         None => false,
-    }
-}
-
-// The instance of a number, with the ray in its object's space.
-fn held_for<'a>(view: &View<'a>, i: u32) -> Option<Held<'a>>
-    ensures { IsHolding view.now i result }
-{
-    match looked_at(view, i) {
-        Some(looked) => {
-            let ray = object_ray(view.ray(), &looked.instance.matrix);
-            Some(Held {
-                number: i,
-                looked,
-                aim: Aim::new(ray),
-            })
-        }
-        None => None,
     }
 }
 

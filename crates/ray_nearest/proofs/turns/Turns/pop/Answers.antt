@@ -10,5 +10,5 @@ returns-in-Some c =
 
 pub returns-in_ok-first-in-None : goal.returns-in_ok-first-in-None
 returns-in_ok-first-in-None c =
-    popped c.in_ok-first-in-None.first c.self.inside.next c.take.new.self (heap_items c.self.inside.heap) (heap_items c.pop.new.self) c.args.self.now
-    (sym c.take.ensures.value ∙ c.in-None.is) c.take.ensures.after c.in_ok-first-in-None.ensures.permutation (c.in_ok-first-in-None.ensures.below_top c.self.invariant.0) c.self.view_is
+    popped c.in_ok-first-in-None.first c.self.inside.next c.take.new.self (heap_items c.self.inside.heap) (heap_items c.first_of.new.heap) c.args.self.now
+    (sym c.take.ensures.value ∙ c.in-None.is) c.take.ensures.after c.in_ok-first-in-None.ensures.permutation c.in_ok-first-in-None.ensures.first c.self.view_is

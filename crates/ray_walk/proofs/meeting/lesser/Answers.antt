@@ -1,6 +1,0 @@
-use Rattle.std.proofs.Common.{rules}
-use Rattle.std.proofs.lemmas.Int.{to_z-of_z}
-use Rattle.ray_walk.proofs.meeting.lesser.Goals as goal
-
-pub returns : goal.returns
-returns c = search (rules, to_z-of_z)
