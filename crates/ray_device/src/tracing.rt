@@ -49,7 +49,7 @@ fn hits<L: Ledger>(
         flags mask rays.now first count) }
     ensures rising { steps.old ≤ steps.new }
 {
-    let mut out = Vec::new(alloc);
+    let mut out = Vec::with_capacity(alloc, HitRecord::SIZE * count as usize)?;
     let mut turns = Turns::new(alloc);
     for k in 0..count {
         let ray = ray(rays, k);
