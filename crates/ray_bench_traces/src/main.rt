@@ -32,6 +32,7 @@ mod tally;
 use crate::bench_error::BenchError;
 use crate::chooser::Unasked;
 use crate::random::compare;
+use crate::scene::Scene;
 use crate::size::Size;
 use crate::tally::Tally;
 use ray_walk::Turns;
@@ -97,12 +98,23 @@ fn report_traces<R: AllocGlobal + Print + Threads + Sync>(
 ) -> Result<(), BenchError> {
     let scene = field::scene(rt, size)?;
     let mut turns = Turns::new(rt.alloc());
+    trace_in(rt, &scene, &mut turns, size, times)
+}
+
+// Traces the rays of a size through a scene, and prints the same.
+fn trace_in<R: AllocGlobal + Print>(
+    rt: &R,
+    scene: &Scene,
+    turns: &mut Turns,
+    size: Size,
+    times: u32,
+) -> Result<(), BenchError> {
     let mut hits: u32 = 0;
     for _ in 0..times {
         hits = 0;
         for r in 0..size.rays() {
             if let Some(sent) = field::sent(size, r)
-                && scene.walked(&sent, &Unasked {}, &mut turns)?.is_some()
+                && scene.walked(&sent, &Unasked {}, turns)?.is_some()
             {
                 hits = hits.saturating_add(1);
             }
@@ -120,10 +132,20 @@ fn report_both<R: AllocGlobal + Print + Threads + Sync>(
 ) -> Result<(), BenchError> {
     let scene = field::scene(rt, size)?;
     let mut turns = Turns::new(rt.alloc());
+    both_in(rt, &scene, &mut turns, size)
+}
+
+// Traces the first rays of a size through a scene by both traces, and prints the same.
+fn both_in<R: AllocGlobal + Print>(
+    rt: &R,
+    scene: &Scene,
+    turns: &mut Turns,
+    size: Size,
+) -> Result<(), BenchError> {
     let mut tally = Tally::new();
     for r in 0..64 {
         if let Some(sent) = field::sent(size, r) {
-            let walked = scene.walked(&sent, &Unasked {}, &mut turns)?;
+            let walked = scene.walked(&sent, &Unasked {}, turns)?;
             let plain = scene.plainly(rt.alloc(), &sent, &Unasked {})?;
             tally.add(walked == plain, plain.is_some());
         }

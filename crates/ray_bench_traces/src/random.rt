@@ -25,12 +25,25 @@ pub(crate) fn compare<R: AllocGlobal + Print + Threads + Sync>(
     let mut numbers = Numbers::new(seed);
     let scene = scene(rt, &mut numbers)?;
     let client = chooser(&mut numbers);
+    compare_in(rt, seed, &scene, &client, &mut numbers, turns, tally)
+}
+
+// Sends random rays through a scene, and does the same.
+fn compare_in<R: AllocGlobal + Print>(
+    rt: &R,
+    seed: u64,
+    scene: &Scene,
+    client: &Chooser,
+    numbers: &mut Numbers,
+    turns: &mut Turns,
+    tally: &mut Tally,
+) -> Result<(), BenchError> {
     for r in 0..RAYS {
-        let Some(sent) = sent(&mut numbers) else {
+        let Some(sent) = sent(numbers) else {
             continue;
         };
-        let walked = scene.walked(&sent, &client, turns)?;
-        let plain = scene.plainly(rt.alloc(), &sent, &client)?;
+        let walked = scene.walked(&sent, client, turns)?;
+        let plain = scene.plainly(rt.alloc(), &sent, client)?;
         tally.add(walked == plain, plain.is_some());
         if walked != plain {
             println!(rt; "seed {seed} ray {r}: {walked:?} by the walk, {plain:?} plainly")?;

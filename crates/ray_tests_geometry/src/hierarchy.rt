@@ -5,7 +5,11 @@ use ray_geom::{Box3, Vec3};
 use ray_hierarchy::Hierarchy;
 use ray_tree::Tree;
 use std::alloc::AllocError;
+use std::process::Abort;
 use std::thread::Threads;
+
+// Those of a build that may be updated.
+const FLAGS: BuildFlags = BuildFlags(2);
 
 // The box from (x, 0, 0) to (x, 1, 1).
 fn flat_box(x: u8) -> Option<Box3> {
@@ -36,7 +40,6 @@ fn updated<R: AllocGlobal + Threads + Sync>(
 // The last of five boxes moves to the front, and then becomes inactive.
 #[test]
 fn refits_and_builds_anew(rt: HostRuntime) -> Result<(), AllocError> {
-    let flags = BuildFlags(2);
     let olds = [
         flat_box(4),
         flat_box(5),
@@ -44,6 +47,16 @@ fn refits_and_builds_anew(rt: HostRuntime) -> Result<(), AllocError> {
         flat_box(7),
         flat_box(8),
     ];
+    let old = Hierarchy::build(&rt, rt.alloc(), FLAGS, &olds)?;
+    refits(&rt, &old)?;
+    builds_anew(&rt, &old)
+}
+
+// The first of these, from old trees.
+fn refits<R: Abort + AllocGlobal + Threads + Sync>(
+    rt: &R,
+    old: &Hierarchy,
+) -> Result<(), AllocError> {
     let moved = [
         flat_box(4),
         flat_box(5),
@@ -51,13 +64,21 @@ fn refits_and_builds_anew(rt: HostRuntime) -> Result<(), AllocError> {
         flat_box(7),
         flat_box(0),
     ];
+    let refit = updated(rt, old, FLAGS, &moved)?;
+    assert!(*rt; old.has_activity(&moved));
+    assert!(*rt; refit.order() == old.order() && refit.tree().is_tree_over(&moved));
+    assert!(*rt; greatest(refit.tree()) == Some(7) && refit.tree().nodes() == 3);
+    Ok(())
+}
+
+// The second of these.
+fn builds_anew<R: Abort + AllocGlobal + Threads + Sync>(
+    rt: &R,
+    old: &Hierarchy,
+) -> Result<(), AllocError> {
     let gone = [flat_box(4), flat_box(5), flat_box(6), flat_box(7), None];
-    let old = Hierarchy::build(&rt, rt.alloc(), flags, &olds)?;
-    let refit = updated(&rt, &old, flags, &moved)?;
-    let anew = updated(&rt, &old, flags, &gone)?;
-    assert!(rt; old.has_activity(&moved) && !old.has_activity(&gone));
-    assert!(rt; refit.order() == old.order() && refit.tree().is_tree_over(&moved));
-    assert!(rt; greatest(refit.tree()) == Some(7) && refit.tree().nodes() == 3);
-    assert!(rt; anew.order().len() == 4 && anew.tree().is_tree_over(&gone));
+    let anew = updated(rt, old, FLAGS, &gone)?;
+    assert!(*rt; !old.has_activity(&gone));
+    assert!(*rt; anew.order().len() == 4 && anew.tree().is_tree_over(&gone));
     Ok(())
 }

@@ -5,6 +5,7 @@ use ray_primitives::{
     BoxInfo, IndexValues, KeptBox, KeptTriangle, TriangleInfo, are_boxes, are_triangles,
     boxes_of_bytes, read_boxes, read_triangles, triangles_of_bytes,
 };
+use std::alloc::{AllocError, Global};
 use std::test::Fail;
 
 const fn at(x: i64, y: i64, z: i64) -> Vec3 {
@@ -51,21 +52,29 @@ fn reads_triangles(rt: HostRuntime) -> Result<(), Fail> {
     Ok(())
 }
 
+// The indices of the two triangles that are stored.
+const VALUES: IndexValues = IndexValues {
+    first: 7,
+    second: 8,
+    third: 65535,
+};
+
+// The bytes of a triangle, and of an inactive one behind it.
+fn two_stored(alloc: Global, active: &KeptTriangle) -> Result<Vec<u8>, AllocError> {
+    let mut bytes = Vec::new(alloc);
+    bytes.extend_from_slice(&active.bytes())?;
+    bytes.extend_from_slice(&KeptTriangle::inactive(VALUES).bytes())?;
+    Ok(bytes)
+}
+
 // A triangle, and an inactive one, stored one after the other.
 #[test]
 fn stores_triangles(rt: HostRuntime) -> Result<(), Fail> {
-    let values = IndexValues {
-        first: 7,
-        second: 8,
-        third: 65535,
-    };
     let a = point_within(at(-1, 0, 0)).expect(&rt, "a");
     let b = point_within(at(4, 0, 0)).expect(&rt, "b");
     let c = point_within(at(0, 4, 0)).expect(&rt, "c");
-    let active = KeptTriangle::active(a, b, c, values);
-    let mut bytes = vec![in rt.alloc(); 0u8; 0]?;
-    bytes.extend_from_slice(&active.bytes())?;
-    bytes.extend_from_slice(&KeptTriangle::inactive(values).bytes())?;
+    let active = KeptTriangle::active(a, b, c, VALUES);
+    let bytes = two_stored(rt.alloc(), &active)?;
     assert!(rt; bytes.len() == 96);
     assert!(rt; bytes[..8] == [255, 255, 255, 255, 0, 0, 0, 0][..]);
     assert!(rt; bytes[48..52] == [0, 0, 0, 128][..] && bytes[84..88] == [7, 0, 0, 0][..]);
@@ -75,7 +84,7 @@ fn stores_triangles(rt: HostRuntime) -> Result<(), Fail> {
         return Ok(assert!(rt; false, "two triangles"));
     };
     assert!(rt; first.tri() == active.tri() && !second.is_active());
-    assert!(rt; first.indices().is_same(values) && second.indices().is_same(values));
+    assert!(rt; first.indices().is_same(VALUES) && second.indices().is_same(VALUES));
     Ok(())
 }
 

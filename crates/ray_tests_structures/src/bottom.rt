@@ -9,6 +9,7 @@ use ray_flags::{BuildFlags, Kind};
 use ray_geom::{Box3, Matrix, Ray, Steps, Vec3};
 use std::alloc::{AllocError, Global};
 use std::marker::Brand;
+use std::process::Abort;
 use std::test::Fail;
 use std::thread::Threads;
 
@@ -167,12 +168,17 @@ fn moves_triangles(rt: HostRuntime) {
 #[test]
 fn updates_triangles(rt: HostRuntime) -> Result<(), Fail> {
     let old = built(&rt, None, &[0, 1, 2], &[], 1, 4)?;
-    let same = built(&rt, Some(&old), &[0, 1, 2], &[], 1, 4)?;
-    assert!(rt; same.flags().0 == 2 && corners(same.bounds()) == LOW);
-    let inactive = told(built(&rt, Some(&old), &[4, 1, 2], &[], 1, 4));
-    assert!(rt; inactive == (None, Some((DataRule::X9, Some(0)))));
-    let others = told(built(&rt, Some(&old), &[0, 2, 1], &[], 1, 4));
-    assert!(rt; others == (None, Some((DataRule::X10, Some(0)))));
+    updates_from(&rt, &old)
+}
+
+// The same, from this structure.
+fn updates_from<R: Abort + AllocGlobal + Threads + Sync>(rt: &R, old: &Bottom) -> Result<(), Fail> {
+    let same = built(rt, Some(old), &[0, 1, 2], &[], 1, 4)?;
+    assert!(*rt; same.flags().0 == 2 && corners(same.bounds()) == LOW);
+    let inactive = told(built(rt, Some(old), &[4, 1, 2], &[], 1, 4));
+    assert!(*rt; inactive == (None, Some((DataRule::X9, Some(0)))));
+    let others = told(built(rt, Some(old), &[0, 2, 1], &[], 1, 4));
+    assert!(*rt; others == (None, Some((DataRule::X10, Some(0)))));
     Ok(())
 }
 
@@ -206,7 +212,7 @@ fn meet(bottom: &Bottom, primitive: u32, m: &Matrix) -> Option<Meet> {
     bottom.test_prim(place, &ray, m, &mut steps)
 }
 
-// A box and an inactive one; one beyond the limits; and one whose minimum is above its maximum.
+// A box and an inactive one.
 #[test]
 fn builds_and_meets_boxes(rt: HostRuntime) -> Result<(), Fail> {
     let bottom = boxed(&rt, &[0, 0, 0, 4, 4, 4, -2147483648, 0, 0, 0, 0, 0], 2)?;
@@ -214,31 +220,54 @@ fn builds_and_meets_boxes(rt: HostRuntime) -> Result<(), Fail> {
         (bottom.geometries(), bottom.total(), bottom.active()),
         (1, 2, 1)
     );
-    assert_eq!(rt; bottom.compact(rt.alloc())?.compacted_size(), 512);
+    meets_boxes(&rt, &bottom)
+}
+
+// What a ray meets of them, and the size of what is compacted.
+fn meets_boxes<R: Abort + AllocGlobal>(rt: &R, bottom: &Bottom) -> Result<(), Fail> {
+    assert_eq!(*rt; bottom.compact(rt.alloc())?.compacted_size(), 512);
     let m = Matrix::identity();
-    let Some(Meet::Aabb(span)) = meet(&bottom, 0, &m) else {
-        return Ok(assert!(rt; false, "a box"));
+    let Some(Meet::Aabb(span)) = meet(bottom, 0, &m) else {
+        return Ok(assert!(*rt; false, "a box"));
     };
-    assert!(rt; span.entry.lowest() == (6, 1) && span.exit.lowest() == (10, 1));
-    assert!(rt; meet(&bottom, 1, &m).is_none() && meet(&bottom, 2, &m).is_none());
+    assert!(*rt; span.entry.lowest() == (6, 1) && span.exit.lowest() == (10, 1));
+    assert!(*rt; meet(bottom, 1, &m).is_none() && meet(bottom, 2, &m).is_none());
+    Ok(())
+}
+
+// A box beyond the limits, and one whose minimum is above its maximum.
+#[test]
+fn refuses_boxes(rt: HostRuntime) {
     let beyond = told(boxed(&rt, &[0, 0, 0, 0, 0, 524_289], 1));
     assert!(rt; beyond == (None, Some((DataRule::X2, Some(0)))));
     let turned = told(boxed(&rt, &[0, 5, 0, 0, 4, 0], 1));
     assert!(rt; turned == (None, Some((DataRule::X4, Some(0)))));
-    Ok(())
+}
+
+// A copy of the structure of a triangle.
+fn copied<R: AllocGlobal + Threads + Sync>(rt: &R) -> Result<Bottom, BuildFault> {
+    let bottom = built(rt, None, &[0, 1, 2], &[], 1, 4)?;
+    let copy = bottom.copy(rt.alloc());
+    drop(bottom);
+    Ok(copy?)
 }
 
 // The triangle of the recording, met in the world of a mirrored instance.
 #[test]
 fn meets_triangles(rt: HostRuntime) -> Result<(), Fail> {
-    let bottom = built(&rt, None, &[0, 1, 2], &[], 1, 4)?.copy(rt.alloc())?;
-    let mirrored = Matrix::from_words([-4, 0, 0, 8, 0, 4, 0, 0, 0, 0, 4, 0]).expect(&rt, "m");
-    let Some(Meet::Tri(hit)) = meet(&bottom, 0, &mirrored) else {
-        return Ok(assert!(rt; false, "a triangle"));
-    };
-    assert!(rt; hit.t.lowest() == (10, 1) && hit.u.lowest() == (7, 16));
-    assert!(rt; !hit.den_negative && hit.v.lowest() == (1, 16));
+    let bottom = copied(&rt)?;
+    meets_mirrored(&rt, &bottom);
     Ok(())
+}
+
+// The same, of this structure.
+fn meets_mirrored<R: Abort>(rt: &R, bottom: &Bottom) {
+    let mirrored = Matrix::from_words([-4, 0, 0, 8, 0, 4, 0, 0, 0, 0, 4, 0]).expect(rt, "m");
+    let Some(Meet::Tri(hit)) = meet(bottom, 0, &mirrored) else {
+        return assert!(*rt; false, "a triangle");
+    };
+    assert!(*rt; hit.t.lowest() == (10, 1) && hit.u.lowest() == (7, 16));
+    assert!(*rt; !hit.den_negative && hit.v.lowest() == (1, 16));
 }
 
 // A structure of one stored geometry of a triangle.
@@ -261,11 +290,18 @@ fn restored<R: AllocGlobal + Threads + Sync>(
     builder.finish(rt)
 }
 
+// The payload of the structure of a triangle.
+fn payload<R: AllocGlobal + Threads + Sync>(rt: &R) -> Result<Vec<u8>, BuildFault> {
+    let bottom = built(rt, None, &[0, 1, 2], &[], 1, 4)?;
+    let mut steps: Steps<Brand> = Steps::zero();
+    let payload = bottom.payload(rt.alloc(), &mut steps);
+    drop(bottom);
+    Ok(payload?)
+}
+
 #[test]
 fn stores_triangles(rt: HostRuntime) -> Result<(), Fail> {
-    let bottom = built(&rt, None, &[0, 1, 2], &[], 1, 4)?;
-    let mut steps: Steps<Brand> = Steps::zero();
-    let payload = bottom.payload(rt.alloc(), &mut steps)?;
+    let payload = payload(&rt)?;
     let want = bytes_of(
         rt.alloc(),
         &[
@@ -273,6 +309,11 @@ fn stores_triangles(rt: HostRuntime) -> Result<(), Fail> {
         ],
     )?;
     assert!(rt; payload.as_slice() == want.as_slice());
+    Ok(())
+}
+
+#[test]
+fn restores_triangles(rt: HostRuntime) -> Result<(), Fail> {
     let triangle = bytes_of(rt.alloc(), &[0, 0, 0, 4, 0, 0, 0, 4, 0, 0, 1, 2])?;
     let again = restored(&rt, triangle.as_slice())?;
     assert!(rt; again.geometries() == 1 && corners(again.bounds()) == LOW);

@@ -94,12 +94,19 @@ fn triangle<R: AllocGlobal + Threads + Sync>(rt: &R) -> Result<Bottom, BuildFaul
     Ok(builder.finish(rt)?)
 }
 
+// The form of the triangle's structure, and the size that is told of it.
+fn written<R: AllocGlobal + Threads + Sync>(rt: &R) -> Result<(Vec<u8>, u64), BuildFault> {
+    let bottom = triangle(rt)?;
+    let size = serialized_size(&bottom);
+    let bytes = serialize(rt.alloc(), &bottom);
+    drop(bottom);
+    Ok((bytes?, size))
+}
+
 #[test]
 fn writes_the_triangle(rt: HostRuntime) -> Result<(), Fail> {
-    let bottom = triangle(&rt)?;
-    let bytes = serialize(rt.alloc(), &bottom)?;
-    assert!(rt; bytes.as_slice() == form(rt.alloc())?.as_slice());
-    assert!(rt; serialized_size(&bottom) == 152);
+    let (bytes, size) = written(&rt)?;
+    assert!(rt; bytes.as_slice() == form(rt.alloc())?.as_slice() && size == 152);
     Ok(())
 }
 
@@ -220,12 +227,21 @@ fn top_form(alloc: Global, handle: u64) -> Result<Vec<u8>, AllocError> {
     Ok(bytes)
 }
 
+// The form of the instance's structure, with the size and the number of handles that are told of it.
+fn written_top<R: AllocGlobal + Threads + Sync>(rt: &R) -> Result<(Vec<u8>, u64, u32), BuildFault> {
+    let top = instance(rt)?;
+    let size = serialized_size_top(&top);
+    let handles = handle_count(&top);
+    let bytes = serialize_top(rt.alloc(), &top);
+    drop(top);
+    Ok((bytes?, size, handles))
+}
+
 #[test]
 fn writes_the_instance(rt: HostRuntime) -> Result<(), Fail> {
-    let top = instance(&rt)?;
-    let bytes = serialize_top(rt.alloc(), &top)?;
+    let (bytes, size, handles) = written_top(&rt)?;
+    assert!(rt; size == 176 && handles == 1);
     assert!(rt; bytes.as_slice() == top_form(rt.alloc(), 256)?.as_slice());
-    assert!(rt; serialized_size_top(&top) == 176 && handle_count(&top) == 1);
     match SerialView::open(bytes.as_slice()) {
         Ok(view) => {
             assert!(rt; view.is_top() && view.deserialized() == 512);

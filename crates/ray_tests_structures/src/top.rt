@@ -3,6 +3,7 @@ use ray_flags::{BuildFlags, InstanceFlags};
 use ray_geom::{Box3, Matrix, Vec3};
 use ray_top::{BuildFault, Top, Used};
 use std::alloc::{AllocError, Global};
+use std::process::Abort;
 use std::test::Fail;
 use std::thread::Threads;
 
@@ -155,7 +156,20 @@ fn keeps_instances(rt: HostRuntime) -> Result<(), Fail> {
     assert!(rt; top.instance(3).is_none());
     let second = top.instance(1).expect(&rt, "second");
     assert!(rt; !second.active && second.matrix == Matrix::identity());
-    let copy = top.copy(rt.alloc())?;
+    Ok(())
+}
+
+// A copy of the structure of these instances.
+fn copied<R: AllocGlobal + Threads + Sync>(rt: &R) -> Result<Top, BuildFault> {
+    let top = built(rt, &THREE, 3)?;
+    let copy = top.copy(rt.alloc());
+    drop(top);
+    Ok(copy?)
+}
+
+#[test]
+fn copies_instances(rt: HostRuntime) -> Result<(), Fail> {
+    let copy = copied(&rt)?;
     let third = copy.instance(2).expect(&rt, "third");
     assert!(rt; third.active && third.flags == InstanceFlags::FORCE_OPAQUE);
     assert!(rt; third.custom == 5 && third.mask == 2 && third.sbt == 7 && third.id == 3);
@@ -165,16 +179,26 @@ fn keeps_instances(rt: HostRuntime) -> Result<(), Fail> {
     Ok(())
 }
 
-// An update that moves an instance, one that makes it inactive, and a structure without instances.
+// An update that moves an instance, and one that makes it inactive.
 #[test]
 fn updates_instances(rt: HostRuntime) -> Result<(), Fail> {
     let old = built(&rt, &THREE, 1)?;
+    updates_from(&rt, &old)
+}
+
+// The same, from this structure.
+fn updates_from<R: Abort + AllocGlobal + Threads + Sync>(rt: &R, old: &Top) -> Result<(), Fail> {
     let moved = [2, 0, 0, 2, 0, 1, 0, 0, 0, 0, 1, 0, WORD, 0, 1536, 0];
-    let next = updated(&rt, &old, &moved)?;
-    let first = next.instance(0).expect(&rt, "first");
-    assert!(rt; first.id == 5 && first.matrix.det() == 2);
-    let inactive = told(updated(&rt, &old, &[0; 16]));
-    assert!(rt; inactive == Some((DataRule::X9, Some(0))));
+    let next = updated(rt, old, &moved)?;
+    let first = next.instance(0).expect(rt, "first");
+    assert!(*rt; first.id == 5 && first.matrix.det() == 2);
+    let inactive = told(updated(rt, old, &[0; 16]));
+    assert!(*rt; inactive == Some((DataRule::X9, Some(0))));
+    Ok(())
+}
+
+#[test]
+fn may_have_no_instance(rt: HostRuntime) -> Result<(), Fail> {
     let empty = built(&rt, &[], 0)?;
     assert!(rt; empty.len() == 0 && empty.active() == 0);
     Ok(())

@@ -20,6 +20,7 @@ use ray_walk::{
 };
 use std::alloc::{AllocError, Global};
 use std::marker::Brand;
+use std::process::Abort;
 use std::test::Fail;
 use std::thread::Threads;
 
@@ -181,6 +182,21 @@ fn told(commit: Option<Commit>) -> Told {
     ))
 }
 
+// What it commits in a scene of opaque triangles that is made for it alone.
+fn traced_in<R: AllocGlobal + Threads + Sync>(
+    rt: &R,
+    words: &[i32],
+    count: u8,
+    origin: Vec3,
+    flags: RayFlags,
+    mask: u8,
+) -> Result<Told, BuildFault> {
+    let placed = scene(rt, triangles(rt, true, &ONE, 1)?, words, count)?;
+    let told = traced(rt, &placed, origin, flags, mask, &IGNORE);
+    drop(placed);
+    Ok(told?)
+}
+
 // What a walk through the trees commits, for a ray from a point along (0,0,-1) with no flags.
 fn walked<R: AllocGlobal, C: Client>(
     rt: &R,
@@ -238,15 +254,13 @@ fn faces_of_a_mirrored_triangle(rt: HostRuntime) -> Result<(), Fail> {
     ];
     let origin = Vec3 { x: -4, y: 4, z: 20 };
     for (name, flags, bits, front) in cases {
-        let bottom = triangles(&rt, true, &ONE, 1)?;
         let words = [-4, 0, 0, 0, 0, 4, 0, 0, 0, 0, 4, 0, M1, bits << 24, 1024, 0];
-        let placed = scene(&rt, bottom, &words, 1)?;
         let want = match front {
             Some(front) => Some((0, 0, front, (20, 1))),
             None => None,
         };
         assert!(rt;
-            traced(&rt, &placed, origin, flags, 255, &IGNORE)? == want,
+            traced_in(&rt, &words, 1, origin, flags, 255)? == want,
             "{name}"
         );
     }
@@ -265,14 +279,12 @@ fn ties_between_instances(rt: HostRuntime) -> Result<(), Fail> {
         ("all masked", 1024, 1, M1, 2, None),
     ];
     for (name, reference, height, word, mask, want) in cases {
-        let bottom = triangles(&rt, true, &ONE, 1)?;
         let words = [
             1, 0, 0, 0, 0, 1, 0, 0, 0, 0, 1, 0, M1, 0, reference, 0, //
             1, 0, 0, 0, 0, 1, 0, 0, 0, 0, 1, height, word, 0, 1024, 0,
         ];
-        let placed = scene(&rt, bottom, &words, 2)?;
         assert!(rt;
-            traced(&rt, &placed, ABOVE, RayFlags(0), mask, &IGNORE)? == want,
+            traced_in(&rt, &words, 2, ABOVE, RayFlags(0), mask)? == want,
             "{name}"
         );
     }
@@ -285,7 +297,15 @@ const PLAIN: [i32; 16] = [1, 0, 0, 0, 0, 1, 0, 0, 0, 0, 1, 0, M1, 0, 1024, 0];
 // A box that is entered at 6 and left at 10, by each way to generate it.
 #[test]
 fn generates_a_box(rt: HostRuntime) -> Result<(), Fail> {
-    let five = Frac::new(5, 1).expect(&rt, "five");
+    let placed = scene(&rt, one_box(&rt, &[0, 0, 0, 4, 4, 4])?, &PLAIN, 1)?;
+    generates_by_each(&rt, &placed)
+}
+
+// The same, in this scene.
+fn generates_by_each<R: Abort + AllocGlobal>(rt: &R, placed: &(Top, Bottoms)) -> Result<(), Fail>
+    requires { AreStanding (without_tree placed.now.0) (structures_in placed.now.1) }
+{
+    let five = Frac::new(5, 1).expect(rt, "five");
     let cases: [(&str, Decision, Told); 4] = [
         (
             "entry",
@@ -296,13 +316,11 @@ fn generates_a_box(rt: HostRuntime) -> Result<(), Fail> {
         ("before it", Decision::GenerateAt(five), None),
         ("confirmed", Decision::Confirm, None),
     ];
-    let bottom = one_box(&rt, &[0, 0, 0, 4, 4, 4])?;
-    let placed = scene(&rt, bottom, &PLAIN, 1)?;
     let origin = Vec3 { x: 1, y: 1, z: 10 };
     for (name, decision, want) in cases {
         let client = Always { decision };
-        assert!(rt;
-            traced(&rt, &placed, origin, RayFlags(0), 1, &client)? == want,
+        assert!(*rt;
+            traced(rt, placed, origin, RayFlags(0), 1, &client)? == want,
             "{name}"
         );
     }
@@ -332,24 +350,30 @@ fn traced_by_second<R: AllocGlobal>(rt: &R, placed: &(Top, Bottoms)) -> Result<T
 // Three triangles above each other that aren't opaque.
 #[test]
 fn asks_about_triangles(rt: HostRuntime) -> Result<(), Fail> {
-    let bottom = triangles(&rt, false, &THREE, 3)?;
-    let placed = scene(&rt, bottom, &PLAIN, 1)?;
+    let placed = scene(&rt, triangles(&rt, false, &THREE, 3)?, &PLAIN, 1)?;
+    asks_about_three(&rt, &placed)
+}
+
+// The same, in this scene.
+fn asks_about_three<R: Abort + AllocGlobal>(rt: &R, placed: &(Top, Bottoms)) -> Result<(), Fail>
+    requires { AreStanding (without_tree placed.now.0) (structures_in placed.now.1) }
+{
     let highest = Some((0, 2, true, (3, 1)));
     let first = RayFlags::TERMINATE_ON_FIRST_HIT;
-    assert!(rt;
-        traced(&rt, &placed, ABOVE, first, 1, &CONFIRM)? == highest,
+    assert!(*rt;
+        traced(rt, placed, ABOVE, first, 1, &CONFIRM)? == highest,
         "first"
     );
-    assert!(rt;
-        traced(&rt, &placed, ABOVE, RayFlags(0), 1, &IGNORE)? == None,
+    assert!(*rt;
+        traced(rt, placed, ABOVE, RayFlags(0), 1, &IGNORE)? == None,
         "ignored"
     );
-    assert!(rt;
-        traced(&rt, &placed, ABOVE, RayFlags::OPAQUE, 1, &IGNORE)? == highest,
+    assert!(*rt;
+        traced(rt, placed, ABOVE, RayFlags::OPAQUE, 1, &IGNORE)? == highest,
         "opaque"
     );
     let middle = Some((0, 1, true, (4, 1)));
-    assert!(rt; traced_by_second(&rt, &placed)? == middle, "second offer");
+    assert!(*rt; traced_by_second(rt, placed)? == middle, "second offer");
     Ok(())
 }
 
@@ -358,22 +382,28 @@ fn asks_about_triangles(rt: HostRuntime) -> Result<(), Fail> {
 #[test]
 fn a_made_up_cell(rt: HostRuntime) -> Result<(), Fail> {
     let words = [0, 0, 0, 8, 0, 5, 8, 8, 1, 0, 0, 0, 8, 8, 1, 0, 8, 3];
+    let placed = scene(&rt, triangles(&rt, false, &words, 2)?, &PLAIN, 1)?;
+    meets_the_cell(&rt, &placed)
+}
+
+// The same, in this scene.
+fn meets_the_cell<R: Abort + AllocGlobal>(rt: &R, placed: &(Top, Bottoms)) -> Result<(), Fail>
+    requires { AreStanding (without_tree placed.now.0) (structures_in placed.now.1) }
+{
     let cases: [(&str, i64, i64, Option<(u64, u64)>); 3] = [
         ("inside", 3, 1, Some((32757, 8))),
         ("outer edge", 8, 6, None),
         ("edge", 2, 0, Some((16379, 4))),
     ];
-    let bottom = triangles(&rt, false, &words, 2)?;
-    let placed = scene(&rt, bottom, &PLAIN, 1)?;
     for (name, x, y, t) in cases {
         let want = match t {
             Some(t) => Some((0, 0, true, t)),
             None => None,
         };
         let origin = Vec3 { x, y, z: 4096 };
-        assert!(rt;
-            traced(&rt, &placed, origin, RayFlags(0), 1, &CONFIRM)? == want
-                && walked(&rt, &placed, origin, &CONFIRM)? == want,
+        assert!(*rt;
+            traced(rt, placed, origin, RayFlags(0), 1, &CONFIRM)? == want
+                && walked(rt, placed, origin, &CONFIRM)? == want,
             "{name}"
         );
     }

@@ -84,19 +84,35 @@ fn corners(lo: [i64; 3], hi: [i64; 3]) -> Option<Box3> {
     Box3::new(lo, Vec3 { x, y, z })
 }
 
+// The bounds of what is built.
+fn bounds_of(built: Result<Bottom, BuildFault>) -> Result<Option<Box3>, BuildFault> {
+    Ok(built?.bounds())
+}
+
+// How many primitives there are in what is built, and how many are active.
+fn counts_of(built: Result<Bottom, BuildFault>) -> Result<(u32, u32), BuildFault> {
+    let bottom = built?;
+    Ok((bottom.total(), bottom.active()))
+}
+
+// The rule of the data that is broken, and the element that breaks it.
+fn broken_by(built: Result<Bottom, BuildFault>) -> Option<(DataRule, Option<u32>)> {
+    match built {
+        Err(BuildFault::Data(fault)) => Some((fault.rule, fault.element)),
+        _ => None,
+    }
+}
+
 // A transform that mirrors and moves, and one that turns; an index beyond the greatest.
 #[test]
 fn reads_narrow_triangles(rt: HostRuntime) -> Result<(), Fail> {
     let mirror = [-1, 0, 0, 1, 0, 1, 0, 0, 0, 0, 1, 0];
-    let mirrored = narrow(&rt, &[0, 1, 2], &mirror)?;
-    assert!(rt; mirrored.bounds() == corners([-3, 0, 0], [1, 4, 2]));
+    let mirrored = bounds_of(narrow(&rt, &[0, 1, 2], &mirror))?;
+    assert!(rt; mirrored == corners([-3, 0, 0], [1, 4, 2]));
     let turn = [0, -1, 0, 0, 1, 0, 0, 0, 0, 0, 1, 0];
-    let turned = narrow(&rt, &[2, 1, 0], &turn)?;
-    assert!(rt; turned.bounds() == corners([-4, 0, 0], [0, 4, 2]));
-    let fault = match narrow(&rt, &[0, 1, 3], &mirror) {
-        Err(BuildFault::Data(fault)) => Some((fault.rule, fault.element)),
-        _ => None,
-    };
+    let turned = bounds_of(narrow(&rt, &[2, 1, 0], &turn))?;
+    assert!(rt; turned == corners([-4, 0, 0], [0, 4, 2]));
+    let fault = broken_by(narrow(&rt, &[0, 1, 3], &mirror));
     assert!(rt; fault == Some((DataRule::X1, Some(0))));
     Ok(())
 }
@@ -105,10 +121,9 @@ fn reads_narrow_triangles(rt: HostRuntime) -> Result<(), Fail> {
 #[test]
 fn reads_flat_triangles(rt: HostRuntime) -> Result<(), Fail> {
     let numbers = [0, 0, 7, 4, 0, 7, 0, 4, 7, i32::MIN, 0, 7, 0, 0, 7, 0, 0, 7];
-    let two = flat(&rt, &numbers, 2)?;
-    assert!(rt; two.bounds() == corners([0, 0, 0], [4, 4, 0]));
-    assert!(rt; two.total() == 2 && two.active() == 1);
-    let none = flat(&rt, &[], 0)?;
-    assert!(rt; none.bounds().is_none() && none.total() == 0);
+    assert!(rt; bounds_of(flat(&rt, &numbers, 2))? == corners([0, 0, 0], [4, 4, 0]));
+    assert!(rt; counts_of(flat(&rt, &numbers, 2))? == (2, 1));
+    assert!(rt; bounds_of(flat(&rt, &[], 0))?.is_none());
+    assert!(rt; counts_of(flat(&rt, &[], 0))? == (0, 0));
     Ok(())
 }

@@ -15,6 +15,7 @@ use ray_top::{Top, Used};
 use ray_walk::{standing_law, trace_plain};
 use std::alloc::{AllocError, Global};
 use std::marker::Brand;
+use std::process::Abort;
 use std::test::Fail;
 use std::thread::Threads;
 
@@ -145,20 +146,27 @@ fn traced<R: AllocGlobal>(
 #[test]
 fn scripts_decide(rt: HostRuntime) -> Result<(), Fail> {
     let placed = scene(&rt)?;
+    scripts_decide_in(&rt, &placed)
+}
+
+// The same, in this scene.
+fn scripts_decide_in<R: Abort + AllocGlobal>(rt: &R, placed: &(Top, Bottoms)) -> Result<(), Fail>
+    requires { AreStanding (without_tree placed.now.0) (structures_in placed.now.1) }
+{
     let ignored = |nth: u64| RawRule {
         nth: Some(nth),
         choice: RawChoice::Ignore,
         ..EACH
     };
     let by_offer = [ignored(0), ignored(1), EACH];
-    assert!(rt; traced(&rt, &placed, RayFlags(0), &by_offer)? == Some((0, (5, 1))));
+    assert!(*rt; traced(rt, placed, RayFlags(0), &by_offer)? == Some((0, (5, 1))));
     let by_triangle = [RawRule {
         primitive: Some(1),
         ..EACH
     }];
-    assert!(rt; traced(&rt, &placed, RayFlags(0), &by_triangle)? == Some((1, (4, 1))));
+    assert!(*rt; traced(rt, placed, RayFlags(0), &by_triangle)? == Some((1, (4, 1))));
     let first = RayFlags::TERMINATE_ON_FIRST_HIT;
-    assert!(rt; traced(&rt, &placed, first, &[EACH])? == Some((2, (3, 1))));
-    assert!(rt; traced(&rt, &placed, RayFlags(0), &[])?.is_none());
+    assert!(*rt; traced(rt, placed, first, &[EACH])? == Some((2, (3, 1))));
+    assert!(*rt; traced(rt, placed, RayFlags(0), &[])?.is_none());
     Ok(())
 }
