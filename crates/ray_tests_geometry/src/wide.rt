@@ -22,7 +22,7 @@ fn children(wide: &Wide) -> usize {
     let children = wide.children(0);
     children
         .iter()
-        .filter(|child| **child != WideRef::Empty)
+        .filter(|child| child.get() != WideRef::Empty)
         .count()
 }
 

@@ -106,7 +106,10 @@ nodes_by tree (suc n) e shape =
 pub nodes-few : (tree : TreeValue) → IsShape tree → length tree.nodes ≤ 2 * length tree.order
 nodes-few tree shape = nodes_by tree (length tree.nodes) refl shape
 
--- so its numbers fit
+-- a tree over items has at most as many places as there are items
+pub places-over : (tree : TreeValue) (items : List (Option BoxValue)) → TreeOver tree items → length tree.order ≤ length items
+places-over tree items over = omega (arith, (over_has tree items over).many, count_by-le-length is_some items)
+
+-- and so its nodes' numbers fit
 pub over-few : (tree : TreeValue) (items : List (Option BoxValue)) → TreeOver tree items → length tree.nodes ≤ 2 * length items
-over-few tree items over =
-    omega (arith, nodes-few tree over.shape, (over_has tree items over).many, count_by-le-length is_some items)
+over-few tree items over = omega (arith, nodes-few tree over.shape, places-over tree items over)

@@ -45,6 +45,7 @@ pub record HasItems (order : List ℕ) (items : List (Option BoxValue)) : Type 0
 pub record IsKept (tree : TreeValue) (leaves : List ℕ) : Type 0 where
   pub shape : IsShape tree
   pub listed : leaves ≡ leaves_of tree
+  pub few_places : length tree.order ≤ 2 ^ 20
   pub few_nodes : length tree.nodes < 2 ^ 32
   pub few_leaves : length leaves < 2 ^ 32
 

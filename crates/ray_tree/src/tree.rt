@@ -81,7 +81,7 @@ impl Tree {
         order: Vec<u32>,
     ) -> Result<Tree, NoMemory>
         requires shape { IsShape (tree_value nodes.items boxes.items order.items) }
-        requires few { length nodes.items < 2 ^ 32 }
+        requires few { length order.items ≤ 2 ^ 20 }
         ensures { IfOk result (λ t. t ≡ tree_value nodes.items boxes.items order.items) }
     {
         let leaves = leaves_from_root(alloc, &nodes)?;
@@ -98,6 +98,13 @@ impl Tree {
         ensures { IsShape self.now }
     {
         let _nodes = self.nodes.len();
+    }
+
+    /// Says how many places a tree has at most; it does nothing.
+    pub fn limits(&self)
+        ensures { length self.now.order ≤ 2 ^ 20 }
+    {
+        let _places = self.order.len();
     }
 
     /// How many nodes there are. They are numbered from 0, which is the root.

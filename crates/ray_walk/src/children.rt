@@ -50,7 +50,8 @@ pub(crate) fn push_children(
     let lanes = trees.wide.lanes(w);
     let mut k = next_bit(met, 0);
     while k < 8 {
-        push_below(trees, lanes, k, limit, children[k as usize], recent, turns)?;
+        let below = children[k as usize].get();
+        push_below(trees, lanes, k, limit, below, recent, turns)?;
         k = next_bit(met, k + 1);
     }
     Ok(())

@@ -8,7 +8,7 @@ use crate::set_bits::next_bit;
 use crate::trees::Trees;
 use ray_geom::Ratio;
 use ray_lanes::{Window, overlap8};
-use ray_wide::WideRef;
+use ray_wide::{Child, WideRef};
 
 /// Where a way down ends.
 #[derive(Clone, Copy)]
@@ -67,17 +67,17 @@ fn met_in(trees: &Trees<'_, '_>, window: &Window, w: u32) -> Met
 // The child whose bit is set, where no other is and it is a wide node. None is looked for where the
 // child in the middle is a leaf, since then nearly all of them are. That one is read beside the
 // lanes, so that the line of memory in which most children stand comes beside theirs.
-fn only_child(children: &[WideRef; 8], met: u8) -> Option<u32>
+fn only_child(children: &[Child; 8], met: u8) -> Option<u32>
     ensures { IfSome result (IsAlone children.now met) }
 {
-    if let WideRef::Leaf(_) = children[4] {
+    if let WideRef::Leaf(_) = children[4].get() {
         return None;
     }
     let k = next_bit(met, 0);
     if k == 8 || next_bit(met, k + 1) < 8 {
         return None;
     }
-    match children[k as usize] {
+    match children[k as usize].get() {
         WideRef::Inner(below) => Some(below),
         _ => None,
     }

@@ -1,4 +1,5 @@
 pub mod Subtrees
+pub mod Children
 pub mod Wides
 pub mod Ways
 pub mod Cuts

@@ -4,6 +4,7 @@ ghost use Rattle.ray_wide.specs.Wides.{top_at};
 ghost use Rattle.ray_wide.specs.Lanes.{lane_of, lane_at, lane_for, padded_lane};
 ghost use Rattle.ray_wide.specs.Lanes.{lanes_for, lanes_by, filled};
 
+use crate::child::Child;
 use crate::node::{WideNode, WideRef};
 use ray_geom::Box3;
 use ray_lanes::{Lanes8, PADDED_HI, PADDED_LO};
@@ -47,7 +48,7 @@ fn refilled(tree: &Tree, tops: &[u32], node: &WideNode) -> WideNode
 }
 
 // The lanes of a node by its children.
-fn lanes_of(tree: &Tree, tops: &[u32], children: &[WideRef; 8]) -> Lanes8
+fn lanes_of(tree: &Tree, tops: &[u32], children: &[Child; 8]) -> Lanes8
     ensures { result ≡ lanes_by (lanes_for tree.now tops.now children.now) }
 {
     let [a, b, c, d, e, f, g, h] = *children;
@@ -101,10 +102,10 @@ fn row(a: i32, b: i32, c: i32, d: i32, e: i32, f: i32, g: i32, h: i32) -> [i32; 
 }
 
 // The lane of a child.
-fn lane_for(tree: &Tree, tops: &[u32], child: WideRef) -> Lane
+fn lane_for(tree: &Tree, tops: &[u32], child: Child) -> Lane
     ensures { result ≡ lane_for tree.now tops.now child }
 {
-    match child {
+    match child.get() {
         WideRef::Empty => padded_lane(),
         WideRef::Leaf(leaf) => lane_at(tree, leaf.node),
         WideRef::Inner(w) => lane_at(tree, top_at(tops, w)),

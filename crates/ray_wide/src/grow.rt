@@ -6,8 +6,9 @@ ghost use Rattle.ray_wide.specs.Wides.{child_at, top_at};
 ghost use Rattle.ray_wide.specs.Cuts.{IsGrowing, IsNode, nodes_in, left_over};
 ghost use Rattle.ray_wide.specs.Cuts.{inner_by, inners_of, ref_by, refs_of, eight_of};
 
+use crate::child::Child;
 use crate::cut::{Branch, cut_of};
-use crate::node::{WideLeaf, WideNode, WideRef};
+use crate::node::{WideLeaf, WideNode};
 use arrayvec::ArrayVec;
 use ray_tree::{Node, Tree};
 use std::alloc::AllocError as NoMemory;
@@ -56,7 +57,7 @@ fn next_top(nodes: &Vec<WideNode>, tops: &Vec<u32>) -> u32
 }
 
 // The subtrees of a cut as children, the inner ones being new wide nodes.
-fn place(tree: &Tree, cut: &[Branch], tops: &mut Vec<u32>) -> Result<[WideRef; 8], NoMemory>
+fn place(tree: &Tree, cut: &[Branch], tops: &mut Vec<u32>) -> Result<[Child; 8], NoMemory>
     requires each { All (IsNode tree.now.nodes) (nodes_in cut.now) }
     requires few { length cut.now ≤ 8 }
     requires room { length tops.old.items + length cut.now < 2 ^ 32 }
@@ -65,7 +66,7 @@ fn place(tree: &Tree, cut: &[Branch], tops: &mut Vec<u32>) -> Result<[WideRef; 8
     ensures tops { OnOk result (tops.new.items ≡ tops.old.items
         ++ inners_of tree.now.nodes (nodes_in cut.now)) }
 {
-    let mut refs = ArrayVec::<WideRef, 8>::new();
+    let mut refs = ArrayVec::<Child, 8>::new();
     for branch in cut {
         refs.push(place_one(tree, branch.node, tops)?);
     }
@@ -73,7 +74,7 @@ fn place(tree: &Tree, cut: &[Branch], tops: &mut Vec<u32>) -> Result<[WideRef; 8
 }
 
 // A subtree as a child, a new wide node where it isn't a leaf.
-fn place_one(tree: &Tree, n: u32, tops: &mut Vec<u32>) -> Result<WideRef, NoMemory>
+fn place_one(tree: &Tree, n: u32, tops: &mut Vec<u32>) -> Result<Child, NoMemory>
     requires node { IsNode tree.now.nodes n }
     requires room { length tops.old.items < 2 ^ 32 }
     ensures child { IfOk result (λ r. r ≡ ref_by (length tops.old.items) n
@@ -81,8 +82,9 @@ fn place_one(tree: &Tree, n: u32, tops: &mut Vec<u32>) -> Result<WideRef, NoMemo
     ensures tops { OnOk result (tops.new.items ≡ tops.old.items
         ++ inner_by n (node_at tree.now.nodes n)) }
 {
+    tree.limits();
     match tree.node(n) {
-        Node::Leaf { first, count } => Ok(WideRef::Leaf(WideLeaf {
+        Node::Leaf { first, count } => Ok(Child::leaf(WideLeaf {
             node: n,
             first,
             count,
@@ -90,13 +92,13 @@ fn place_one(tree: &Tree, n: u32, tops: &mut Vec<u32>) -> Result<WideRef, NoMemo
         Node::Inner { .. } => {
             let at = tops.len() as u32;
             tops.push(n)?;
-            Ok(WideRef::Inner(at))
+            Ok(Child::inner(at))
         }
     }
 }
 
 // Children in eight places.
-fn in_eight(refs: &[WideRef]) -> [WideRef; 8]
+fn in_eight(refs: &[Child]) -> [Child; 8]
     ensures { result ≡ eight_of refs.now }
 {
     [
@@ -112,11 +114,11 @@ fn in_eight(refs: &[WideRef]) -> [WideRef; 8]
 }
 
 // A child of some, or nothing.
-fn ref_at(refs: &[WideRef], k: usize) -> WideRef
+fn ref_at(refs: &[Child], k: usize) -> Child
     ensures { result ≡ child_at refs.now k }
 {
     match refs.get(k) {
         Some(child) => *child,
-        None => WideRef::Empty,
+        None => Child::empty(),
     }
 }

@@ -16,9 +16,10 @@
 //! It stands on `ray_tree` for the binary trees, on `ray_lanes` for the lanes, on `ray_geom` for
 //! boxes, and on `arrayvec` for the subtrees that are to become children. The children themselves
 //! are an array with empty places, since a vector of eight with its length would take a node beyond
-//! 320 bytes.
+//! 256 bytes.
 #![tactic(auto)]
 
+mod child;
 mod cut;
 mod fill;
 mod grow;
@@ -26,6 +27,7 @@ mod laws;
 mod node;
 mod wide;
 
+pub use crate::child::Child;
 pub use crate::laws::{lane_law, nesting_law, root_law, way_law};
 pub use crate::node::{WideLeaf, WideNode, WideRef};
 pub use crate::wide::{Wide, collapse};

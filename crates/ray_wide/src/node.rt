@@ -1,5 +1,6 @@
 ghost use Rattle.std.specs.Prelude.{◌≡◌};
 
+use crate::child::Child;
 use ray_lanes::{Lanes8, PADDED_HI, PADDED_LO};
 
 /// A leaf of the binary tree, with the places of its items, so that a walk that comes from the wide
@@ -26,18 +27,18 @@ pub enum WideRef {
     Empty,
 }
 
-/// A node of a wide tree, in 320 bytes. (Own.)
+/// A node of a wide tree, in 256 bytes. (Own.)
 #[derive(Clone, Copy, Debug)]
 pub struct WideNode {
     /// The box of each child; where there is none the lane is padded.
     pub lanes: Lanes8,
     /// The children: 2 to 8.
-    pub children: [WideRef; 8],
+    pub children: [Child; 8],
 }
 
 impl WideNode {
     // A node with these children, its lanes yet to be made.
-    pub(crate) fn with_children(children: [WideRef; 8]) -> WideNode
+    pub(crate) fn with_children(children: [Child; 8]) -> WideNode
         ensures { result.children ≡ children }
     {
         WideNode {
@@ -50,5 +51,5 @@ impl WideNode {
     }
 }
 
-// A node takes no more than five lines of 64 bytes.
-const _: () = prove!(size_of::<WideNode>() <= 320);
+// A node takes no more than four lines of 64 bytes.
+const _: () = prove!(size_of::<WideNode>() <= 256);

@@ -3,6 +3,7 @@ ghost use Rattle.ray_wide.specs.Wides.{WideOver, IsCollapsed, IsSameButLanes};
 ghost use Rattle.ray_wide.specs.Wides.{children_in, lanes_in, top_at};
 ghost use Rattle.ray_wide.specs.Cuts.{root_of, first_tops};
 
+use crate::child::Child;
 use crate::fill::fill_all;
 use crate::grow::grow;
 use crate::node::{WideLeaf, WideNode, WideRef};
@@ -139,7 +140,7 @@ impl Wide {
     }
 
     /// The children of a wide node, in eight places.
-    pub fn children(&self, w: u32) -> &[WideRef; 8]
+    pub fn children(&self, w: u32) -> &[Child; 8]
         requires { w < length self.now.nodes }
         ensures { result.now ≡ children_in self.now.nodes w }
     {

@@ -5,7 +5,6 @@ use Rattle.ray_tree.specs.Local.{AreFit, AreLocal}
 use Rattle.ray_tree.specs.Plans.{AreRising}
 use Rattle.ray_tree.proofs.Counting.{has_items}
 use Rattle.ray_tree.proofs.Locals.{tree_over}
-use Rattle.ray_tree.proofs.Sizes.{nodes-few}
 use Rattle.ray_tree.proofs.Median.{order-few, once-most, median_of, median-fit}
 use Rattle.ray_tree.proofs.build.build_median.Goals as goal
 
@@ -44,9 +43,7 @@ kept-requires-clause-shape c =
 
 pub kept-requires-clause-few : goal.kept-requires-clause-few
 kept-requires-clause-few c =
-    let order = c.in_ok-order.order.items in
-    let tree = tree_value c.in_ok-nodes.nodes.items c.in_ok-boxes.boxes.items order in
-    omega (arith, nodes-few tree (kept-requires-clause-shape c), order-few order c.args.items.now c.in_ok-order.ensures)
+    omega (arith, order-few c.in_ok-order.order.items c.args.items.now c.in_ok-order.ensures)
 
 pub returns-clause-over : goal.returns-clause-over
 returns-clause-over c =

@@ -1,6 +1,4 @@
 use Rattle.std.proofs.Common.{◌∙◌, ◌∷◌, [], ap}
-use Rattle.ray_wide.specs.declared.node.WideRef.TheVariants.{Leaf}
-use Rattle.ray_wide.specs.Subtrees.{wide_leaf}
 use Rattle.ray_wide.specs.Lanes.{lanes_by, lanes_for}
 use Rattle.ray_wide.proofs.Eights.{listed}
 use Rattle.ray_wide.proofs.fill.lanes_of.Goals as goal
@@ -11,4 +9,4 @@ returns c =
     ∙ (λ i. lanes_by (
     c.lane_for.ensures i ∷ c.lane_for-2.ensures i ∷ c.lane_for-3.ensures i ∷ c.lane_for-4.ensures i
     ∷ c.lane_for-5.ensures i ∷ c.lane_for-6.ensures i ∷ c.lane_for-7.ensures i ∷ c.lane_for-8.ensures i ∷ []))
-    ∙ ap (λ cs. lanes_by (lanes_for c.args.tree.now c.args.tops.now cs)) (listed c.args.children.now (Leaf (wide_leaf 0 0 0)) c.told-children)
+    ∙ ap (λ cs. lanes_by (lanes_for c.args.tree.now c.args.tops.now cs)) (listed c.args.children.now _ _ _ _ _ _ _ _ c.told-children)

@@ -1,7 +1,7 @@
 use Rattle.std.proofs.Common.{◌≡◌, ◌∙◌, ap, length, arith}
 use Rattle.ray_tree.specs.Shapes.{shape_in, tips}
 use Rattle.ray_tree.specs.Trees.{tree_value, leaves_of}
-use Rattle.ray_tree.proofs.Sizes.{leaves-few}
+use Rattle.ray_tree.proofs.Sizes.{leaves-few, nodes-few}
 use Rattle.ray_tree.proofs.tree.Tree.kept.Goals as goal
 
 pub invariant_of-result : goal.invariant_of-result
@@ -12,6 +12,7 @@ invariant_of-result c =
     record {
       shape = c.requires.shape;
       listed = listed;
-      few_nodes = c.requires.few;
-      few_leaves = omega (arith, ap length listed, leaves-few tree c.requires.shape);
+      few_places = c.requires.few;
+      few_nodes = omega (arith, nodes-few tree c.requires.shape, c.requires.few);
+      few_leaves = omega (arith, ap length listed, leaves-few tree c.requires.shape, nodes-few tree c.requires.shape, c.requires.few);
     }
