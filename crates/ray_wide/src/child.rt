@@ -42,17 +42,17 @@ impl Model for Child {
     ghost invariant = { λ c. IsPacked c.number c.low c.high c.kind };
 
     ghost inverse = { λ v. record {
-        number = number_in v;
-        low = low_in v;
-        high = high_in v;
-        kind = kind_in v;
+      number = number_in v;
+      low = low_in v;
+      high = high_in v;
+      kind = kind_in v;
     } };
 
     ghost inverse_ok = { λ c h i. record {
-        number = (has-parts c.number c.low c.high c.kind h).number_is i;
-        low = (has-parts c.number c.low c.high c.kind h).low_is i;
-        high = (has-parts c.number c.low c.high c.kind h).high_is i;
-        kind = (has-parts c.number c.low c.high c.kind h).kind_is i;
+      number = (has-parts c.number c.low c.high c.kind h).number_is i;
+      low = (has-parts c.number c.low c.high c.kind h).low_is i;
+      high = (has-parts c.number c.low c.high c.kind h).high_is i;
+      kind = (has-parts c.number c.low c.high c.kind h).kind_is i;
     } };
 }
 
