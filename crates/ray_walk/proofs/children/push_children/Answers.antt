@@ -44,8 +44,11 @@ push_below-requires-clause-lane c =
     let k = c.loop-k.k in
     let few : k < 8 = (let h = c.loop-k-test.true in grind (arith, nat_tests)) in
     let eight = (c.requires.trees.over.collapsed.each w c.requires.node).eight in
+    let full : length c.children-children.result.now ≡ 8 = ap (λ (cs : List WideRef). length cs) c.children-children.ensures ∙ eight in
     let at = any-default (children_in nodes w) k wides.Empty (wides.Leaf (wide_leaf 0 0 0)) (omega (arith, eight, few))
-    ∙ ap (λ (cs : List WideRef). slice_index_or cs k (wides.Leaf (wide_leaf 0 0 0))) (sym c.children-children.ensures) in
+    ∙ ap (λ (cs : List WideRef). slice_index_or cs k (wides.Leaf (wide_leaf 0 0 0))) (sym c.children-children.ensures)
+    ∙ any-default c.children-children.result.now k (wides.Leaf (wide_leaf 0 0 0)) _ (omega (arith, full, few))
+    ∙ sym c.get-below.ensures in
     subst (λ (b : WideRef). HasLane t.tree.now t.wide.now c.lanes-lanes.result.now k b) at
     (subst (λ (l : Lanes8). HasLane t.tree.now t.wide.now l k (child_at (children_in nodes w) k)) (sym c.lanes-lanes.ensures)
     (lane-at t.tree.now t.wide.now c.requires.trees w k c.requires.node few))
@@ -82,8 +85,11 @@ loop-k-preserved c =
     let now = c.push_below.new.turns in
     let few : k < 8 = (let h = c.loop-k-test.true in grind (arith, nat_tests)) in
     let full : length children ≡ 8 = ap (λ (cs : List WideRef). length cs) c.children-children.ensures ∙ (c.requires.trees.over.collapsed.each w c.requires.node).eight in
+    let below : c.get-below.result ≡ slice_index_or children k (wides.Leaf (wide_leaf 0 0 0)) =
+    c.get-below.ensures ∙ any-default children k _ (wides.Leaf (wide_leaf 0 0 0)) (omega (arith, full, few)) in
     let pushed = Adds-flat (AddsNode c.args.limit (entry_through t)) (child t.level) children k (wides.Leaf (wide_leaf 0 0 0)) before c.loop-k.turns now
-    (omega (arith, full, few)) c.loop-k.invariant.so_far c.in_ok-push_below.ensures.added in
+    (omega (arith, full, few)) c.loop-k.invariant.so_far
+    (subst (λ (b : WideRef). AddsThrough c.args.limit t (child t.level b) c.loop-k.turns now) below c.in_ok-push_below.ensures.added) in
     let gap : k + 1 + (next - (k + 1)) ≡ next = omega (arith, later) in
     record {
       most = most;
