@@ -1,8 +1,8 @@
-ghost use Rattle.std.specs.Prelude.{◌≡◌, ◌<◌, ◌≤◌, ◌+◌, ◌*◌, ◌^◌, IfOk, [], ◌∷◌, length, map};
+ghost use Rattle.std.specs.Prelude.{◌≡◌, ◌<◌, ◌≤◌, ◌+◌, ◌*◌, ◌^◌, IfOk, [], length};
 ghost use Rattle.ray_rules.specs.declared.access_type.AccessType.TheVariants.{StructureWrite};
 ghost use Rattle.ray_rules.specs.Access.{at_bytes, at_structure, build_accesses, copy_accesses, deserialize_accesses};
-ghost use Rattle.ray_rules.specs.Access.{info_accesses, property_accesses, ray_accesses, region_accesses};
-ghost use Rattle.ray_rules.specs.Access.{serialize_accesses, structure_copy_accesses, structure_reads, uses_at, write_accesses};
+ghost use Rattle.ray_rules.specs.Access.{property_accesses, ray_accesses};
+ghost use Rattle.ray_rules.specs.Access.{serialize_accesses, structure_copy_accesses, uses_at, write_accesses};
 ghost use Rattle.ray_access.specs.Axis.{TouchFits};
 ghost use Rattle.ray_access.specs.Lists.{AreOf, IsHostRead};
 

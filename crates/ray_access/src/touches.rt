@@ -1,5 +1,4 @@
 ghost use Rattle.std.specs.Prelude.{IfOk};
-ghost use Rattle.std.specs.Prelude.{◌≡◌};
 ghost use Rattle.ray_rules.specs.Access.{accesses_of, host_reads};
 ghost use Rattle.ray_access.specs.Lists.{AreOf, AreTouched};
 

@@ -1,4 +1,4 @@
-ghost use Rattle.std.specs.Prelude.{◌≡◌, ◌+◌, ◌*◌, ◌<◌, length, count_by, option_map, IfOk, IsTrue, MatchOption};
+ghost use Rattle.std.specs.Prelude.{◌≡◌, ◌+◌, ◌<◌, length, count_by, option_map, IfOk, IsTrue, MatchOption};
 ghost use Rattle.ray_geom.specs.HitValue.{hit_of, hit_value};
 ghost use Rattle.ray_bench.specs.Field.{triangles};
 ghost use Rattle.ray_bench.specs.Rays.{rays};

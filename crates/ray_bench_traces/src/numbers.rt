@@ -1,4 +1,4 @@
-ghost use Rattle.std.specs.Prelude.{◌<◌, ◌≤◌};
+ghost use Rattle.std.specs.Prelude.{◌<◌};
 
 /// Numbers that look random: Marsaglia's xorshift of 64 bits.
 #[derive(Clone, Copy, Debug)]

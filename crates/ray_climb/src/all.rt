@@ -1,5 +1,4 @@
-ghost use Rattle.std.specs.Prelude.{◌≡◌, ◌-◌, ◌≤◌, ◌^◌, [], length, IfOk};
-ghost use Rattle.std.specs.List.{range_with_len};
+ghost use Rattle.std.specs.Prelude.{◌-◌, ◌≤◌, ◌^◌, length, IfOk};
 ghost use Rattle.std.specs.Thread.{IsSync};
 ghost use Rattle.ray_climb.specs.Refits.{HasActivity, IsRefit};
 ghost use Rattle.ray_climb.specs.Seats.{HasTodo, HasDone};

@@ -1,5 +1,5 @@
 //! A climb from a leaf: all its atomic steps.
-ghost use Rattle.std.specs.Prelude.{◌≡◌, ◌≢◌, ◌<◌, ◌++◌, ◌∷◌, [], length};
+ghost use Rattle.std.specs.Prelude.{◌≡◌, ◌<◌, ◌++◌, ◌∷◌, [], length};
 ghost use Rattle.ray_tree.specs.Trees.{leaves_of};
 ghost use Rattle.ray_climb.specs.declared.rule.Hand.TheVariants.{Empty};
 ghost use Rattle.ray_climb.specs.Rule.{times};

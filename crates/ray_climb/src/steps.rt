@@ -1,5 +1,5 @@
 //! The atomic steps of a climb, one function each.
-ghost use Rattle.std.specs.Prelude.{◌≡◌, ◌≢◌, ◌<◌, Bool, true, false, length, slice_index};
+ghost use Rattle.std.specs.Prelude.{◌≡◌, ◌≢◌, ◌<◌, length, slice_index};
 ghost use Rattle.ray_tree.specs.Trees.{leaves_of};
 ghost use Rattle.ray_climb.specs.declared.rule.Half.TheVariants.{Below, Held, Stored};
 ghost use Rattle.ray_climb.specs.declared.rule.Hand.TheVariants.{Empty, At};

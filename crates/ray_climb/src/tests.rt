@@ -1,6 +1,6 @@
-ghost use Rattle.std.specs.Prelude.{◌≡◌, ◌≤◌, ◌^◌, [], ◌∷◌, IfOk, IsSome, All, length};
+ghost use Rattle.std.specs.Prelude.{◌≡◌, ◌≤◌, ◌^◌, [], IfOk, IsSome, All, length};
 ghost use Rattle.std.specs.List.{range_with_len};
-ghost use Rattle.ray_tree.specs.Trees.{TreeOver, leaves_of};
+ghost use Rattle.ray_tree.specs.Trees.{TreeOver};
 ghost use Rattle.ray_climb.specs.Refits.{HasActivity};
 ghost use Rattle.ray_climb.specs.Seats.{seat_view};
 

@@ -1,9 +1,9 @@
-ghost use Rattle.std.specs.Prelude.{◌≡◌, ◌++◌, map, option_and_then, take, IfOk, IsSome};
+ghost use Rattle.std.specs.Prelude.{◌≡◌, map, IfOk, IsSome};
 ghost use Rattle.std.specs.List.{flat_map};
 ghost use Rattle.byteorder.specs.Endian.{little_bytes};
 ghost use Rattle.ray_bottom.specs.Trees.{without_tree};
 ghost use Rattle.ray_cmd.specs.declared.copy_mode.CopyMode.TheVariants as copies;
-ghost use Rattle.ray_action.specs.Memory.{StructureAt, ContentsAt, as_bottom, bytes_at};
+ghost use Rattle.ray_action.specs.Memory.{StructureAt, ContentsAt, bytes_at};
 ghost use Rattle.ray_action.specs.Outcomes.{bytes_outcome, copy_outcome, compact_copy, number_of, numbers_of, property_outcome};
 ghost use Rattle.ray_action.specs.Readiness.{IsCopyReady, FitsMode, IsBottomSource};
 ghost use Rattle.ray_action.specs.Seeing.{see_structure};

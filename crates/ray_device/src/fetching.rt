@@ -1,4 +1,4 @@
-ghost use Rattle.std.specs.Prelude.{◌≡◌, ◌<◌, ◌≤◌, ◌+◌, IfOk, OnOk};
+ghost use Rattle.std.specs.Prelude.{◌≡◌, ◌<◌, ◌≤◌, ◌+◌, OnOk};
 ghost use Rattle.ray_action.specs.Outcomes.{outcome_of};
 ghost use Rattle.ray_action.specs.Pieces.{command_at};
 ghost use Rattle.ray_action.specs.Readiness.{IsReady};

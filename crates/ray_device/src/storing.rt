@@ -1,4 +1,4 @@
-ghost use Rattle.std.specs.Prelude.{◌≡◌, ◌<◌, ◌+◌, ◌*◌, length, slice_get};
+ghost use Rattle.std.specs.Prelude.{◌≡◌, ◌<◌, ◌+◌, ◌*◌};
 ghost use Rattle.ray_action.specs.Memory.{Location};
 ghost use Rattle.ray_action.specs.Outcomes.{Gives};
 ghost use Rattle.ray_action.specs.Storing.{put};

@@ -1,4 +1,4 @@
-ghost use Rattle.std.specs.Prelude.{◌≡◌, ◌<◌, ◌≤◌, All, length, IfOk};
+ghost use Rattle.std.specs.Prelude.{◌≡◌, ◌<◌, All, length, IfOk};
 ghost use Rattle.std.specs.Thread.{IsSync};
 ghost use Rattle.ray_memory.specs.State.{memory_of};
 ghost use Rattle.ray_exec.specs.Drawn.{IsDrawn, IsWorked};

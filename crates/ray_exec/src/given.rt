@@ -1,4 +1,4 @@
-ghost use Rattle.std.specs.Prelude.{◌≡◌, ◌<◌, IfOk};
+ghost use Rattle.std.specs.Prelude.{◌<◌, IfOk};
 ghost use Rattle.ray_action.specs.Readiness.{IsReady};
 ghost use Rattle.ray_device.specs.Pieces.{piece_action};
 ghost use Rattle.ray_memory.specs.State.{memory_of};

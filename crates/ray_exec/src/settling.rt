@@ -1,4 +1,4 @@
-ghost use Rattle.std.specs.Prelude.{◌≡◌, ◌++◌, IfOk, OnOk, Some, None};
+ghost use Rattle.std.specs.Prelude.{IfOk, Some, None};
 ghost use Rattle.ray_memory.specs.State.{memory_of};
 ghost use Rattle.ray_exec.specs.Given.{AreGiven, AreReady};
 ghost use Rattle.ray_exec.specs.Settled.{settled, AreApart, IsLeftBy};

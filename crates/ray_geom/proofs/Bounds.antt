@@ -69,12 +69,3 @@ point_fits a b p q = dot_fits a b (omega (arith, ints)) (omega (arith, ints))
 -- the difference of two points
 pub minus_fits : (a b : Vec3) → IsShort (2 ^ 19) a → IsShort (2 ^ 19) b → MinusFits a b
 minus_fits a b p q = omega (arith, ints)
-
--- and that of a point and a translation
-pub seen_fits : (a b : Vec3) → IsShort (2 ^ 19) a → IsShort (2 ^ 20) b → MinusFits a b
-seen_fits a b p q = omega (arith, ints)
-
--- two hits are compared by products of at most 9 * 2^122, which fit 128 bits
-pub products_fit : (n d : ℕ) → n ≤ 3 * 2 ^ 61 → d ≤ 3 * 2 ^ 61 → n * d ≤ 9 * 2 ^ 122
-products_fit n d p q =
-    let product : n * d ≤ 3 * 2 ^ 61 * (3 * 2 ^ 61) = mul-le-mul p q in omega arith

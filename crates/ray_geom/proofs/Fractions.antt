@@ -1,12 +1,9 @@
 -- What becomes of a fraction that is divided by its greatest common divisor, and what the order says.
-use Rattle.std.proofs.Common.{ℕ, ◌≡◌, ◌*◌, ◌/◌, ◌<◌, false, arith, sym, subst, ap, ◌∙◌, zero, suc}
-use Rattle.std.specs.Prelude.{◌↔◌}
+use Rattle.std.proofs.Common.{ℕ, ◌≡◌, ◌*◌, ◌/◌, ◌<◌, arith, sym, subst, ap, ◌∙◌, zero, suc}
 use Rattle.std.specs.Int.{IsGcd, ◌∣◌}
-use Rattle.std.specs.Ordering.{is_gt}
-use Rattle.std.proofs.lemmas.Bool.Decides.{nat_tests}
 use Rattle.std.proofs.Math.Nat.{dvd_antisymm, dvd_of_mul-dvd-mul_left, mul-dvd-mul_left, mul-div_cancel', div-mul_cancel, one-dvd, pos_of_dvd_of_pos, div-le_self}
 use Rattle.ray_geom.specs.declared.frac.Frac.{Frac}
-use Rattle.ray_geom.specs.Fraction.{IsFraction, IsLowest, IsAtMost, IsSameValue, fraction_cmp}
+use Rattle.ray_geom.specs.Fraction.{IsFraction, IsLowest, IsSameValue}
 use Rattle.ray_geom.specs.Gauss.{cancel}
 use Rattle.ray_geom.specs.FracLaws.{same_value}
 
@@ -57,7 +54,3 @@ pub same_through : (f g : Frac) (num den : ℕ) →
     0 < den → IsSameValue f.num f.den num den → IsSameValue g.num g.den num den → g ≡ f
 same_through f g num den den_positive p q =
     same_value g f (same_chain f.num f.den num den g.num g.den den_positive p q)
-
--- "at most" is what the order doesn't answer `Greater` to
-pub IsAtMost-fraction_cmp : (n d m e : ℕ) → IsAtMost n d m e ↔ (is_gt (fraction_cmp n d m e) ≡ false)
-IsAtMost-fraction_cmp n d m e = grind (arith, nat_tests)

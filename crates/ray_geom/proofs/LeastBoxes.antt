@@ -140,17 +140,6 @@ IsLeast-same P Q box same h = record {
   least = λ other q. h.least other ((same other).1 q);
 }
 
--- a least box of three is the union of a least box of two and the third
-pub IsLeast-more : (P : BoxValue → Type 0) (box more : BoxValue) →
-    ((inner outer : BoxValue) → IsPart inner outer → P inner → P outer) → IsLeast P box →
-    IsLeast (λ other. P other × IsPart more other) (union_of box more)
-IsLeast-more P box more up h =
-    let both = IsLeast-union box more in
-    record {
-      holds = (up box (union_of box more) both.holds.first h.holds, both.holds.second);
-      least = λ other q. both.least other (record { first = h.least other q.0; second = q.1 });
-    }
-
 -- the box of a triangle is the least that holds its vertices
 pub IsLeast-tri : (tri : TriValue) → IsLeast (HoldsTri tri) (box_of_tri tri)
 IsLeast-tri tri =

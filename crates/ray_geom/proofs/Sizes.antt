@@ -1,6 +1,6 @@
 -- How large the numbers of a transform are: an entry of the adjugate is at most 2^25 and the
 -- determinant at most 6 * 2^36.
-use Rattle.std.proofs.Common.{ℕ, ◌*◌, ◌^◌, ◌≤◌, arith}
+use Rattle.std.proofs.Common.{ℕ, ◌*◌, ◌^◌, arith}
 use Rattle.std.specs.Prelude.{ℤ, ◌*ℤ◌}
 use Rattle.std.proofs.lemmas.Int.{ints}
 use Rattle.ray_geom.specs.declared.vec3.Vec3.{Vec3}
@@ -38,7 +38,3 @@ det_within a b c p q r =
     let within : IsWithin (3 * (2 ^ 12 * 2 ^ 25)) (dot_of a (cross_of b c)) =
     dot_within (2 ^ 12) (2 ^ 25) a (cross_of b c) p (cross_short b c q r) in
     omega (arith, ints)
-
--- what is short is within a greater limit
-pub IsShort-le : (m n : ℕ) (v : Vec3) → m ≤ n → IsShort m v → IsShort n v
-IsShort-le m n v le p = omega (arith, ints)

@@ -10,9 +10,8 @@ use Rattle.std.proofs.lemmas.Bool.{cases_Bool, cases_lt}
 use Rattle.std.proofs.lemmas.Bool.Decides.{Decides-int_eq, not_from_Decides}
 use Rattle.ray_geom.specs.declared.vec3.Vec3.{Vec3}
 use Rattle.ray_geom.specs.Vector.{IsWithin, IsShort, vec3, sign_of}
-use Rattle.ray_geom.specs.Scene.{RayValue, TriValue, IsRay, IsTri}
+use Rattle.ray_geom.specs.Scene.{RayValue, TriValue, IsRay}
 use Rattle.ray_geom.specs.EdgeSide.{side_of}
-use Rattle.ray_geom.specs.Boxes.{BoxValue, IsBox}
 use Rattle.ray_geom.specs.Transform.{MatrixValue, IsMatrix, det_of}
 use Rattle.ray_geom.specs.TriangleHit.{num_of, den_of, IsFrom, IsTo, IsHit}
 
@@ -78,10 +77,6 @@ ray_decided ray = same_as
     (λ h. (h.origin_short, (h.dir_short, (h.dir_not_zero, (h.ordered, h.tmax_limit)))))
     (both (short_decided (2 ^ 19) ray.origin) (both (short_decided (2 ^ 20) ray.dir) (both (not_so (same_point ray.dir (vec3 (pos 0) (pos 0) (pos 0)))) (both (at_most ray.tmin ray.tmax) (at_most ray.tmax (2 ^ 40))))))
 
-pub tri_decided : (tri : TriValue) → Dec (IsTri tri)
-tri_decided tri = same_as (λ h. record { v0_short = h.0; v1_short = h.1.0; v2_short = h.1.1 }) (λ h. (h.v0_short, (h.v1_short, h.v2_short)))
-    (both (short_decided (2 ^ 19) tri.v0) (both (short_decided (2 ^ 19) tri.v1) (short_decided (2 ^ 19) tri.v2)))
-
 from_decided : (least : ℕ) (num den : ℤ) → Dec (IsFrom least num den)
 from_decided least num den = same_as (λ h. record { at_least = h }) (λ h. h.at_least) (at_most_int _ _)
 
@@ -104,10 +99,3 @@ matrix_decided m = same_as
     (λ h. (h.a_short, (h.b_short, (h.c_short, (h.t_short, h.det_not_zero)))))
     (both (short_decided (2 ^ 12) m.a) (both (short_decided (2 ^ 12) m.b) (both (short_decided (2 ^ 12) m.c)
     (both (short_decided (2 ^ 20) m.t) (not_so (same_int (det_of m) (pos 0)))))))
-
-pub box_decided : (box : BoxValue) → Dec (IsBox box)
-box_decided box = same_as
-    (λ h. record { lo_short = h.0; hi_short = h.1.0; x_ordered = h.1.1.0; y_ordered = h.1.1.1.0; z_ordered = h.1.1.1.1 })
-    (λ h. (h.lo_short, (h.hi_short, (h.x_ordered, (h.y_ordered, h.z_ordered)))))
-    (both (short_decided (2 ^ 19) box.lo) (both (short_decided (2 ^ 19) box.hi)
-    (both (at_most_int _ _) (both (at_most_int _ _) (at_most_int _ _)))))

@@ -3,7 +3,7 @@ ghost use Rattle.std.specs.List.{flat_map};
 ghost use Rattle.ray_primitives.specs.StoredPrimitives.{triangle_bytes, aabb_bytes};
 ghost use Rattle.ray_geometries.specs.Contents.{total_of, count_of, count_of_shapes};
 ghost use Rattle.ray_geometries.specs.Storing.{kind_number, opaque_number, format_number, index_number};
-ghost use Rattle.ray_geometries.specs.Storing.{format_of, index_size_of, element_bytes, bytes_of_words};
+ghost use Rattle.ray_geometries.specs.Storing.{element_bytes, bytes_of_words};
 ghost use Rattle.ray_geometries.specs.Storing.{geometry_words, geometry_bytes, payload_of, Appends};
 
 use crate::contents::Contents;

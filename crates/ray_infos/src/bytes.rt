@@ -1,5 +1,5 @@
 ghost use Rattle.std.specs.Prelude.{◌≡◌, ◌<◌, ◌≤◌, ◌^◌, IfSome, length};
-ghost use Rattle.std.specs.List.{list_any, position};
+ghost use Rattle.std.specs.List.{position};
 ghost use Rattle.ray_rules.specs.Places.{first_part};
 ghost use Rattle.ray_rules.specs.Ranges.{is_outside_if};
 ghost use Rattle.ray_rules.specs.Spans.{info_reaches_out, input_reaches_out, scratch_reaches_out};

@@ -1,9 +1,8 @@
 ghost use Rattle.std.specs.Prelude.{◌≡◌, ◌<◌, ◌≤◌, ◌^◌, IfSome, length};
 ghost use Rattle.std.specs.List.{list_all, position, zip};
-ghost use Rattle.std.specs.Option.{option_and_then, option_copied};
-ghost use Rattle.ray_flags.specs.Flags.{AllowUpdate};
+ghost use Rattle.std.specs.Option.{option_copied};
 ghost use Rattle.ray_rules.specs.Places.{first_part};
-ghost use Rattle.ray_rules.specs.Sources.{are_same_geometries, differs_from, differs_from_source, info_at, is_no_source, is_same_bool, is_same_format, is_same_geometry, is_same_index, is_same_pair, lacks_built_source, updates_forbidden, uses_unbuilt, was_built_without};
+ghost use Rattle.ray_rules.specs.Sources.{are_same_geometries, differs_from, differs_from_source, info_at, is_no_source, is_same_bool, is_same_format, is_same_geometry, is_same_index, is_same_pair, lacks_built_source, updates_forbidden, uses_unbuilt};
 ghost use Rattle.ray_infos.specs.Parts.{differs_if, forbids_update};
 
 use crate::first::part;

@@ -1,6 +1,6 @@
 //! A sink in memory.
 
-ghost use Rattle.std.specs.Prelude.{◌≡◌, ℕ, ◌<◌, ◌≤◌, ◌↔◌, List, [], ◌++◌, length, take, Some, IsErr, IfOk, OnErr, IfSome, is_some, Contains};
+ghost use Rattle.std.specs.Prelude.{◌≡◌, ◌<◌, ◌≤◌, ◌↔◌, [], length, Some, IsErr, IfOk, OnErr, IfSome, is_some, Contains};
 ghost use Rattle.ray_io.specs.Faults.{HasRisen};
 ghost use Rattle.ray_io.specs.Sink.{TakesFirst};
 ghost use Rattle.ray_io.specs.MemSink.{taken_count, after_write, after_failed_write};

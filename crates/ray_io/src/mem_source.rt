@@ -1,6 +1,6 @@
 //! A source in memory.
 
-ghost use Rattle.std.specs.Prelude.{◌≡◌, ℕ, ◌<◌, ◌≤◌, ◌↔◌, List, [], ◌++◌, length, take, drop, Some, IsErr, IfOk, OnErr, IfSome, is_some, Contains};
+ghost use Rattle.std.specs.Prelude.{◌≡◌, ◌<◌, ◌≤◌, ◌↔◌, [], ◌++◌, length, take, drop, Some, IsErr, IfOk, OnErr, IfSome, is_some, Contains};
 ghost use Rattle.ray_io.specs.Faults.{HasRisen};
 ghost use Rattle.ray_io.specs.Source.{GivesFirst};
 ghost use Rattle.ray_io.specs.MemSource.{given_count, after_read, after_failed_read};

@@ -1,6 +1,6 @@
 //! Reading all of a source.
 
-ghost use Rattle.std.specs.Prelude.{◌≡◌, ℕ, ◌+◌, ◌<◌, ◌≤◌, ◌↔◌, [], length, drop, Some, IfOk, IfSome, IsErrOf, is_some, vec_len};
+ghost use Rattle.std.specs.Prelude.{◌≡◌, ◌+◌, ◌<◌, ◌≤◌, ◌↔◌, [], length, drop, Some, IfOk, IfSome, IsErrOf, is_some, vec_len};
 ghost use Rattle.ray_io.specs.Faults.{HasRisen};
 ghost use Rattle.ray_io.specs.ReadAll.{LeavesAllBut};
 

@@ -1,6 +1,6 @@
 //! What takes bytes.
 
-ghost use Rattle.std.specs.Prelude.{◌≡◌, ℕ, Option, ◌<◌, ◌≤◌, List, ◌++◌, length, take, Some, IfOk, OnErr, IfSome, is_some};
+ghost use Rattle.std.specs.Prelude.{◌≡◌, ℕ, Option, ◌<◌, ◌≤◌, List, length, IfOk, OnErr, IfSome, is_some};
 ghost use Rattle.ray_io.specs.Faults.{HasRisen};
 ghost use Rattle.ray_io.specs.Sink.{TakesFirst};
 

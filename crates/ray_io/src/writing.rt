@@ -1,6 +1,6 @@
 //! Writing all of a piece.
 
-ghost use Rattle.std.specs.Prelude.{◌≡◌, ℕ, ◌≤◌, ◌⊎◌, [], ◌++◌, length, Some, IsOk, OnOk, OnErr, IfSome, is_some};
+ghost use Rattle.std.specs.Prelude.{◌≡◌, ◌≤◌, ◌⊎◌, [], ◌++◌, Some, IsOk, OnOk, OnErr, IfSome, is_some};
 ghost use Rattle.ray_io.specs.Faults.{HasRisen};
 ghost use Rattle.ray_io.specs.WriteAll.{TakesSome};
 

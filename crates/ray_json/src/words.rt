@@ -1,5 +1,4 @@
-ghost use Rattle.std.specs.Prelude.{◌≡◌, ◌≢◌, map, option_map};
-ghost use Rattle.std.specs.Result.{result_ok};
+ghost use Rattle.std.specs.Prelude.{◌≢◌, map};
 ghost use Rattle.serde_json.specs.View.{view};
 ghost use Rattle.ray_json.specs.Outcome.{Gives, GivesBy};
 ghost use Rattle.ray_json.specs.Fields.{text_of, word_of, words_of};

@@ -1,5 +1,5 @@
 ghost use Rattle.std.specs.Prelude.{[], ◌≡◌, ◌<◌, length, Some, None, unwrap_or, OnOk, OnErr};
-ghost use Rattle.ray_action.specs.Memory.{Location, BufferAt, StructureAt};
+ghost use Rattle.ray_action.specs.Memory.{Location, StructureAt};
 ghost use Rattle.ray_action.specs.Action.{MakeBuffer, MakeStructure, DestroyBuffer, DestroyStructure};
 ghost use Rattle.ray_action.specs.Outcomes.{Gives, Nothing};
 ghost use Rattle.ray_action.specs.Pieces.{command_at, host_action, destroyed};

@@ -1,5 +1,5 @@
 //! The keys of boxes.
-ghost use Rattle.std.specs.Prelude.{◌≡◌, ◌<◌, ◌≤◌, ◌^◌};
+ghost use Rattle.std.specs.Prelude.{◌≡◌, ◌<◌, ◌^◌};
 ghost use Rattle.ray_geom.specs.Vector.{IsWithin};
 ghost use Rattle.ray_morton.specs.Keys.{middle_of, key_of};
 ghost use Rattle.ray_morton.specs.Entries.{spread};

@@ -2,7 +2,7 @@
 //! there is room for, and below them the place of the entry. Where that isn't yet the order, entries
 //! that are the same in these bits are sorted among themselves. What is promised of all this is that
 //! the entries stay the same; whether they are in order is tested.
-ghost use Rattle.std.specs.Prelude.{◌≡◌, ◌≤◌, ◌<◌, ◌^◌, ◌/◌, ℕ, IfOk, length, map, slice_index};
+ghost use Rattle.std.specs.Prelude.{◌≡◌, ◌≤◌, ◌<◌, ◌^◌, ◌/◌, IfOk, length, map, slice_index};
 ghost use Rattle.std.specs.Prelude.{slice_index_or};
 ghost use Rattle.std.specs.List.{range_with_len};
 ghost use Rattle.std.specs.List.Sorted.{IsPermutation};

@@ -1,7 +1,6 @@
 ghost use Rattle.std.specs.Prelude.{◌≡◌, ◌^◌, IfSome, IfOk, All, length, IsTrue, option_copied};
 ghost use Rattle.ray_geom.specs.Vector.{IsShort};
 ghost use Rattle.ray_geom.specs.Boxes.{IsBelow};
-ghost use Rattle.ray_contents.specs.Gathering.{gathered};
 ghost use Rattle.ray_primitives.specs.Primitives.{IsAabb};
 ghost use Rattle.ray_primitives.specs.Outcomes.{Gives};
 ghost use Rattle.ray_primitives.specs.Updates.{old_at, box_after};

@@ -7,7 +7,7 @@ ghost use Rattle.ray_primitives.specs.Updates.{old_at, triangle_after};
 ghost use Rattle.ray_primitives.specs.TriangleReading.{placed_of, limited, made_of, triangle_from};
 ghost use Rattle.ray_primitives.specs.TriangleReading.{corner_of, triangle_of, updated_triangle};
 ghost use Rattle.ray_primitives.specs.TriangleReading.{triangle_element, usable, transform_read};
-ghost use Rattle.ray_primitives.specs.TriangleReading.{triangles_read, triangles_with};
+ghost use Rattle.ray_primitives.specs.TriangleReading.{triangles_read};
 
 use crate::build_fault::BuildFault;
 use crate::corner::Corner;

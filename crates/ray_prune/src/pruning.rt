@@ -1,4 +1,4 @@
-ghost use Rattle.std.specs.Prelude.{◌≡◌, ℕ, ◌<◌, IfSome, IfNone, IsSome};
+ghost use Rattle.std.specs.Prelude.{ℕ, ◌<◌, IfSome, IfNone, IsSome};
 ghost use Rattle.ray_geom.specs.declared.vec3.Vec3.{Vec3};
 ghost use Rattle.ray_prune.specs.declared.reach.Reach.{Reach};
 ghost use Rattle.ray_geom.specs.Fraction.{IsAtMost};
@@ -8,7 +8,7 @@ ghost use Rattle.ray_geom.specs.Boxes.{IsIn, IsPart};
 ghost use Rattle.ray_geom.specs.LeastBoxes.{HoldsTri};
 ghost use Rattle.ray_geom.specs.ObjectRay.{object_of};
 ghost use Rattle.ray_prune.specs.BoxSpan.{IsInside, IsReach};
-ghost use Rattle.ray_prune.specs.BoxReach.{entry_of, exit_of, reach_of};
+ghost use Rattle.ray_prune.specs.BoxReach.{entry_of, reach_of};
 ghost use Rattle.ray_prune.specs.Pruning.{IsDistance, HoldsImages};
 
 use ray_geom::{Box3, Matrix, ObjectRay, Ray, Tri};

@@ -1,4 +1,4 @@
-ghost use Rattle.std.specs.Prelude.{◌≡◌, OnOk, IfOk, ℕ, length};
+ghost use Rattle.std.specs.Prelude.{◌≡◌, IfOk, ℕ};
 ghost use Rattle.ray_ranges.specs.Meeting.{covers, meets_any};
 ghost use Rattle.std.specs.List.{position};
 ghost use Rattle.ray_ranges.specs.First.{first_meeting, first_meeting_any, first_meeting_earlier};

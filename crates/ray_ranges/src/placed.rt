@@ -1,8 +1,7 @@
-ghost use Rattle.std.specs.Prelude.{◌≡◌, ◌<◌, ◌≤◌, ◌+◌, ◌^◌, ◌==◌, [], false, length};
+ghost use Rattle.std.specs.Prelude.{◌≡◌, ◌<◌, ◌==◌, [], false, length};
 ghost use Rattle.std.specs.Prelude.{None, OnOk, OnErr};
 ghost use Rattle.ray_ranges.specs.Places.{place_at, with_place, without_place};
 ghost use Rattle.ray_ranges.specs.Places.{overlaps_any, holds_any};
-ghost use Rattle.ray_ranges.specs.Addresses.{addresses_of, all_addresses};
 
 use crate::addresses::{addresses, whole};
 use crate::disjoint_ranges::DisjointRanges;

@@ -1,6 +1,6 @@
 ghost use Rattle.std.specs.Prelude.{◌≡◌, ◌+◌, ◌++◌, ◌<◌, ◌≤◌, IfOk, OnOk, string_bytes};
 ghost use Rattle.hex.specs.Hex.{encode_lower};
-ghost use Rattle.ray_scene.specs.Grid.{bytes_of, cell_words, hits_offset, index_offset, index_words, input_words, instance_offset, instance_words, layer_words, padded, ray_words, rays_words, triangle_count, vertex_count, vertex_number, vertex_words, words_below};
+ghost use Rattle.ray_scene.specs.Grid.{bytes_of, cell_words, hits_offset, index_offset, index_words, input_words, instance_offset, layer_words, padded, ray_words, rays_words, triangle_count, vertex_count, vertex_number, vertex_words, words_below};
 
 use byteorder::{ByteOrder, LittleEndian};
 use std::alloc::{AllocError as NoMemory, Global};

@@ -1,8 +1,8 @@
-ghost use Rattle.std.specs.Prelude.{◌≡◌, ◌≤◌, ◌==◌, length};
+ghost use Rattle.std.specs.Prelude.{◌≡◌, ◌==◌, length};
 ghost use Rattle.std.specs.List.{list_all};
 ghost use Rattle.ray_bytes.specs.Records.{instance_of};
 ghost use Rattle.ray_top.specs.Instances.{forces_both};
-ghost use Rattle.ray_serial.specs.InstanceBytes.{is_active, is_placed, is_instance, are_instances};
+ghost use Rattle.ray_serial.specs.InstanceBytes.{is_placed, is_instance, are_instances};
 
 use bitflags::Flags;
 use ray_bytes::{InstanceRecord, InstanceView};

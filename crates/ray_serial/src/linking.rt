@@ -1,7 +1,6 @@
 ghost use Rattle.std.specs.Prelude.{◌≡◌, ◌++◌, true, OnOk, IfOk, IfErr, length};
 ghost use Rattle.ray_top.specs.Trees.{GivesTop};
 ghost use Rattle.ray_serial.specs.Form.{payload_in, instances_of_payload};
-ghost use Rattle.ray_serial.specs.InstanceBytes.{instance_parts};
 ghost use Rattle.ray_serial.specs.Meaning.{IsForm, is_top_form, HasRoom};
 ghost use Rattle.ray_serial.specs.TopMeaning.{reference_in, not_zero, put_reference, put_part};
 ghost use Rattle.ray_serial.specs.TopMeaning.{put_parts, top_in, IsLinkRule};

@@ -1,4 +1,4 @@
-ghost use Rattle.std.specs.Prelude.{◌≡◌, Some, None, [], IfOk, OnOk, IsSome, false, option_map};
+ghost use Rattle.std.specs.Prelude.{◌≡◌, Some, [], IfOk, OnOk, IsSome, false, option_map};
 ghost use Rattle.ray_bytes.specs.Fields.{word_at};
 ghost use Rattle.ray_bottom.specs.Builders.{bare, builder_with, IsNew};
 ghost use Rattle.ray_geometries.specs.Contents.{has_both_fast, HasRoom};

@@ -1,4 +1,4 @@
-ghost use Rattle.std.specs.Prelude.{◌≡◌, ◌<◌, ◌≤◌, ◌*◌, ◌^◌, ◌==◌, None, Some, if◌then◌else◌, length, option_map, All, IfSome};
+ghost use Rattle.std.specs.Prelude.{◌≡◌, ◌<◌, ◌≤◌, ◌*◌, ◌^◌, ◌==◌, None, Some, if◌then◌else◌, length, option_map, All};
 ghost use Rattle.ray_rules.specs.Ranges.{boxes_range, count_of, cut, index_range, indexed_range, inputs_needed, inputs_read, instances_range, primitives, range, transform_range, vertices_needed, vertices_range, vertices_read};
 ghost use Rattle.ray_status.specs.Limits.{Fits, FitsIf};
 

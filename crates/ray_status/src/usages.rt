@@ -1,5 +1,5 @@
 ghost use Rattle.std.specs.Prelude.{◌≡◌};
-ghost use Rattle.ray_flags.specs.Flags.{Input, Scratch, Storage, Structure, TransferDst, TransferSrc, has_bits};
+ghost use Rattle.ray_flags.specs.Flags.{Input, Scratch, Storage, Structure, TransferDst, TransferSrc};
 ghost use Rattle.ray_rules.specs.Buffers.{is_private, is_private_at, lacks_usage};
 ghost use Rattle.ray_status.specs.Parts.{lacks_bits};
 

@@ -1,4 +1,4 @@
-ghost use Rattle.std.specs.Prelude.{◌≡◌, max, if◌then◌else◌};
+ghost use Rattle.std.specs.Prelude.{◌≡◌};
 ghost use Rattle.ray_sync.specs.Fronts.{front_after, front_at, held, met, raised, no_front, taken_up, waited};
 
 use crate::per_kind::greater;

@@ -1,7 +1,6 @@
-ghost use Rattle.std.specs.Prelude.{◌≡◌, ◌≤◌, ◌<◌, ◌^◌, ◌+◌, ℕ, List, IfOk, Some, length, slice_get, suc};
+ghost use Rattle.std.specs.Prelude.{◌≡◌, ◌≤◌, ◌<◌, ◌^◌, ℕ, List, IfOk, Some, length};
 ghost use Rattle.ray_cmd.specs.declared.command.Command.{Command as ACommand};
 ghost use Rattle.ray_marks.specs.Rising.{mark_of};
-ghost use Rattle.ray_sync.specs.Carrying.{carried_after, nothing_carried};
 ghost use Rattle.ray_sync.specs.Lanes.{IsLane};
 ghost use Rattle.ray_sync.specs.Lasts.{IsLast, UncoveredIn, above, has_it, is_by, marked_if};
 

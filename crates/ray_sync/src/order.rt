@@ -1,7 +1,7 @@
-ghost use Rattle.std.specs.Prelude.{◌≡◌, ◌<◌, ◌≤◌, ℕ, List, IfOk, length, [], suc};
+ghost use Rattle.std.specs.Prelude.{◌≡◌, ◌<◌, ◌≤◌, List, IfOk, length};
 ghost use Rattle.ray_cmd.specs.declared.command.Command.{Command as ACommand};
 ghost use Rattle.ray_rules.specs.Order.{IsLongest, before};
-ghost use Rattle.ray_sync.specs.Rows.{HaveNumbers, IsOrderOf, wave_of, best_at};
+ghost use Rattle.ray_sync.specs.Rows.{HaveNumbers, IsOrderOf, wave_of};
 
 use crate::fronts::Fronts;
 use crate::kind::{Kind, kind_of};

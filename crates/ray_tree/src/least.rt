@@ -1,8 +1,7 @@
 //! The least boxes of nodes.
-ghost use Rattle.std.specs.Prelude.{◌≡◌, ◌<◌, ◌≤◌, ◌+◌, ◌↔◌, IsTrue, Some, length, take, drop};
+ghost use Rattle.std.specs.Prelude.{◌≡◌, ◌<◌, ◌≤◌, ◌+◌, ◌↔◌, IsTrue, Some, length};
 ghost use Rattle.std.specs.List.{All};
 ghost use Rattle.ray_geom.specs.LeastBoxes.{HoldsBoxes, IsLeast};
-ghost use Rattle.ray_tree.specs.Shapes.{node_at};
 ghost use Rattle.ray_tree.specs.Trees.{item_box, boxes_of, boxes_in};
 ghost use Rattle.ray_tree.specs.Local.{IsActive, IsFit, IsLocal, IsLocalAt, AreLocal, AreFit};
 

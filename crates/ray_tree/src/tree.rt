@@ -1,4 +1,4 @@
-ghost use Rattle.std.specs.Prelude.{◌≡◌, ◌<◌, ◌≤◌, ◌^◌, ◌↔◌, ℕ, IsTrue, IfOk, SomeIff, length, slice_index};
+ghost use Rattle.std.specs.Prelude.{◌≡◌, ◌<◌, ◌≤◌, ◌^◌, ◌↔◌, IsTrue, IfOk, SomeIff, length, slice_index};
 ghost use Rattle.ray_geom.specs.Boxes.{BoxValue};
 ghost use Rattle.ray_tree.specs.Shapes.{node_at};
 ghost use Rattle.ray_tree.specs.Trees.{TreeOver, IsShape, tree_value, box_at, item_at, leaves_of};

@@ -1,4 +1,4 @@
-ghost use Rattle.std.specs.Prelude.{◌≡◌, ◌≤◌, IfOk, IfNone, IfSome, length, option_map};
+ghost use Rattle.std.specs.Prelude.{◌≡◌, ◌≤◌, IfOk, IfNone, IfSome, length};
 ghost use Rattle.ray_rules.specs.Buffers.{v2};
 ghost use Rattle.ray_rules.specs.Names.{v1};
 ghost use Rattle.ray_rules.specs.Refusals.{AreKept, IsLeastBroken, refusal_at_end, refused, static_refusal, static_refusal_of, static_table};

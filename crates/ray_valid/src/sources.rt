@@ -1,10 +1,9 @@
 ghost use Rattle.std.specs.Prelude.{◌≡◌, ◌<◌, ◌≤◌, ◌^◌, IfSome, length};
 ghost use Rattle.std.specs.List.{position};
 ghost use Rattle.std.specs.Option.{option_copied};
-ghost use Rattle.ray_flags.specs.Flags.{AllowCompaction};
 ghost use Rattle.ray_rules.specs.Origins.{uses_of};
 ghost use Rattle.ray_rules.specs.Places.{first_part};
-ghost use Rattle.ray_rules.specs.Sources.{compacts_forbidden, first_not_compactable, first_stale, is_later, is_not_compactable, is_stale, is_stale_structure, is_unbuilt, v13, v14, v15, v17, v18, v20, v21, was_built_without};
+ghost use Rattle.ray_rules.specs.Sources.{compacts_forbidden, first_not_compactable, first_stale, is_later, is_not_compactable, is_stale, is_stale_structure, is_unbuilt, v13, v14, v15, v17, v18, v20, v21};
 ghost use Rattle.ray_valid.specs.Parts.{forbids_compaction};
 
 use crate::place::{part, whole};

@@ -1,6 +1,5 @@
 // The counts of the records of a self run.
 ghost use Rattle.std.specs.Prelude.{◌≡◌, ◌==◌, [], IfOk, option_copied, string_bytes, unwrap_or};
-ghost use Rattle.std.specs.List.{count_by};
 ghost use Rattle.ray_bytes.specs.Hits.{hit_of_bytes};
 ghost use Rattle.ray_memory.specs.State.{memory_of};
 ghost use Rattle.vkray.specs.Counting.{counts_line, last_shown_in, shown_by};

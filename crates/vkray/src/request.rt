@@ -1,4 +1,4 @@
-ghost use Rattle.std.specs.Prelude.{◌≡◌, ◌<◌, ◌≤◌, ◌^◌, ◌↔◌, ℕ, IfNone, IfSome, IsTrue, Some, codes, decimal};
+ghost use Rattle.std.specs.Prelude.{◌≡◌, ◌<◌, ◌↔◌, IfNone, IfSome, IsTrue, Some, codes, decimal};
 ghost use Rattle.ray_scene.specs.Grid.{IsScene};
 ghost use Rattle.vkray.specs.declared.request.Scene.{Scene as AScene};
 ghost use Rattle.vkray.specs.Words.{AreWords, AsksFor, IsGenerating, Requests};

@@ -1,6 +1,5 @@
 // The words of a self run.
-ghost use Rattle.std.specs.Prelude.{◌≡◌, ◌↔◌, ℕ, IfNone, IfSome, IsTrue, Some, codes, decimal};
-ghost use Rattle.vkray.specs.declared.request.Scene.{Scene as AScene};
+ghost use Rattle.std.specs.Prelude.{◌≡◌, ◌↔◌, IfNone, IfSome, IsTrue, Some, codes, decimal};
 ghost use Rattle.vkray.specs.declared.request.SelfRun.{SelfRun as ASelfRun};
 ghost use Rattle.vkray.specs.Words.{AreOfSelfRun, AreOfSelfRunBy, AskBy, AsksSelfRun};
 
