@@ -5,13 +5,14 @@ ghost use Rattle.ray_geometries.specs.Contents.{bounds_of, total_of, active_of, 
 ghost use Rattle.ray_geometries.specs.Contents.{kind_of, count_of, IsContents};
 ghost use Rattle.ray_geometries.specs.Storing.{payload_of};
 ghost use Rattle.ray_bottom.specs.LeafItems.{IsItemOf, items_below, place_of_item};
+ghost use Rattle.ray_bottom.specs.Lists.{part_of};
 ghost use Rattle.ray_bottom.specs.Slots.{IsSound};
 ghost use Rattle.ray_bottom.specs.Trees.{without_tree, items_of, places_below};
 ghost use Rattle.ray_tree.specs.Trees.{TreeOver};
 ghost use Rattle.ray_wide.specs.Subtrees.{IsWideLeaf};
 ghost use Rattle.ray_wide.specs.Wides.{WideOver};
 
-use crate::leaf_item::LeafItem;
+use crate::leaf_list::{LeafList, LeafPart};
 use crate::prim_place::PrimPlace;
 use ray_bytes::compacted_of;
 use ray_flags::{BuildFlags, Kind};
@@ -31,7 +32,7 @@ pub struct Bottom {
     pub(crate) contents: Contents,
     pub(crate) hierarchy: Hierarchy,
     pub(crate) places: Vec<PrimPlace>,
-    pub(crate) leaf_items: Vec<LeafItem>,
+    pub(crate) leaf_items: LeafList,
 }
 
 impl Model for Bottom {
@@ -43,7 +44,7 @@ impl Model for Bottom {
     ghost view = { λ b. bottom_value b.contents b.hierarchy };
 
     ghost invariant = { λ b. IsIndexed (bottom_value b.contents b.hierarchy) b.places.items
-        b.leaf_items.items };
+        b.leaf_items };
 }
 
 impl Bottom {
@@ -55,7 +56,7 @@ impl Bottom {
         let contents = self.contents.copy(alloc)?;
         let hierarchy = self.hierarchy.copy(alloc)?;
         let places = self.places.clone()?;
-        let leaf_items = self.leaf_items.clone()?;
+        let leaf_items = self.leaf_items.copy()?;
         Ok(Bottom {
             contents,
             hierarchy,
@@ -115,31 +116,31 @@ impl Bottom {
 
     /// The primitives of a leaf, by its node in the binary tree, with copies of their points that
     /// stand beside each other; none for another node.
-    pub fn leaf_items(&self, leaf: u32) -> &[LeafItem]
+    pub fn leaf_items(&self, leaf: u32) -> LeafPart<'_>
         requires { leaf < length self.now.tree.nodes }
-        ensures places { map place_of_item result.now ≡ places_below self.now leaf }
-        ensures held { All (IsItemOf self.now.geometries) result.now }
+        ensures places { map place_of_item (part_of result) ≡ places_below self.now leaf }
+        ensures held { All (IsItemOf self.now.geometries) (part_of result) }
     {
         self.items_below(leaf)
     }
 
     /// The same, of a leaf as the wide tree names it: the binary tree isn't asked.
-    pub fn items_of_leaf(&self, leaf: WideLeaf) -> &[LeafItem]
+    pub fn items_of_leaf(&self, leaf: WideLeaf) -> LeafPart<'_>
         requires { IsWideLeaf self.now.tree.nodes leaf }
-        ensures places { map place_of_item result.now ≡ places_below self.now leaf.node }
-        ensures held { All (IsItemOf self.now.geometries) result.now }
+        ensures places { map place_of_item (part_of result) ≡ places_below self.now leaf.node }
+        ensures held { All (IsItemOf self.now.geometries) (part_of result) }
     {
         self.items_between(leaf)
     }
 
     // The same, as it is kept.
-    fn items_between(&self, leaf: WideLeaf) -> &[LeafItem]
+    fn items_between(&self, leaf: WideLeaf) -> LeafPart<'_>
         requires { IsWideLeaf self.now.tree.nodes leaf }
-        ensures { result.now ≡ items_below self.now leaf.node }
+        ensures { part_of result ≡ items_below self.now leaf.node }
     {
         self.fits(leaf);
-        let first = leaf.first as usize;
-        &self.leaf_items[first..first + leaf.count as usize]
+        self.leaf_items
+            .part(leaf.first as usize, leaf.count as usize)
     }
 
     // The places of a leaf are among those of the tree.
@@ -151,16 +152,13 @@ impl Bottom {
     }
 
     // The same, as it is kept.
-    fn items_below(&self, leaf: u32) -> &[LeafItem]
+    fn items_below(&self, leaf: u32) -> LeafPart<'_>
         requires { leaf < length self.now.tree.nodes }
-        ensures { result.now ≡ items_below self.now leaf }
+        ensures { part_of result ≡ items_below self.now leaf }
     {
         match self.tree().node(leaf) {
-            Node::Leaf { first, count } => {
-                let first = first as usize;
-                &self.leaf_items[first..first + count as usize]
-            }
-            Node::Inner { .. } => &[],
+            Node::Leaf { first, count } => self.leaf_items.part(first as usize, count as usize),
+            Node::Inner { .. } => LeafPart::empty(),
         }
     }
 

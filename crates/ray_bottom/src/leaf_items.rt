@@ -1,12 +1,15 @@
 //! The primitives at the leaves of a tree, in its order.
-ghost use Rattle.std.specs.Prelude.{◌≡◌, [], ◌∷◌, IfOk, map, option_map, slice_get};
+ghost use Rattle.std.specs.Prelude.{◌≡◌, [], ◌∷◌, IfOk, IfSome, map, option_map, slice_get};
 ghost use Rattle.ray_bottom.specs.LeafItems.{any_points, item_at, points_at, points_in};
 ghost use Rattle.ray_bottom.specs.LeafItems.{points_of_box, points_of_tri};
+ghost use Rattle.ray_bottom.specs.Lists.{items_in};
 ghost use Rattle.ray_bottom.specs.LeafItems.{item_of_boxes, item_of_triangles};
 ghost use Rattle.ray_bottom.specs.LeafItems.{points_of_boxes, points_of_triangles};
 
 use crate::leaf_item::{ItemPoints, LeafItem};
+use crate::leaf_list::LeafList;
 use crate::prim_place::PrimPlace;
+use crate::triangle_item::TriangleItem;
 use ray_geom::Point32;
 use ray_geometries::{Geometry, Shapes};
 use ray_primitives::{KeptBox, KeptTriangle};
@@ -17,46 +20,116 @@ pub(crate) fn leaf_items_of(
     alloc: Global,
     geometries: &[Geometry],
     places: &[PrimPlace],
-) -> Result<Vec<LeafItem>, NoMemory>
-    ensures { IfOk result (λ v. v.items ≡ map (item_at geometries.now) places.now) }
+) -> Result<LeafList, NoMemory>
+    ensures { IfOk result (λ list. items_in list ≡ map (item_at geometries.now) places.now) }
+{
+    match packed_items_of(alloc, geometries, places)? {
+        Some(items) => Ok(LeafList::Triangles(items)),
+        None => Ok(LeafList::Any(any_items_of(alloc, geometries, places)?)),
+    }
+}
+
+// The same in few bytes each. None only where one isn't to be had so.
+fn packed_items_of(
+    alloc: Global,
+    geometries: &[Geometry],
+    places: &[PrimPlace],
+) -> Result<Option<Vec<TriangleItem>>, NoMemory>
+    ensures { IfOk result (λ some. IfSome some
+        (λ v. v.items ≡ map (item_at geometries.now) places.now)) }
 {
     match geometries {
-        [g] => items_in_one(alloc, g, places),
-        _ => items_in_all(alloc, geometries, places),
+        [g] => packed_in_one(alloc, g, places),
+        _ => packed_in_all(alloc, geometries, places),
     }
 }
 
 // Those in one geometry.
-fn items_in_one(
+fn packed_in_one(
     alloc: Global,
     g: &Geometry,
     places: &[PrimPlace],
-) -> Result<Vec<LeafItem>, NoMemory>
-    ensures { IfOk result (λ v. v.items ≡ map (item_at (g.now ∷ [])) places.now) }
+) -> Result<Option<Vec<TriangleItem>>, NoMemory>
+    ensures { IfOk result (λ some. IfSome some
+        (λ v. v.items ≡ map (item_at (g.now ∷ [])) places.now)) }
 {
     match &g.shapes {
         Shapes::Triangles { triangles, .. } => {
-            items_of_triangles(alloc, triangles.as_slice(), places)
+            packed_triangles(alloc, triangles.as_slice(), places)
         }
-        Shapes::Boxes { boxes } => items_of_boxes(alloc, boxes.as_slice(), places),
+        Shapes::Boxes { .. } => Ok(None),
     }
 }
 
 // Those in one geometry of these triangles. Nothing but these is looked at for each, so that many
 // of them come from memory at a time.
-fn items_of_triangles(
+fn packed_triangles(
     alloc: Global,
     triangles: &[KeptTriangle],
     places: &[PrimPlace],
-) -> Result<Vec<LeafItem>, NoMemory>
-    ensures { IfOk result (λ v. v.items ≡ map (item_of_triangles triangles.now) places.now) }
+) -> Result<Option<Vec<TriangleItem>>, NoMemory>
+    ensures { IfOk result (λ some. IfSome some
+        (λ v. v.items ≡ map (item_of_triangles triangles.now) places.now)) }
 {
     let mut items = Vec::with_capacity(alloc, places.len())?;
     for place in places {
         let points = points_of_triangles(triangles, *place);
-        items.push(item_of(*place, points))?;
+        match TriangleItem::pack(*place, points) {
+            Some(item) => items.push(item)?,
+            None => return Ok(None),
+        }
     }
-    Ok(items)
+    Ok(Some(items))
+}
+
+// Those in several geometries.
+fn packed_in_all(
+    alloc: Global,
+    geometries: &[Geometry],
+    places: &[PrimPlace],
+) -> Result<Option<Vec<TriangleItem>>, NoMemory>
+    ensures { IfOk result (λ some. IfSome some
+        (λ v. v.items ≡ map (item_at geometries.now) places.now)) }
+{
+    let mut items = Vec::with_capacity(alloc, places.len())?;
+    for place in places {
+        let points = points_at(geometries, *place);
+        match TriangleItem::pack(*place, points) {
+            Some(item) => items.push(item)?,
+            None => return Ok(None),
+        }
+    }
+    Ok(Some(items))
+}
+
+// The items of these places as they are.
+fn any_items_of(
+    alloc: Global,
+    geometries: &[Geometry],
+    places: &[PrimPlace],
+) -> Result<Vec<LeafItem>, NoMemory>
+    ensures { IfOk result (λ v. v.items ≡ map (item_at geometries.now) places.now) }
+{
+    match geometries {
+        [g] => any_items_in_one(alloc, g, geometries, places),
+        _ => items_in_all(alloc, geometries, places),
+    }
+}
+
+// Those in one geometry, which is the first of these.
+fn any_items_in_one(
+    alloc: Global,
+    g: &Geometry,
+    geometries: &[Geometry],
+    places: &[PrimPlace],
+) -> Result<Vec<LeafItem>, NoMemory>
+    requires { geometries.now ≡ g.now ∷ [] }
+    ensures { IfOk result (λ v. v.items ≡ map (item_at geometries.now) places.now) }
+{
+    match &g.shapes {
+        Shapes::Triangles { .. } => items_in_all(alloc, geometries, places),
+        Shapes::Boxes { boxes } => items_of_boxes(alloc, boxes.as_slice(), places),
+    }
 }
 
 // Those in one geometry of these boxes.

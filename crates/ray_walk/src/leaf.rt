@@ -3,6 +3,7 @@ ghost use Rattle.std.specs.Prelude.{◌≡◌, ◌+◌, ◌<◌, ◌≤◌, All,
 ghost use Rattle.ray_contents.specs.Bounds.{KeepsBounds};
 ghost use Rattle.ray_geometries.specs.Contents.{bounds_of};
 ghost use Rattle.ray_bottom.specs.LeafItems.{IsItemOf, place_of_item};
+ghost use Rattle.ray_bottom.specs.Lists.{item_in, part_of};
 ghost use Rattle.ray_bottom.specs.Meeting.{raw_meet_value};
 ghost use Rattle.ray_bottom.specs.Trees.{places_below};
 ghost use Rattle.ray_flags.specs.Admission.{AsksBoth, ForcesBoth};
@@ -21,7 +22,7 @@ use crate::held::Looked;
 use crate::meeting::meets_points;
 use crate::placed::Placed;
 use crate::view::View;
-use ray_bottom::{Bottom, LeafItem, PrimPlace, RawMeet};
+use ray_bottom::{Bottom, LeafItem, LeafPart, PrimPlace, RawMeet};
 use ray_flags::{RayFlags, effective};
 use ray_geom::{Ratio, Ray, Steps};
 use ray_lanes::Window;
@@ -56,11 +57,11 @@ pub(crate) fn open_leaf<L: Ledger>(
 }
 
 // The items of a leaf, by its places, if it is the leaf that was kept.
-fn items_of<'a>(bottom: &'a Bottom, recent: Option<WideLeaf>, n: u32) -> &'a [LeafItem]
+fn items_of<'a>(bottom: &'a Bottom, recent: Option<WideLeaf>, n: u32) -> LeafPart<'a>
     requires within { n < length bottom.now.tree.nodes }
     requires recent { IfSome recent (IsWideLeaf bottom.now.tree.nodes) }
-    ensures places { map place_of_item result.now ≡ places_below bottom.now n }
-    ensures held { All (IsItemOf bottom.now.geometries) result.now }
+    ensures places { map place_of_item (part_of result) ≡ places_below bottom.now n }
+    ensures held { All (IsItemOf bottom.now.geometries) (part_of result) }
 {
     match recent {
         Some(leaf) => {
@@ -82,7 +83,7 @@ fn add_items<L: Ledger>(
     window: &Window,
     i: u32,
     _n: u32,
-    items: &[LeafItem],
+    items: LeafPart<'_>,
     limit: Option<Ratio>,
     turns: &mut Turns,
     steps: &mut Steps<L>,
@@ -90,28 +91,30 @@ fn add_items<L: Ledger>(
     requires is_it { placement_at view.now i ≡ Some (placement_value looked.now) }
     requires window { window.now ≡ window_of
         (object_of view.now.ray looked.now.instance.now.matrix) limit }
-    requires places { map place_of_item items.now ≡ places_below looked.now.bottom.now _n }
-    requires held { All (IsItemOf looked.now.bottom.now.geometries) items.now }
+    requires places { map place_of_item (part_of items)
+        ≡ places_below looked.now.bottom.now _n }
+    requires held { All (IsItemOf looked.now.bottom.now.geometries) (part_of items) }
     ensures found { OnOk result (AddsFoundAt limit view.now i (placement_value looked.now)
         (places_below looked.now.bottom.now _n) turns.old turns.new) }
     ensures steps { OnOk result (steps.new
         ≡ steps.old + length (places_below looked.now.bottom.now _n)) }
     ensures rising { steps.old ≤ steps.new }
 {
-    for item in items {
-        add_item(view, looked, window, i, item, limit, turns, steps)?;
+    for k in 0..items.len() {
+        add_item(view, looked, window, i, items, k, limit, turns, steps)?;
     }
     Ok(())
 }
 
-// Adds the turn of what is found of a primitive. It takes one step. Where the window doesn't meet
-// the primitive nothing is found up to the limit, and no more is asked.
+// Adds the turn of what is found of a primitive, one of these. It takes one step. Where the window
+// doesn't meet the primitive nothing is found up to the limit, and no more is asked.
 fn add_item<L: Ledger>(
     view: &View<'_>,
     looked: &Looked<'_>,
     window: &Window,
     i: u32,
-    item: &LeafItem,
+    items: LeafPart<'_>,
+    k: usize,
     limit: Option<Ratio>,
     turns: &mut Turns,
     steps: &mut Steps<L>,
@@ -119,18 +122,21 @@ fn add_item<L: Ledger>(
     requires is_it { placement_at view.now i ≡ Some (placement_value looked.now) }
     requires window { window.now ≡ window_of
         (object_of view.now.ray looked.now.instance.now.matrix) limit }
-    requires held { IsItemOf looked.now.bottom.now.geometries item.now }
+    requires within { k < length (part_of items) }
+    requires held { IsItemOf looked.now.bottom.now.geometries (item_in items k) }
     ensures added { OnOk result (Adds (AddsFound limit)
-        (found_at_place view.now i (placement_value looked.now) item.now.place)
+        (found_at_place view.now i (placement_value looked.now) (item_in items.entry k).place)
         turns.old turns.new) }
     ensures step { steps.new ≡ steps.old + 1 }
 {
     view.known();
-    if !meets_points(window, &item.points) {
+    let points = items.get(k).points;
+    if !meets_points(window, &points) {
         steps.tick();
         return Ok(());
     }
-    let found = find_at(view, looked, i, item, steps);
+    let item = items.get(k);
+    let found = find_at(view, looked, i, &item, steps);
     push(turns, limit, found)
 }
 

@@ -1,6 +1,8 @@
-use Rattle.std.proofs.Common.{rules, sym, subst}
+use Rattle.std.proofs.Common.{ap, rules, sym, subst, ◌∙◌}
 use Rattle.ray_geom.specs.ObjectRay.{object_of}
 use Rattle.ray_window.specs.Windows.{window_of}
+use Rattle.ray_bottom.specs.declared.leaf_item.LeafItem.{LeafItem}
+use Rattle.ray_bottom.specs.Lists.{item_in}
 use Rattle.ray_walk.specs.Aims.{MeetsPoints}
 use Rattle.ray_walk.specs.Scenes.{placement_value}
 use Rattle.ray_walk.proofs.Beside.{adds_nothing}
@@ -12,10 +14,11 @@ returns-then-not-meets_points-clause-added g c =
     let w = c.known.ensures in
     let s = c.args.view.now in
     let p = placement_value c.args.looked.now in
-    let item = c.args.item.now in
+    let item = item_in c.args.items c.args.k in
     adds_nothing s c.args.i p item.place c.args.limit c.args.turns.now w.ray (well_placed s c.args.i p w.top w.standing w.bottoms c.requires.is_it)
     (λ met.
     let here = c.meets_points.ensures.1
-    (subst (λ window. MeetsPoints window item.points) (sym c.requires.window)
-    (subst (MeetsPoints (window_of (object_of s.ray p.instance.matrix) c.args.limit)) (sym c.requires.held.points_are) met)) in
+    (subst (λ window. MeetsPoints window c.get-points.result.points) (sym c.requires.window)
+    (subst (MeetsPoints (window_of (object_of s.ray p.instance.matrix) c.args.limit))
+    (sym c.requires.held.points_are ∙ ap (λ (it : LeafItem). it.points) (sym c.get-points.ensures)) met)) in
     absurd (search rules))

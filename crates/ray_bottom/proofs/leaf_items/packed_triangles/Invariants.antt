@@ -1,6 +1,6 @@
 use Rattle.std.proofs.Common.{◌≡◌, take, map}
 use Rattle.ray_bottom.specs.LeafItems.{item_of_triangles}
-use Rattle.ray_bottom.proofs.leaf_items.items_of_triangles.Given as goal
+use Rattle.ray_bottom.proofs.leaf_items.packed_triangles.Given as goal
 
 -- the places so far
 abbrev pub invariant-loop-place : goal.invariant-loop-place
