@@ -41,8 +41,6 @@ mod rays;
 mod reading;
 mod spot;
 mod testing;
-#[cfg(test)]
-mod tests;
 mod verdict;
 mod work;
 

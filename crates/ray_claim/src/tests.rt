@@ -6,28 +6,6 @@ use std::alloc::{AllocError, Global};
 use std::sync::Wait;
 use std::thread::{self, Promise, Threads};
 
-#[test]
-fn two_numbers_and_no_more(rt: HostRuntime) -> Result<(), AllocError> {
-    let (claims, mut seat) = Claims::new(rt.alloc(), 2)?;
-    let mut late = claims.split(&mut seat)?;
-    assert!(rt; claims.draw(&mut seat) == Some(0));
-    assert!(rt; claims.draw(&mut seat) == Some(1));
-    assert!(rt; claims.draw(&mut late).is_none());
-    assert!(rt; claims.draw(&mut seat).is_none());
-    assert!(rt; claims.draw(&mut seat).is_none());
-    assert!(rt; claims.join(&mut seat, late).is_ok());
-    assert!(rt; claims.close(seat) == 2);
-    Ok(())
-}
-
-#[test]
-fn no_number_below_0(rt: HostRuntime) -> Result<(), AllocError> {
-    let (claims, mut seat) = Claims::new(rt.alloc(), 0)?;
-    assert!(rt; claims.draw(&mut seat).is_none());
-    assert!(rt; claims.close(seat) == 0);
-    Ok(())
-}
-
 // A seat after its thread, and what it drew.
 #[derive(Drop)]
 struct Worked {

@@ -1,10 +1,8 @@
-ghost use Rattle.std.specs.Prelude.{◌≡◌, ◌≤◌, ◌^◌, [], IfOk, IsSome, All, length};
-ghost use Rattle.std.specs.List.{range_with_len};
+ghost use Rattle.std.specs.Prelude.{◌≡◌, ◌≤◌, ◌^◌, IfOk, IsSome, All, length};
 ghost use Rattle.ray_tree.specs.Trees.{TreeOver};
 ghost use Rattle.ray_climb.specs.Refits.{HasActivity};
-ghost use Rattle.ray_climb.specs.Seats.{seat_view};
 
-use crate::{Climb, ClimbSeat, climb_all};
+use crate::climb_all;
 use ray_geom::{Box3, Vec3};
 use ray_tree::{Tree, build_median};
 use std::alloc::{AllocError, Global};
@@ -36,36 +34,6 @@ fn same_activity(_tree: &Tree, _old: &[Option<Box3>], _new: &[Option<Box3>])
     requires new { All IsSome _new.now }
     ensures { HasActivity _tree.now _new.now }
 {}
-
-// A seat for each of two leaves.
-fn by_two_seats(climb: &Climb, mut seat: ClimbSeat) -> Result<ClimbSeat, AllocError>
-    requires { seat ≡ seat_view climb.now.id (range_with_len 0 2) [] }
-    ensures { IfOk result (λ s. s ≡ seat_view climb.now.id [] (range_with_len 0 2)) }
-{
-    let mut other = climb.split(&mut seat, 1)?;
-    climb.climb_leaf(&mut other, 1);
-    climb.climb_leaf(&mut seat, 0);
-    let _ = climb.join(&mut seat, other);
-    Ok(seat)
-}
-
-#[test]
-fn the_last_of_five_boxes_moves(rt: HostRuntime) -> Result<(), AllocError> {
-    let alloc = rt.alloc();
-    let old = items_at(alloc, &[0, 1, 2, 3, 4])?;
-    let new = items_at(alloc, &[0, 1, 2, 3, 9])?;
-    let tree = build_median(alloc, &old)?;
-    assert!(rt; tree.leaves() == 2);
-    same_activity(&tree, &old, &new);
-    let Ok((climb, seat)) = Climb::new(alloc, tree, &new) else {
-        return Err(AllocError);
-    };
-    let seat = by_two_seats(&climb, seat)?;
-    let refitted = climb.close(alloc, seat)?;
-    let all = Box3::new(Vec3 { x: 0, y: 0, z: 0 }, Vec3 { x: 9, y: 1, z: 1 });
-    assert!(rt; refitted.root().map(|root| refitted.node_box(root)) == all);
-    Ok(())
-}
 
 // So many numbers, each so much greater than the one before.
 fn spread(alloc: Global, n: u32, by: u32) -> Result<Vec<u32>, AllocError>
@@ -105,12 +73,5 @@ fn is_as_anew<R: Threads + Sync>(rt: &R, alloc: Global, n: u32) -> Result<bool, 
 #[test]
 fn ten_thousand_items_by_four_seats(rt: HostRuntime) -> Result<(), AllocError> {
     assert!(rt; is_as_anew(&rt, rt.alloc(), 10_000)?);
-    Ok(())
-}
-
-#[test]
-fn one_leaf_and_none(rt: HostRuntime) -> Result<(), AllocError> {
-    assert!(rt; is_as_anew(&rt, rt.alloc(), 1)?);
-    assert!(rt; is_as_anew(&rt, rt.alloc(), 0)?);
     Ok(())
 }

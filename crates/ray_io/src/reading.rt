@@ -46,6 +46,3 @@ pub fn read_all<S: Source>(alloc: Global, source: &mut S, limit: u32) -> Result<
         bytes.extend_from_slice(&buffer[..count])?;
     }
 }
-
-#[cfg(test)]
-mod tests;

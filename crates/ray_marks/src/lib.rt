@@ -10,8 +10,6 @@
 
 mod marks;
 mod node;
-#[cfg(test)]
-mod tests;
 
 pub use crate::marks::Marks;
 pub use std::alloc::AllocError as NoMemory;

@@ -8,5 +8,4 @@ mod Moving
 mod Underway
 pub mod Growing
 pub mod Added
-pub mod SmallScene
 mod SameDistance

@@ -7,4 +7,3 @@ pub mod Kept
 pub mod TurnLaws
 pub mod Answer
 pub mod Taking
-pub mod Small

@@ -17,8 +17,6 @@
 mod nearest;
 mod node;
 mod scene;
-#[cfg(test)]
-mod tests;
 mod tie;
 mod turn;
 mod turns;

@@ -15,8 +15,6 @@
 
 mod laws;
 mod recorded;
-#[cfg(test)]
-mod tests;
 
 pub use laws::{every_schedule, first_commands, permitted_schedules, runs_in_waves};
 pub use recorded::Recorded;

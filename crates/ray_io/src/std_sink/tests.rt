@@ -31,15 +31,3 @@ fn a_file_takes_and_gives_bytes(rt: HostRuntime) -> Result<(), Fail> {
     fs::remove_file(&rt, PATH)?;
     Ok(())
 }
-
-#[test]
-fn a_long_slice_comes_whole(rt: HostRuntime) -> Result<(), Fail> {
-    let long = vec![in rt.alloc(); 7; 20000]?;
-    let mut source = StdSource::new(long.as_slice());
-    let all = read_all(rt.alloc(), &mut source, 20000)?;
-    assert_eq!(rt; all.as_slice(), long.as_slice());
-    let mut source = StdSource::new(long.as_slice());
-    let error = read_all(rt.alloc(), &mut source, 19999).err();
-    assert_eq!(rt; error, Some(ReadError::TooLong));
-    Ok(())
-}
