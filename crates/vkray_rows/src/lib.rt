@@ -1,14 +1,11 @@
 //! Tests that cross crates and that no conformance case can say: of the program's one call with
 //! sources and sinks that fail, give or take a few bytes a call, and what holds of each of many
-//! inputs; with gates that wait for other pieces, so that workers are seen beside each other; of
-//! traces with a script as their client; and of builds from narrow and flat vertices. No other crate
-//! depends on it.
+//! inputs; and with gates that wait for other pieces, so that workers are seen beside each other.
+//! No other crate depends on it.
 #![tactic(auto)]
 
 #[cfg(test)]
 mod answer;
-#[cfg(test)]
-mod built;
 #[cfg(test)]
 mod device;
 #[cfg(test)]
@@ -17,7 +14,5 @@ mod failing;
 mod meeting;
 #[cfg(test)]
 mod reading;
-#[cfg(test)]
-mod scripted;
 #[cfg(test)]
 mod triangle;
