@@ -1,17 +1,38 @@
-# make demo: runs the program on the triangle recording before anything is proved, in under a minute
-# make: proves everything that the program stands on, links it, and leaves it as ./vkray
-# make examples: runs each recording of examples/ with the linked program, and compares text and status
-# make conformance: runs the conformance cases through the library's one call, in seconds once it is proved
-# make test: the whole gate: every proof from nothing, the wrong bodies, the tests, the cases and the programs
+# Before anything is proved:
+#   make demo                the program on the triangle recording
+#   make try FILE=mine.json  the program on a recording; FILES=folder: on each of a folder's, compiled once
+#   make quick               most of the conformance cases
+# With proofs:
+#   make                     proves everything that the program stands on, links it, leaves it as ./vkray
+#   make examples            runs each recording of examples/ with it, and compares text and status
+#   make conformance         runs all conformance cases through the library's one call
+#   make test                the whole gate: every proof from nothing, the wrong bodies, the tests, the cases, the
+#                            programs, and then the side checks, which compare pages with sources
+# WORDS are what `make try` asks the program for: run, or check.
+WORDS = run
+SOURCES = crates.txt HANDLES $(shell find crates -path '*/out' -prune -o \( -name '*.rt' -o -name '*.antt' \) -print)
 
-.PHONY: all demo examples conformance test same
+.PHONY: all demo try quick examples conformance test
 
-all:
+all: vkray
+
+vkray: $(SOURCES)
 	cd crates/vkray_cli && rt run -- run < ../../examples/triangle.json > /dev/null
 	cp crates/vkray_cli/out/vkray_cli vkray
 
-demo: same
+demo:
 	cd crates/vkray_cli && rt try -- run < ../../examples/triangle.json
+
+try:
+ifdef FILES
+	cd crates/vkray_cli && rt try --cases $(abspath $(FILES)) -- $(WORDS)
+else
+	@test -n "$(FILE)" || { echo "make try FILE=recording.json, or FILES=folder"; exit 1; }
+	cd crates/vkray_cli && rt try -- $(WORDS) < $(abspath $(FILE))
+endif
+
+quick:
+	cd crates/vkray_cases && rt try --seconds 600 -- $(CURDIR)/crates/vkray_cases/data
 
 examples: vkray
 	@failed=0; for recording in examples/*.json; do \
@@ -23,15 +44,9 @@ examples: vkray
 	  else printf '%s: wanted\n%s\nbut got\n%s\n' "$$recording" "$$wanted" "$$told"; failed=1; fi; \
 	done; exit $$failed
 
-vkray:
-	$(MAKE) all
-
 conformance:
-	cd crates/vkray_cases && rt run -- "$(CURDIR)/crates/vkray_cases/data"
+	cd crates/vkray_cases && rt run -- $(CURDIR)/crates/vkray_cases/data
 
-test: same
+test:
 	rt ci
-
-# The gate runs the program on its own copy of the triangle recording.
-same:
-	cmp examples/triangle.json crates/vkray_cli/stdin
+	checks/run
