@@ -4,8 +4,4 @@ pub mod Rays
 pub mod Spots
 pub mod Tested
 pub mod Status
-pub mod HexItems
-pub mod Readings
-pub mod Lines
-pub mod Verdicts
 pub mod Drawers

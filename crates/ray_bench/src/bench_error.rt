@@ -1,7 +1,6 @@
 ghost use Rattle.std.specs.Prelude.{◌≡◌};
 ghost use Rattle.ray_bench.specs.Status.{status_of};
 
-use ray_io::ReadError;
 use std::alloc::AllocError;
 use std::{fmt, io};
 
@@ -10,12 +9,8 @@ use std::{fmt, io};
 pub enum BenchError {
     /// The words are none of the program's.
     BadWords,
-    /// A read of the input failed.
-    ReadFault,
     /// A write failed, or the words could not be read.
     Io(io::Error),
-    /// The input is longer than 2^26 bytes.
-    TooLong,
     /// Memory ran out.
     NoMemory,
 }
@@ -27,9 +22,7 @@ impl BenchError {
     {
         match self {
             BenchError::BadWords => 3,
-            BenchError::ReadFault => 4,
             BenchError::Io(_) => 5,
-            BenchError::TooLong => 6,
             BenchError::NoMemory => 7,
         }
     }
@@ -39,9 +32,7 @@ impl fmt::Display for BenchError {
     fn fmt<W: fmt::Write>(&self, f: &mut fmt::Formatter<W>) -> fmt::Result {
         match self {
             BenchError::BadWords => write!(f, "bad-words"),
-            BenchError::ReadFault => write!(f, "read-fault"),
             BenchError::Io(error) => write!(f, "io {error}"),
-            BenchError::TooLong => write!(f, "too-long"),
             BenchError::NoMemory => write!(f, "no-memory"),
         }
     }
@@ -64,19 +55,5 @@ impl From<io::Error> for BenchError {
 
     fn from(error: io::Error) -> BenchError {
         BenchError::Io(error)
-    }
-}
-
-impl From<ReadError> for BenchError {
-    ghost use Rattle.ray_bench.specs.Status.{error_of};
-
-    ghost from_gives = { λ error e. e ≡ error_of error };
-
-    fn from(error: ReadError) -> BenchError {
-        match error {
-            ReadError::ReadFault => BenchError::ReadFault,
-            ReadError::TooLong => BenchError::TooLong,
-            ReadError::NoMemory => BenchError::NoMemory,
-        }
     }
 }

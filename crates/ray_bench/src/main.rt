@@ -5,16 +5,6 @@
 //! `ray_bench box-reaches 20000000` the same without a greatest common divisor. Each prints the
 //! number of pairs and of hits. Without words it does a little of each.
 //!
-//! `ray_bench json`, `ray_bench hex` and `ray_bench recording` read standard input, of at most 2^26
-//! bytes, as a JSON value, as that with the hexadecimal digits of its items' members `data`, and as
-//! a recording. Each prints the number of bytes and what came of it: the number of items, of such
-//! members, or of commands, or else `not-json` or `bad-shape I`. What `hex` does is the least that
-//! a reader of recordings does by `serde_json` and `hex`.
-//!
-//! `ray_bench static-rules` reads standard input as a recording and prints what the static rules
-//! say of it: the line of its refusal, as the program's `run` prints it, or `ok`; `not-json` or
-//! `bad-shape I` where it is none. `ray_bench rules` does the same by all rules V1 to V32.
-//!
 //! `ray_bench draws 4 20000000` draws that many numbers of one shared word by four threads, or by
 //! one where the digit is 1, and prints how many were drawn.
 //!
@@ -22,47 +12,27 @@
 //!
 //! The contract that `main` uses is that of `count_hits`: the count is that of `AreHits` of
 //! `specs/Tested`, exactly the pairs that are hits by `hit_of` of ray_geom, or the boxes that are
-//! met by its `IsInside`, on which it stands. That of `line` is the whole line of a reading,
-//! `line_of` of `specs/Lines`, which goes by `recording_of` of ray_cmd, and that of `verdict` is
-//! `verdict_of` of `specs/Verdicts`, which goes by `static_refusal` or `rule_refusal` of ray_rules;
-//! `input` gives all the bytes.
+//! met by its `IsInside`, on which it stands.
 #![tactic(auto)]
 
 mod bench_error;
-mod counted;
 mod drawing;
 mod field;
-mod hex_items;
-mod input;
 mod job;
-mod line;
 mod pair;
 mod rays;
-mod reading;
 mod spot;
 mod testing;
-mod verdict;
 mod work;
 
 use crate::bench_error::BenchError;
 use crate::drawing::{Drawers, count_drawn};
-use crate::input::input;
 use crate::job::Job;
-use crate::line::line;
-use crate::reading::Reading;
 use crate::testing::count_hits;
-use crate::verdict::{Rules, verdict};
-use ray_io::StdSource;
 use std::env;
 use std::process::ExitCode;
 use std::rt::Env;
 use std::thread::Threads;
-
-/// The word that asks what the static rules say of a recording.
-const STATIC_RULES: &str = "static-rules";
-
-/// The word that asks what all rules on it say of a recording.
-const RULES: &str = "rules";
 
 /// The word that asks for draws.
 const DRAWS: &str = "draws";
@@ -79,7 +49,7 @@ fn main(rt: HostRuntime) -> ExitCode {
 }
 
 // What the words ask for.
-fn run<R: Env + AllocGlobal + Print + Input + Threads + Sync>(rt: &R) -> Result<(), BenchError> {
+fn run<R: Env + AllocGlobal + Print + Threads + Sync>(rt: &R) -> Result<(), BenchError> {
     let words: Vec<String> = env::args(rt)?.skip(1).collect(rt.alloc())?;
     match words.as_slice() {
         [] => {
@@ -89,19 +59,6 @@ fn run<R: Env + AllocGlobal + Print + Input + Threads + Sync>(rt: &R) -> Result<
             report(rt, Job::LITTLE_BOX_REACHES)?;
             draw(rt, "1", "300")?;
             draw(rt, "4", "300")
-        }
-        [word] if word.as_str() == STATIC_RULES => {
-            let bytes = input(rt.alloc(), &mut StdSource::new(rt.reader()))?;
-            judge(rt, Rules::Static, bytes.as_slice())
-        }
-        [word] if word.as_str() == RULES => {
-            let bytes = input(rt.alloc(), &mut StdSource::new(rt.reader()))?;
-            judge(rt, Rules::All, bytes.as_slice())
-        }
-        [word] => {
-            let reading = Reading::named(word.as_str()).ok_or(BenchError::BadWords)?;
-            let bytes = input(rt.alloc(), &mut StdSource::new(rt.reader()))?;
-            tell(rt, reading, bytes.as_slice())
         }
         [work, number] => report(rt, Job::parse(work.as_str(), number.as_str())?),
         [word, threads, number] if word.as_str() == DRAWS => {
@@ -130,19 +87,5 @@ fn draw<R: AllocGlobal + Print + Threads + Sync>(
 fn report<R: AllocGlobal + Print>(rt: &R, job: Job) -> Result<(), BenchError> {
     let hits = count_hits(rt.alloc(), job)?;
     println!(rt; "{} {} hits {hits}", job.work, job.number)?;
-    Ok(())
-}
-
-// Reads the bytes and prints the line of what came of it.
-fn tell<R: AllocGlobal + Print>(rt: &R, reading: Reading, bytes: &[u8]) -> Result<(), BenchError> {
-    let line = line(rt.alloc(), reading, bytes)?;
-    println!(rt; "{line}")?;
-    Ok(())
-}
-
-// Checks the recording of the bytes by rules, and prints the line of what they say.
-fn judge<R: AllocGlobal + Print>(rt: &R, rules: Rules, bytes: &[u8]) -> Result<(), BenchError> {
-    let line = verdict(rt.alloc(), rules, bytes)?;
-    print!(rt; "{line}")?;
     Ok(())
 }
