@@ -20,8 +20,6 @@ mod claims;
 mod laws;
 mod rule;
 mod seat;
-#[cfg(test)]
-mod tests;
 
 pub use claims::Claims;
 pub use laws::{drawn_apart, given_once};

@@ -17,4 +17,3 @@ mod Framed
 mod Opening
 mod Boxed
 mod Ranges
-mod AllActive

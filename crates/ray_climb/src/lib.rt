@@ -29,8 +29,6 @@ mod refit;
 mod rule;
 mod seat;
 mod steps;
-#[cfg(test)]
-mod tests;
 
 pub use all::{climb_all, climb_by};
 pub use climb::Climb;

@@ -69,6 +69,3 @@ impl<T: io::Write> Sink for StdSink<T> {
         }
     }
 }
-
-#[cfg(test)]
-mod tests;

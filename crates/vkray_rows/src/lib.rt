@@ -15,4 +15,6 @@ mod meeting;
 #[cfg(test)]
 mod reading;
 #[cfg(test)]
+mod standard;
+#[cfg(test)]
 mod triangle;

@@ -1,14 +1,10 @@
-use super::*;
-use crate::read_error::ReadError;
-use crate::reading::read_all;
-use crate::std_source::StdSource;
-use crate::write_fault::WriteFault;
-use crate::writing::write_all;
+use ray_io::{ReadError, StdSink, StdSource, WriteFault, read_all, write_all};
 use std::fs;
 use std::test::Fail;
 
-const PATH: &str = "ray_io_std_edge.bin";
+const PATH: &str = "vkray_rows_standard.bin";
 
+// Sources and sinks before a reader and a writer of std, over a file that is written here.
 #[test]
 fn a_file_takes_and_gives_bytes(rt: HostRuntime) -> Result<(), Fail> {
     let mut written = StdSink::new(fs::create(&rt, PATH)?);
