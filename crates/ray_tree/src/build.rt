@@ -1,6 +1,6 @@
-ghost use Rattle.std.specs.Prelude.{◌≡◌, ◌≤◌, ◌^◌, IfOk, length};
+ghost use Rattle.std.specs.Prelude.{ℕ, ◌≡◌, ◌≤◌, ◌^◌, IfOk, length};
 ghost use Rattle.ray_tree.specs.Shapes.{levels, AreHalves};
-ghost use Rattle.ray_tree.specs.Trees.{TreeOver, shape_at};
+ghost use Rattle.ray_tree.specs.Trees.{TreeOver, active, shape_at, times};
 ghost use Rattle.ray_tree.specs.Plans.{median_nodes};
 
 use crate::fill::boxes_over;
@@ -28,6 +28,24 @@ pub fn build_median(alloc: Global, items: &[Option<Box3>]) -> Result<Tree, NoMem
     ensures low { IfOk result (λ t. levels (shape_at t 0) ≤ 96) }
 {
     let order = ordered(alloc, items)?;
+    build_over(alloc, items, order)
+}
+
+/// The tree by halves over items, which are at most 2^20, whose active ones stand in this order: it
+/// says which of them a left child has, and which a right one. (Own.)
+///
+/// # Errors
+///
+/// For want of memory alone.
+pub fn build_over(alloc: Global, items: &[Option<Box3>], order: Vec<u32>) -> Result<Tree, NoMemory>
+    requires few { length items.now ≤ 2 ^ 20 }
+    requires once { (p : ℕ) → times p order.items ≡ active items.now p }
+    ensures over { IfOk result (λ t. TreeOver t items.now) }
+    ensures halves { IfOk result (λ t. AreHalves (shape_at t 0)) }
+    ensures low { IfOk result (λ t. levels (shape_at t 0) ≤ 96) }
+    ensures nodes { IfOk result (λ t. t.nodes ≡ median_nodes (length order.items)) }
+    ensures order { IfOk result (λ t. t.order ≡ order.items) }
+{
     let nodes = nodes_over(alloc, order.len())?;
     let boxes = boxes_over(alloc, items, &order, &nodes)?;
     let tree = Tree::kept(alloc, nodes, boxes, order)?;

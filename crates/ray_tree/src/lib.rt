@@ -4,9 +4,9 @@
 //! [`Tree`] is the one type. Contracts see it as its nodes, their boxes, and the items' numbers in
 //! the order of their places. The layers above use `TreeOver` of `specs/Trees`, which says what a
 //! tree over items is:
-//! - [`build_median`] gives one, by halves;
+//! - [`build_median`] gives one, by halves, and [`build_over`] that over an order of the items;
 //! - [`Tree::of_parts`] takes one in parts, and so do other builders;
-//! - [`Tree::is_tree_over`] is true exactly of one, and takes no memory;
+//! - [`Tree::is_tree_over`] is true exactly of one, and takes no memory, and so is [`is_over`] of parts;
 //! - [`nesting_law`], [`leaf_law`], [`level_law`] and [`root_law`] say how its nodes stand to each
 //!   other and to the items.
 //!
@@ -30,8 +30,9 @@ mod over;
 mod plant;
 mod tree;
 
-pub use crate::build::build_median;
+pub use crate::build::{build_median, build_over};
 pub use crate::laws::{leaf_law, level_law, nesting_law, root_law};
 pub use crate::node::Node;
+pub use crate::over::is_over;
 pub use crate::tree::Tree;
 pub use std::alloc::AllocError as NoMemory;

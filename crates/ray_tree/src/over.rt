@@ -7,8 +7,9 @@ use crate::least::are_least;
 use crate::node::Node;
 use ray_geom::Box3;
 
-// Whether a tree is one over these items.
-pub(crate) fn is_over(nodes: &[Node], boxes: &[Box3], order: &[u32], items: &[Option<Box3>]) -> bool
+/// Whether nodes, boxes and an order, which have the shape of a tree, are one over these items. It takes no
+/// memory. (Own.)
+pub fn is_over(nodes: &[Node], boxes: &[Box3], order: &[u32], items: &[Option<Box3>]) -> bool
     requires { IsShape (tree_value nodes.now boxes.now order.now) }
     ensures { IsTrue result ↔ TreeOver (tree_value nodes.now boxes.now order.now) items.now }
 {
