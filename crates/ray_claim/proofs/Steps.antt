@@ -10,6 +10,9 @@ use Rattle.atomic_table.proofs.Lists.{at_set, at_snoc}
 use Rattle.ray_claim.specs.declared.rule.View.{View}
 use Rattle.ray_claim.specs.Rule.{times, once_below, mark, IsClaimed, HasClaims}
 use Rattle.ray_claim.specs.Steps.{knows, cut, fresh, both, spent, Draws}
+use Rattle.ray_claim.specs.Seats.{SeatView, seat_view, view_of}
+use Rattle.ray_claim.specs.Draws.{IsCounted}
+use Rattle.atomic_table.specs.Seated.{TableId}
 use Rattle.ray_claim.proofs.Sums.{total_set, total_snoc, part_le, marks_le, times_append, once_more, once_full, once_none, short, short_of_min}
 
 -- a fact about each view after a change of one
@@ -237,34 +240,47 @@ joins n id other v w unspent_v unspent_w s r at apart there =
     )
 
 -- what a seat knows when the table is closed
-pub record IsClosed (n : ℕ) (v : View) (answer : ℕ) : Type 0 where
-  pub once : (x : ℕ) → times x v.drawn ≤ once_below x answer
-  pub counted : length v.drawn ≤ answer
+pub record IsClosed (n : ℕ) (drawn : List ℕ) (answer : ℕ) : Type 0 where
+  pub once : (x : ℕ) → times x drawn ≤ once_below x answer
+  pub counted : length drawn ≤ answer
   pub limited : answer ≤ n
-  pub ended : v.ended ≡ true → answer ≡ n
 
 first_word : (ws : List ℕ) (c : ℕ) → get_elem? ws 0 ≡ some c → get_or ws 0 0 ≡ c
 first_word [] c at = absurd (some-ne-none c (sym at))
 first_word (x ∷ xs) c at = some-injective x c at
 
-closed : (n c : ℕ) (views : List View) (id : ℕ) (v : View) → IsClaimed n c views → get_elem? views id ≡ some v → IsClosed n v (min c n)
-closed n c views id v r at = let once = drawn_once n c views id v r at in record {
-  once = once;
-  counted = short (min c n) v.drawn once;
-  limited = min-le_right c n;
-  ended = λ e. min-eq_right (r.ended id v at e);
-}
+-- the view that the table has of a seat is the seat's
+seen_as : (v : View) (table : TableId) (seat : SeatView) → seat_view table v.drawn v.ended v.splits v.steps ≡ seat
+    → v.spent ≡ false → v ≡ view_of seat
+seen_as v table seat is unspent = (λ i. knows v.drawn v.ended (unspent i) v.splits v.steps) ∙ ap view_of is
 
-pub closes : (n id : ℕ) (v : View) (ws : List ℕ) (xs : List (Unit {0})) (c : ℕ) → Final (Seen (HasClaims n) id v) ws xs → get_elem? ws 0 ≡ some c → IsClosed n v (min c n)
-closes n id v ws xs c final word =
+-- the table's last state tells how many numbers were drawn
+pub counted_at : (n m id : ℕ) (v : View) (table : TableId) (seat : SeatView) (ws : List ℕ) (xs : List (Unit {0})) (c answer : ℕ)
+    → Final (Seen (HasClaims m) id v) ws xs → get_elem? ws 0 ≡ some c → m ≡ n
+    → seat_view table v.drawn v.ended v.splits v.steps ≡ seat → v.spent ≡ false → answer ≡ min c n → IsCounted n seat answer
+counted_at n m id v table seat ws xs c answer final word same is unspent least =
     let s : State (Unit {0}) View = final.0 in
-    let is : get_or s.words 0 0 ≡ c = ap (λ (l : List ℕ). get_or l 0 0) final.2 ∙ first_word ws c word in
-    closed n c s.views id v (subst (λ k. IsClaimed n k s.views) is final.1.0.1) final.1.1
+    let first : get_or s.words 0 0 ≡ c = ap (λ (l : List ℕ). get_or l 0 0) final.2 ∙ first_word ws c word in
+    let ruled : IsClaimed m c s.views = subst (λ k. IsClaimed m k s.views) first final.1.0.1 in
+    record {
+      word = c;
+      views = s.views;
+      id = id;
+      known = final.1.1 ∙ ap some (seen_as v table seat is unspent);
+      ruled = subst (λ k. IsClaimed k c s.views) same ruled;
+      answered = least;
+    }
 
--- the same of the list and the answer by the names that a caller has for them
-pub closes_at : (n m id : ℕ) (v : View) (drawn ws : List ℕ) (xs : List (Unit {0})) (c answer : ℕ) → Final (Seen (HasClaims m) id v) ws xs → get_elem? ws 0 ≡ some c
-    → m ≡ n → v.drawn ≡ drawn → answer ≡ min c n → ((x : ℕ) → times x drawn ≤ once_below x answer) × (length drawn ≤ answer)
-closes_at n m id v drawn ws xs c answer final word same is least =
-    let P : List ℕ × ℕ → Type 0 = λ z. ((x : ℕ) → times x z.0 ≤ once_below x z.1) × (length z.0 ≤ z.1) in
-    let end = closes m id v ws xs c final word in
-    subst P (λ i. (is i, (ap (min c) same ∙ sym least) i)) (end.once, end.counted)
+pub closed_at : (n : ℕ) (seat : SeatView) (answer : ℕ) → IsCounted n seat answer → IsClosed n seat.drawn answer
+closed_at n seat answer told =
+    let once : (x : ℕ) → times x seat.drawn ≤ once_below x answer =
+    subst (λ a. (x : ℕ) → times x seat.drawn ≤ once_below x a) (sym told.answered)
+    (drawn_once n told.word told.views told.id (view_of seat) told.ruled told.known) in
+    record {
+      once = once;
+      counted = short answer seat.drawn once;
+      limited = subst (λ a. a ≤ n) (sym told.answered) (min-le_right told.word n);
+    }
+
+pub all_at : (n : ℕ) (seat : SeatView) (answer : ℕ) → IsCounted n seat answer → seat.ended ≡ true → answer ≡ n
+all_at n seat answer told ended = told.answered ∙ min-eq_right (told.ruled.ended told.id (view_of seat) told.known ended)

@@ -3,7 +3,7 @@ ghost use Rattle.std.specs.Prelude.{length, None, IfSome, IfNone, IfOk, IsOk};
 ghost use Rattle.ray_claim.specs.Rule.{times, once_below};
 ghost use Rattle.ray_claim.specs.Seats.{seat_view, view_of};
 ghost use Rattle.ray_claim.specs.Steps.{IsFound};
-ghost use Rattle.ray_claim.specs.Draws.{IsStep};
+ghost use Rattle.ray_claim.specs.Draws.{IsCounted, IsStep};
 
 use crate::rule::{ClaimRule, Draw, Limit, Seats, View};
 use crate::seat::ClaimSeat;
@@ -120,10 +120,11 @@ impl Claims {
         Ok(())
     }
 
-    /// How many of the numbers below n were drawn, by any seat. They are those below the answer, so
-    /// the seat has each of them at most once, and no other.
+    /// How many of the numbers below n were drawn, by any seat (`counts`). They are those below the
+    /// answer, so the seat has each of them at most once, and no other.
     pub fn close(self, seat: ClaimSeat) -> u64
         requires own { seat.table ≡ self.table }
+        ensures counts { IsCounted self.n seat result }
         ensures counted { length seat.drawn ≤ result }
         ensures limited { result ≤ self.n }
         ensures ended { seat.ended ≡ true → result ≡ self.n }
