@@ -1,7 +1,7 @@
 # Before anything is proved:
 #   make demo                the program on the triangle recording
 #   make try FILE=mine.json  the program on a recording; FILES=folder: on each of a folder's, compiled once
-#   make quick               most of the conformance cases
+#   make quick               the conformance cases, but for the family of the longest
 # With proofs:
 #   make                     proves everything that the program stands on, links it, leaves it as ./vkray
 #   make examples            runs each recording of examples/ with it, and compares text and status
@@ -32,7 +32,9 @@ else
 endif
 
 quick:
-	cd crates/vkray_cases && rt try --seconds 600 -- $(CURDIR)/crates/vkray_cases/data
+	@families=$$(mktemp -d); trap 'rm -r "$$families"' EXIT; \
+	  ln -s $(filter-out %/long,$(wildcard $(CURDIR)/crates/vkray_cases/data/*)) "$$families"; \
+	  cd crates/vkray_cases && rt try --seconds 600 -- "$$families"
 
 examples: vkray
 	@failed=0; for recording in examples/*.json; do \
