@@ -101,6 +101,9 @@ impl Sink for MemSink {
             HasRisen self.old.zero_writes self.new.zero_writes) }
         ensures rising { self.old.faults ≤ self.new.faults }
         ensures zero_rising { self.old.zero_writes ≤ self.new.zero_writes }
+        ensures zero_some { IfOk result (λ n. 0 < n → self.new.zero_writes ≡ self.old.zero_writes) }
+        ensures zero_empty { length from.now ≡ 0 → self.new.zero_writes ≡ self.old.zero_writes }
+        ensures zero_failed { OnErr result (self.new.zero_writes ≡ self.old.zero_writes) }
         ensures telling { is_some (Some self.new.taken) ≡ is_some (Some self.old.taken) }
     {
         let failing = is_among(&self.fails, self.calls);

@@ -29,6 +29,11 @@ pub trait Sink {
         ensures rising { faults self.old ≤ faults self.new }
         ensures zero_rising { zero_writes self.old ≤ zero_writes self.new }
 
+        // A write that took a byte, that had none to take, or that failed isn't counted.
+        ensures zero_some { IfOk result (λ n. 0 < n → zero_writes self.new ≡ zero_writes self.old) }
+        ensures zero_empty { length from.now ≡ 0 → zero_writes self.new ≡ zero_writes self.old }
+        ensures zero_failed { OnErr result (zero_writes self.new ≡ zero_writes self.old) }
+
         // What tells goes on telling, and what doesn't goes on not telling.
         ensures telling { is_some (taken self.new) ≡ is_some (taken self.old) };
 }

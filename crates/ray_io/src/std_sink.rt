@@ -54,6 +54,9 @@ impl<T: io::Write> Sink for StdSink<T> {
             HasRisen (zero_writes_of self.old) (zero_writes_of self.new)) }
         ensures rising { faults_of self.old ≤ faults_of self.new }
         ensures zero_rising { zero_writes_of self.old ≤ zero_writes_of self.new }
+        ensures zero_some { IfOk result (λ n. 0 < n → zero_writes_of self.new ≡ zero_writes_of self.old) }
+        ensures zero_empty { length from.now ≡ 0 → zero_writes_of self.new ≡ zero_writes_of self.old }
+        ensures zero_failed { OnErr result (zero_writes_of self.new ≡ zero_writes_of self.old) }
     {
         match self.writer.write(from) {
             Ok(count) => {

@@ -19,6 +19,7 @@ pub fn write_all<K: Sink>(sink: &mut K, bytes: &[u8]) -> Result<(), WriteFault>
     ensures telling { is_some (K.taken sink.new) ≡ is_some (K.taken sink.old) }
     ensures rising { K.faults sink.old ≤ K.faults sink.new }
     ensures zero_rising { K.zero_writes sink.old ≤ K.zero_writes sink.new }
+    ensures zero_kept { OnOk result (K.zero_writes sink.new ≡ K.zero_writes sink.old) }
 {
     let mut written = 0;
     while written < bytes.len() {

@@ -13,6 +13,6 @@ loop-written-preserved g c =
       told = HasTaken-more _ _ _ _ _ _ had.told (rw take_rest at wrote.told);
       telling = wrote.telling ∙ had.telling;
       rising = omega (arith, wrote.rising);
-      zero_rising = omega (arith, wrote.zero_rising);
+      zero_kept = wrote.zero_some (omega arith) ∙ had.zero_kept;
       untouched = λ none. absurd (omega arith);
     }

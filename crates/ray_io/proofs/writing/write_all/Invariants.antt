@@ -11,7 +11,7 @@ invariant-loop-written g l =
       told : HasTaken (sink.taken start) (sink.taken l.sink) l.written l.bytes;
       telling : is_some (sink.taken l.sink) ≡ is_some (sink.taken start);
       rising : sink.faults start ≤ sink.faults l.sink;
-      zero_rising : sink.zero_writes start ≤ sink.zero_writes l.sink;
+      zero_kept : sink.zero_writes l.sink ≡ sink.zero_writes start;
       untouched : l.written ≡ 0 → l.sink ≡ start;
     }
 
