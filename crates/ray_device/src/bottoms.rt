@@ -30,7 +30,7 @@ use std::thread::Threads;
 /// `info`, or the first of X1 to X4 that is broken, with its place. `flags` doesn't ask both for fast
 /// traces and for fast builds; the geometries are all of triangles or all of boxes, not too many, and
 /// all that is read of them is there. (VK_BUILD_ACCELERATION_STRUCTURE_MODE_BUILD_KHR)
-pub fn built_bottom<R: Threads + Sync>(
+pub(crate) fn built_bottom<R: Threads + Sync>(
     rt: &R,
     alloc: Global,
     state: &State,
@@ -50,7 +50,7 @@ pub fn built_bottom<R: Threads + Sync>(
 /// The same as an update of a structure by info number `info`, with its flags, or the first of X1 to
 /// X4, X9 and X10 that is broken, with its place.
 /// (VK_BUILD_ACCELERATION_STRUCTURE_MODE_UPDATE_KHR)
-pub fn updated_bottom<R: Threads + Sync>(
+pub(crate) fn updated_bottom<R: Threads + Sync>(
     rt: &R,
     alloc: Global,
     state: &State,

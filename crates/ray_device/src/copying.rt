@@ -22,7 +22,11 @@ use std::alloc::{AllocError as NoMemory, Global};
 
 /// What a copy of bytes gives: those of a range, which is there. Only want of memory fails.
 /// (vkCmdCopyBuffer)
-pub fn copied_bytes(alloc: Global, state: &State, from: ByteRange) -> Result<Output, FetchFault>
+pub(crate) fn copied_bytes(
+    alloc: Global,
+    state: &State,
+    from: ByteRange,
+) -> Result<Output, FetchFault>
     requires { IsSome (bytes_at (memory_of state.now) from) }
     ensures { IsFetched (bytes_outcome (bytes_at (memory_of state.now) from)) result }
 {
@@ -36,7 +40,7 @@ pub fn copied_bytes(alloc: Global, state: &State, from: ByteRange) -> Result<Out
 /// source's kind; the source of a compact copy is a bottom structure. `Data` comes exactly where a
 /// compact copy has a destination below the compacted size (X13), with the place `Whole`.
 /// (vkCmdCopyAccelerationStructureKHR)
-pub fn copied_structure(
+pub(crate) fn copied_structure(
     alloc: Global,
     state: &State,
     mode: CopyMode,
@@ -97,7 +101,7 @@ fn compacted(alloc: Global, bottom: &Bottom, size: u64) -> Result<Output, FetchF
 /// Each structure has the number. Only want of memory fails.
 /// (vkCmdWriteAccelerationStructuresPropertiesKHR)
 #[tactic(auto, using(crate::proofs::Numbers::told_numbers))]
-pub fn told_numbers(
+pub(crate) fn told_numbers(
     alloc: Global,
     state: &State,
     what: Asked,

@@ -29,8 +29,6 @@ mod storing;
 mod tops;
 mod tracing;
 
-pub use crate::bottoms::{built_bottom, updated_bottom};
-pub use crate::copying::{copied_bytes, copied_structure, told_numbers};
 pub use crate::fetch_fault::FetchFault;
 pub use crate::fetching::fetch;
 pub use crate::laws::{outputs_are_storable, parts_are_actions, traces_are_free};
@@ -38,8 +36,4 @@ pub use crate::output::Output;
 pub use crate::parts::pieces;
 pub use crate::piece::Piece;
 pub use crate::piece_out::PieceOut;
-pub use crate::ranges::ranges_read;
-pub use crate::serializing::{deserialized, serialized};
 pub use crate::storing::store;
-pub use crate::tops::{built_top, bytes_read, structures_used, updated_top};
-pub use crate::tracing::traced_rays;

@@ -10,7 +10,7 @@ use ray_rules::ByteRange;
 /// the buffer of vertices, boxes or instances. A geometry of no primitives reads nothing.
 /// (VkAccelerationStructureBuildRangeInfoKHR)
 #[tactic(auto, unfolding(crate::specs::Ranges::ranges_with))]
-pub fn ranges_read(size: u64, geometry: &Geometry) -> [Option<ByteRange>; 3]
+pub(crate) fn ranges_read(size: u64, geometry: &Geometry) -> [Option<ByteRange>; 3]
     ensures { result ≡ ranges_with size geometry.now }
 {
     match *geometry {

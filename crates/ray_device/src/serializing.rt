@@ -43,7 +43,7 @@ const OTHER_KIND: u32 = 9;
 /// What the serializing of a structure into a range gives: its bytes. The structure is built.
 /// `Data` comes exactly where the range is below their count (X13), with the place `Whole`.
 /// (vkCmdCopyAccelerationStructureToMemoryKHR)
-pub fn serialized(
+pub(crate) fn serialized(
     alloc: Global,
     state: &State,
     src: u32,
@@ -90,7 +90,7 @@ fn serialized_top(alloc: Global, top: &Top, size: u128) -> Result<Output, FetchF
 /// are of the other kind (X12, with the number of the line, or 9), where the destination is too
 /// small (X13, `Whole`), and where an instance breaks X5 or X7 (with its number): the first of
 /// these. (vkCmdCopyMemoryToAccelerationStructureKHR)
-pub fn deserialized<R: Threads + Sync>(
+pub(crate) fn deserialized<R: Threads + Sync>(
     rt: &R,
     alloc: Global,
     state: &State,

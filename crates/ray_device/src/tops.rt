@@ -23,7 +23,11 @@ use std::thread::Threads;
 
 /// The structures of these ids that instances may refer to, with their bounds as they are. (Own: the
 /// structures are named beside the build.)
-pub fn structures_used(alloc: Global, state: &State, ids: &[u32]) -> Result<Vec<Used>, NoMemory>
+pub(crate) fn structures_used(
+    alloc: Global,
+    state: &State,
+    ids: &[u32],
+) -> Result<Vec<Used>, NoMemory>
     ensures { IfOk result (λ v. v.items ≡ map (used_now (memory_of state.now)) ids.now) }
 {
     ids.iter().map(|id| used_at(state, *id)).collect(alloc)
@@ -47,7 +51,7 @@ fn bounds(state: &State, id: u32) -> Option<Box3>
 }
 
 /// The bytes of a range that is read; none of one that isn't there, or of which a byte is missing.
-pub fn bytes_read(state: &State, range: Option<ByteRange>) -> &[u8]
+pub(crate) fn bytes_read(state: &State, range: Option<ByteRange>) -> &[u8]
     ensures { result.now ≡ bytes_now (memory_of state.now) range }
 {
     match range {
@@ -68,7 +72,7 @@ fn bytes_if(bytes: Option<&[u8]>) -> &[u8]
 
 /// A top structure of the instances in these bytes, at most 65,536, built anew by info number `info`,
 /// or the first of X5 to X9 that is broken. (VK_BUILD_ACCELERATION_STRUCTURE_MODE_BUILD_KHR)
-pub fn built_top<R: Threads + Sync>(
+pub(crate) fn built_top<R: Threads + Sync>(
     rt: &R,
     alloc: Global,
     info: u32,
@@ -93,7 +97,7 @@ pub fn built_top<R: Threads + Sync>(
 /// A top structure of the instances in these bytes, as many as the old one has, updated by info
 /// number `info`, or the first of X5 to X9 that is broken.
 /// (VK_BUILD_ACCELERATION_STRUCTURE_MODE_UPDATE_KHR)
-pub fn updated_top<R: Threads + Sync>(
+pub(crate) fn updated_top<R: Threads + Sync>(
     rt: &R,
     alloc: Global,
     info: u32,

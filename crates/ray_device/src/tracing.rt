@@ -78,7 +78,7 @@ fn hits<L: Ledger>(
 /// the trace. A step is taken for each primitive that is tested: for each ray no more than those of
 /// the leaves that it opens, in a walk through the trees. (OpRayQueryInitializeKHR and the steps
 /// after it)
-pub fn traced_rays<L: Ledger>(
+pub(crate) fn traced_rays<L: Ledger>(
     alloc: Global,
     state: &State,
     top: u32,

@@ -7,8 +7,6 @@
 #[cfg(test)]
 mod answer;
 #[cfg(test)]
-mod device;
-#[cfg(test)]
 mod failing;
 #[cfg(test)]
 mod meeting;
