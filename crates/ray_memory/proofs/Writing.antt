@@ -1,12 +1,13 @@
 -- Bytes that are written over a range, one after the other.
-use Rattle.std.proofs.Common.{ℕ, zero, suc, ◌≡◌, ◌≢◌, ◌<◌, ◌≤◌, ◌+◌, ◌-◌, List, [], ◌∷◌, length, Option, Some, None, true, false, refl, ap, sym, subst, ◌∙◌, inl, inr, arith}
+use Rattle.std.proofs.Common.{ℕ, zero, suc, ◌≡◌, ◌≢◌, ◌<◌, ◌≤◌, ◌+◌, ◌-◌, List, [], ◌∷◌, ◌++◌, length, take, drop, Option, Some, None, true, false, refl, ap, sym, subst, ◌∙◌, inl, inr, arith}
 use Rattle.std.specs.Prelude.{slice_get, option_map, unwrap_or, if◌then◌else◌}
 use Rattle.std.proofs.Math.ListN.{set}
 use Rattle.std.proofs.lemmas.Bool.Decides.{nat_tests}
 use Rattle.std.proofs.lemmas.Bool.{cases_Bool, cases_eq, cases_lt, cond-true, cond-false}
+use Rattle.std.proofs.lemmas.List.{length-append, length-drop, length-take-le}
 use Rattle.std.proofs.lemmas.Option.{slice_get_past}
 use Rattle.ray_rules.specs.declared.byte_range.ByteRange.{ByteRange}
-use Rattle.ray_memory.specs.Bytes.{IsWritten, is_between, first_of}
+use Rattle.ray_memory.specs.Bytes.{IsWritten, IsOverwritten, is_between, first_of}
 
 set-length : (xs : List ℕ) (i x : ℕ) → length (set xs i x) ≡ length xs
 set-length [] i x = refl
@@ -113,3 +114,76 @@ written-all to byte_for before after n within ends w = record {
 pub written-past : (to : ByteRange) (byte_for : ℕ → Option ℕ) (bytes : List ℕ) → length bytes ≤ to.from → IsWritten to byte_for bytes bytes
 written-past to byte_for bytes past =
     written-all to byte_for bytes bytes 0 (omega arith) (λ k low below high. absurd (omega arith)) (written-none to byte_for bytes)
+
+-- ---- bytes that are copied over others
+
+slice_get-left : (xs ys : List ℕ) (k : ℕ) → k < length xs → slice_get (xs ++ ys) k ≡ slice_get xs k
+slice_get-left [] ys k below = absurd (omega arith)
+slice_get-left (x ∷ xs) ys zero below = refl
+slice_get-left (x ∷ xs) ys (suc k) below = slice_get-left xs ys k (omega arith)
+
+slice_get-right : (xs ys : List ℕ) (k : ℕ) → length xs ≤ k → slice_get (xs ++ ys) k ≡ slice_get ys (k - length xs)
+slice_get-right [] ys k past = let e : k ≡ k - 0 = omega arith in ap (slice_get ys) e
+slice_get-right (x ∷ xs) ys zero past = absurd (omega arith)
+slice_get-right (x ∷ xs) ys (suc k) past = let e : suc k - suc (length xs) ≡ k - length xs = omega arith in slice_get-right xs ys k (omega arith) ∙ ap (slice_get ys) (sym e)
+
+slice_get-take : (n : ℕ) (xs : List ℕ) (k : ℕ) → k < n → slice_get (take n xs) k ≡ slice_get xs k
+slice_get-take zero xs k below = absurd (omega arith)
+slice_get-take (suc n) [] k below = refl
+slice_get-take (suc n) (x ∷ xs) zero below = refl
+slice_get-take (suc n) (x ∷ xs) (suc k) below = slice_get-take n xs k (omega arith)
+
+slice_get-drop : (n : ℕ) (xs : List ℕ) (k : ℕ) → slice_get (drop n xs) k ≡ slice_get xs (n + k)
+slice_get-drop zero xs k = let e : k ≡ 0 + k = omega arith in ap (slice_get xs) e
+slice_get-drop (suc n) [] k = refl
+slice_get-drop (suc n) (x ∷ xs) k =
+    let e : suc (n + k) ≡ suc n + k = omega arith in slice_get-drop n xs k ∙ ap (slice_get (x ∷ xs)) e
+
+-- the first bytes of a range are those of a list, which is copied there
+copied : (to : ByteRange) (byte_for : ℕ → Option ℕ) (bytes before : List ℕ) (n : ℕ) → length bytes ≡ n → to.from + n ≤ length before
+    → ((k : ℕ) → k < n → byte_for k ≡ slice_get bytes k)
+    → IsWritten (first_of to n) byte_for before (take to.from before ++ (bytes ++ drop (to.from + n) before))
+copied to byte_for bytes before n long fits same =
+    let front = take to.from before in
+    let back = drop (to.from + n) before in
+    let front-long : length front ≡ to.from = length-take-le to.from before (omega arith) in record {
+      sized = omega (arith, length-append front (bytes ++ back), length-append bytes back, length-drop (to.from + n) before);
+      each = λ at. elim (cases_lt at to.from) [
+        | inl below ↦
+            slice_get-left front (bytes ++ back) at (omega arith) ∙ (slice_get-take to.from before at below
+            ∙ sym (over-out (first_of to n) byte_for before at (grind (arith, nat_tests))))
+        | inr past ↦
+            let moved : at - length front ≡ at - to.from = omega arith in
+            slice_get-right front (bytes ++ back) at (omega arith) ∙ (ap (slice_get (bytes ++ back)) moved
+            ∙ elim (cases_lt (at - to.from) n) [
+              | inl inside ↦
+                  let old = there before at (omega arith) in
+                  let new = there bytes (at - to.from) (omega arith) in
+                  slice_get-left bytes back (at - to.from) (omega arith) ∙ (new.1
+                  ∙ sym (over-in (first_of to n) byte_for before at (grind (arith, nat_tests))
+                  ∙ (ap (option_map (λ o. unwrap_or (byte_for (at - to.from)) o)) old.1
+                  ∙ ap (λ o. Some (unwrap_or o old.0)) (same (at - to.from) inside ∙ new.1))))
+              | inr behind ↦
+                  let rest : (to.from + n) + ((at - to.from) - length bytes) ≡ at = omega arith in
+                  slice_get-right bytes back (at - to.from) (omega arith)
+                  ∙ (slice_get-drop (to.from + n) before ((at - to.from) - length bytes) ∙ (ap (slice_get before) rest
+                  ∙ sym (over-out (first_of to n) byte_for before at (grind (arith, nat_tests)))))
+            ])
+      ];
+    }
+
+-- as many bytes of a list as go into a range are copied over it
+pub overwritten : (to : ByteRange) (bytes before after : List ℕ) (n : ℕ) → n ≤ to.size → n ≤ length bytes → to.from + n ≤ length before
+    → (n < to.size → n < length bytes → length before ≤ to.from + n)
+    → after ≡ take to.from before ++ (take n bytes ++ drop (to.from + length (take n bytes)) before) → IsOverwritten to bytes before after
+overwritten to bytes before after n within there-are fits ends is =
+    let long : length (take n bytes) ≡ n = length-take-le n bytes there-are in
+    let after-is : after ≡ take to.from before ++ (take n bytes ++ drop (to.from + n) before) =
+    is ∙ ap (λ m. take to.from before ++ (take n bytes ++ drop (to.from + m) before)) long in
+    written-all to (slice_get bytes) before after n within
+    (λ k past below inside. slice_get_past bytes k (elim (cases_lt n (length bytes)) [
+      | inl more ↦ absurd (omega (arith, ends (omega arith) more))
+      | inr all ↦ omega arith
+    ]))
+    (subst (IsWritten (first_of to n) (slice_get bytes) before) (sym after-is)
+    (copied to (slice_get bytes) (take n bytes) before n long fits (λ k below. sym (slice_get-take n bytes k below))))

@@ -1,4 +1,4 @@
-ghost use Rattle.std.specs.Prelude.{◌≡◌, ◌+◌, ◌-◌, length, option_copied, IfOk};
+ghost use Rattle.std.specs.Prelude.{◌≡◌, ◌≤◌, ◌+◌, ◌-◌, ◌++◌, length, take, drop, option_copied, IfOk};
 ghost use Rattle.ray_memory.specs.Bytes.{IsFresh, IsOverwritten, IsRefilled, part_at};
 
 use ray_rules::ByteRange;
@@ -25,9 +25,8 @@ impl Buffer {
         ensures { IfOk result (λ buffer. IsFresh size content.now buffer) }
     {
         let mut bytes = Vec::with_capacity(alloc, size)?;
-        for k in 0..size {
-            bytes.push(content.get(k).copied().unwrap_or(0))?;
-        }
+        bytes.extend_from_slice(&content[..content.len().min(size)])?;
+        bytes.resize(size, 0)?;
         Ok(Buffer { bytes })
     }
 
@@ -82,10 +81,17 @@ fn overwrite(bytes: &mut [u8], to: ByteRange, from: &[u8])
         let start = to.from as usize;
         let room = to.size.min(len - to.from) as usize;
         let count = room.min(from.len());
-        for k in 0..count {
-            bytes[start + k] = from[k];
-        }
+        copy_to(bytes, start, &from[..count]);
     }
+}
+
+// Copies bytes over those from a place on.
+fn copy_to(bytes: &mut [u8], start: usize, from: &[u8])
+    requires { start + length from.now ≤ length bytes.old }
+    ensures { bytes.new ≡ take start bytes.old
+        ++ (from.now ++ drop (start + length from.now) bytes.old) }
+{
+    bytes[start..start + from.len()].copy_from_slice(from);
 }
 
 // Writes a word again and again over the bytes of a range, little-endian, as far as it is there.
