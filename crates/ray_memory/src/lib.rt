@@ -12,6 +12,7 @@
 
 mod buffer;
 mod lending;
+mod line;
 mod making;
 mod state;
 mod storing;

@@ -5,11 +5,13 @@ ghost use Rattle.ray_action.specs.Outcomes.{outcome_of};
 ghost use Rattle.ray_action.specs.Pieces.{command_at, host_action};
 ghost use Rattle.ray_action.specs.Readiness.{IsReady, AreCounts};
 ghost use Rattle.ray_action.specs.Running.{text_with};
-ghost use Rattle.ray_action.specs.Text.{hit_line, kind_word, place_text, numbers_text, hits_text, bytes_text, numbers_line, digits_line, sizes_text, sizes_line, after_blank, number_at};
+ghost use Rattle.ray_action.specs.Text.{hit_line, hits_text, bytes_text, numbers_line, digits_line, sizes_text, sizes_line, after_blank, number_at};
 ghost use Rattle.ray_memory.specs.State.{memory_of};
 
+use crate::line::{MOST_LINE, put_line};
 use crate::state::State;
 use byteorder::{ByteOrder, LittleEndian};
+use itoa::Buffer;
 use ray_bytes::{HitRecord, Sizes, sizes_of};
 use ray_cmd::{Command, ReadForm, Recording, StructureKind};
 use ray_rules::ByteRange;
@@ -76,6 +78,10 @@ fn append(out: &mut Vec<u8>, text: Vec<u8>) -> Result<(), NoMemory>
     ensures ok { OnOk result (out.new.items ≡ out.old.items ++ text.items) }
     ensures err { OnErr result (out.new.items ≡ out.old.items) }
 {
+    if out.is_empty() {
+        *out = text;
+        return Ok(());
+    }
     out.extend_from_slice(text.as_slice())
 }
 
@@ -83,8 +89,9 @@ fn append(out: &mut Vec<u8>, text: Vec<u8>) -> Result<(), NoMemory>
 fn digits_line(alloc: Global, bytes: &[u8]) -> Result<Vec<u8>, NoMemory>
     ensures { IfOk result (λ line. line.items ≡ digits_line bytes.now) }
 {
-    let digits = hex::encode(alloc, bytes)?;
-    Ok(format!(in alloc; "{digits}\n")?.into_bytes())
+    let mut line = hex::encode(alloc, bytes)?.into_bytes();
+    line.push(b'\n')?;
+    Ok(line)
 }
 
 // The line of the numbers of 64 bits, with a blank between each two.
@@ -94,23 +101,22 @@ fn numbers_line(alloc: Global, bytes: &[u8]) -> Result<Vec<u8>, NoMemory>
 {
     let mut line = Vec::new(alloc);
     for k in 0..bytes.len() / 8 {
-        let text = number_text(alloc, k == 0, number(bytes, k))?;
-        line.extend_from_slice(text.as_bytes())?;
+        add_number(&mut line, k == 0, number(bytes, k))?;
     }
     line.push(b'\n')?;
     Ok(line)
 }
 
-// A number, with a blank before it unless it is the first.
-fn number_text(alloc: Global, is_first: bool, number: u64) -> Result<String, NoMemory>
-    ensures { IfOk result (λ text. string_bytes text
-        ≡ (if is_first then decimal number else after_blank number)) }
+// Appends a number, with a blank before it unless it is the first.
+fn add_number(line: &mut Vec<u8>, is_first: bool, number: u64) -> Result<(), NoMemory>
+    ensures { OnOk result (line.new.items ≡ line.old.items
+        ++ (if is_first then decimal number else after_blank number)) }
 {
-    if is_first {
-        format!(in alloc; "{number}")
-    } else {
-        format!(in alloc; " {number}")
+    if !is_first {
+        line.push(b' ')?;
     }
+    let mut digits = Buffer::new();
+    line.extend_from_slice(digits.format(number).as_bytes())
 }
 
 // Number `k` of 64 bits, little-endian.
@@ -123,15 +129,34 @@ fn number(bytes: &[u8], k: usize) -> u64
 }
 
 // The lines of the hits, one a record of 80 bytes.
-#[tactic(auto, using(crate::proofs::Texts::hits_none, crate::proofs::Texts::hits_more, crate::proofs::Texts::hits_all))]
 fn hits_text(alloc: Global, bytes: &[u8]) -> Result<Vec<u8>, NoMemory>
+    ensures { IfOk result (λ text. text.items ≡ hits_text bytes.now) }
+{
+    let mut room = vec![in alloc; 0; MOST_LINE]?;
+    hits_by(alloc, bytes, room.as_mut_slice())
+}
+
+// The same, line after line in the room for one.
+#[tactic(auto, using(crate::proofs::Texts::hits_none, crate::proofs::Texts::hits_more, crate::proofs::Texts::hits_all))]
+fn hits_by(alloc: Global, bytes: &[u8], room: &mut [u8]) -> Result<Vec<u8>, NoMemory>
+    requires { length room.old ≡ 480 }
     ensures { IfOk result (λ text. text.items ≡ hits_text bytes.now) }
 {
     let mut text = Vec::new(alloc);
     for k in 0..bytes.len() / 80 {
-        text.extend_from_slice(line(alloc, k, &hit(bytes, k))?.as_bytes())?;
+        add_line(&mut text, room, k, &hit(bytes, k))?;
     }
     Ok(text)
+}
+
+// Appends the line of hit number `k`, which is written into the room for a line.
+fn add_line(text: &mut Vec<u8>, room: &mut [u8], k: usize, hit: &HitRecord) -> Result<(), NoMemory>
+    requires { length room.old ≡ 480 }
+    ensures text { OnOk result (text.new.items ≡ text.old.items ++ hit_line k hit.now) }
+    ensures sized { length room.new ≡ 480 }
+{
+    let begin = put_line(room, k, hit);
+    text.extend_from_slice(&room[begin..])
 }
 
 // Hit `k` of the records.
@@ -165,56 +190,4 @@ fn sizes_line(alloc: Global, geometries: u32, primitives: u32) -> Result<String,
         update_scratch,
     } = sizes_of(geometries, primitives);
     format!(in alloc; "sizes {structure} {build_scratch} {update_scratch}\n")
-}
-
-// The line of hit number `k`.
-fn line(alloc: Global, k: usize, hit: &HitRecord) -> Result<String, NoMemory>
-    ensures { IfOk result (λ line. string_bytes line ≡ hit_line k hit.now) }
-{
-    if hit.kind == 0 {
-        return format!(in alloc; "{k} none\n");
-    }
-    let kind = kind_name(hit.kind);
-    let place = place(alloc, hit)?;
-    let numbers = numbers(alloc, hit)?;
-    format!(in alloc; "{k} {kind} {place} {numbers}\n")
-}
-
-// What a kind is called.
-fn kind_name(kind: u32) -> &'static str
-    ensures { result.now ≡ kind_word kind }
-{
-    match kind {
-        1 => "tri",
-        2 => "box",
-        _ => "bad",
-    }
-}
-
-// Where the hit is.
-fn place(alloc: Global, hit: &HitRecord) -> Result<String, NoMemory>
-    ensures { IfOk result (λ text. string_bytes text ≡ place_text hit.now) }
-{
-    let HitRecord {
-        instance,
-        custom,
-        sbt,
-        geometry,
-        primitive,
-        face,
-        ..
-    } = *hit;
-    format!(in alloc;
-        "inst {instance} custom {custom} sbt {sbt} geom {geometry} prim {primitive} face {face}"
-    )
-}
-
-// How far it is, and where in the primitive.
-fn numbers(alloc: Global, hit: &HitRecord) -> Result<String, NoMemory>
-    ensures { IfOk result (λ text. string_bytes text ≡ numbers_text hit.now) }
-{
-    let (t, t_den) = hit.t;
-    let (u, u_den) = hit.u;
-    let (v, v_den) = hit.v;
-    format!(in alloc; "t {t}/{t_den} u {u}/{u_den} v {v}/{v_den}")
 }

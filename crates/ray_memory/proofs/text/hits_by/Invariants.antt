@@ -1,6 +1,6 @@
 use Rattle.std.proofs.Common.{◌≡◌}
 use Rattle.ray_memory.proofs.Texts.{first_hits}
-use Rattle.ray_memory.proofs.text.hits_text.Given as goal
+use Rattle.ray_memory.proofs.text.hits_by.Given as goal
 
 -- the lines so far are those of the first records
 abbrev pub invariant-loop-k : goal.invariant-loop-k
