@@ -8,7 +8,7 @@ ghost use Rattle.vkray.specs.Counting.{faces_text, kinds_text, records_line};
 ghost use Rattle.vkray.specs.Endings.{IsCounted};
 
 use crate::stop::Stop;
-use ray_bytes::HitRecord;
+use byteorder::{ByteOrder, LittleEndian};
 use ray_cmd::{Command, Recording};
 use ray_memory::State;
 use ray_rules::ByteRange;
@@ -114,25 +114,28 @@ fn faces_text(alloc: Global, records: &[[u8; 80]]) -> Result<String, NoMemory>
 fn count_of_kind(kind: u32, records: &[[u8; 80]]) -> usize
     ensures { result ≡ count_of_kind kind records.now }
 {
-    records
-        .iter()
-        .filter(|record| hit(record).kind == kind)
-        .count()
+    records.iter().filter(|hit| kind_of(hit) == kind).count()
 }
 
 // How many records have a face.
 fn count_of_face(face: u32, records: &[[u8; 80]]) -> usize
     ensures { result ≡ count_of_face face records.now }
 {
-    records
-        .iter()
-        .filter(|record| hit(record).face == face)
-        .count()
+    records.iter().filter(|hit| face_of(hit) == face).count()
 }
 
-// The record that stands in 80 bytes.
-fn hit(bytes: &[u8; 80]) -> HitRecord
-    ensures { result ≡ hit_of_bytes bytes.now }
+// The kind of the record that stands in 80 bytes.
+#[tactic(auto, unfolding(ray_bytes::specs::Fields::word_at))]
+fn kind_of(hit: &[u8; 80]) -> u32
+    ensures { result ≡ (hit_of_bytes hit.now).kind }
 {
-    HitRecord::read(bytes)
+    LittleEndian::read_u32(hit)
+}
+
+// The face of the record that stands in 80 bytes.
+#[tactic(auto, unfolding(ray_bytes::specs::Fields::word_at))]
+fn face_of(hit: &[u8; 80]) -> u32
+    ensures { result ≡ (hit_of_bytes hit.now).face }
+{
+    LittleEndian::read_u32(&hit[24..])
 }
