@@ -1,4 +1,5 @@
-ghost use Rattle.std.specs.Prelude.{◌≡◌, ◌≤◌, OnOk, Some, length};
+ghost use Rattle.std.specs.Prelude.{◌≡◌, ◌≤◌, IfOk, OnOk, Some, length};
+ghost use Rattle.ray_cmd.specs.Recordings.{recording_of, Answers};
 ghost use Rattle.ray_cmd.specs.Sources.{AreSourced};
 ghost use Rattle.ray_scene.specs.Grid.{IsScene};
 ghost use Rattle.ray_action.specs.Memory.{Location, nothing_live};
@@ -14,7 +15,7 @@ use crate::counting::counted_line;
 use crate::request::{Scene, SelfRun};
 use crate::stop::Stop;
 use ray_check::check_rules;
-use ray_cmd::{Recording, Refusal, read_recording};
+use ray_cmd::{Recording, RecordingFault, Refusal, read_recording};
 use ray_exec::{Gate, RunFault, run_waves};
 use ray_memory::State;
 use ray_scene::gen_text;
@@ -28,16 +29,24 @@ pub(crate) fn execute<R: Threads + Sync, G: Gate + Sync>(
     rt: &R,
     alloc: Global,
     asked: Asked,
-    bytes: &[u8],
+    bytes: Vec<u8>,
     gate: &G,
 ) -> Result<Vec<u8>, Stop>
     requires { IsWithinLimits asked }
-    ensures { Ends (answer_of asked bytes.now) result }
+    ensures { Ends (answer_of asked bytes.items) result }
 {
-    match read_recording(alloc, bytes) {
+    match read_whole(alloc, bytes) {
         Ok(recording) => execute_recording(rt, alloc, asked, &recording, gate),
         Err(fault) => Err(Stop::from(fault)),
     }
+}
+
+// Reads the bytes as a recording. They are dropped before anything is done with it.
+fn read_whole(alloc: Global, bytes: Vec<u8>) -> Result<Recording, RecordingFault>
+    ensures answer { Answers result (recording_of bytes.items) }
+    ensures sources { IfOk result AreSourced }
+{
+    read_recording(alloc, bytes.as_slice())
 }
 
 // Does what a recording is asked for.
@@ -86,7 +95,7 @@ pub(crate) fn run_self<R: Threads + Sync, G: Gate + Sync>(
 {
     let Scene { side, layers, rays } = asked.scene;
     match gen_text(alloc, side, layers, rays) {
-        Ok(text) => match read_recording(alloc, text.as_slice()) {
+        Ok(text) => match read_whole(alloc, text) {
             Ok(recording) => count(rt, alloc, &recording, rays, asked.workers, gate),
             Err(fault) => Err(Stop::from(fault)),
         },

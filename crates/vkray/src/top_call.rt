@@ -141,7 +141,7 @@ fn read_and_run<R: Threads + Sync, S: Source, G: Gate + Sync>(
 {
     match Request::of_words(words) {
         Some(Request::Input(asked)) => match read_all(alloc, source, MOST_BYTES) {
-            Ok(bytes) => execute(rt, alloc, asked, bytes.as_slice(), gate),
+            Ok(bytes) => execute(rt, alloc, asked, bytes, gate),
             Err(fault) => Err(Stop::from(fault)),
         },
         Some(Request::Generate(scene)) => generate(alloc, scene),

@@ -1,7 +1,5 @@
-use Rattle.std.proofs.Common.{rules, ℕ, List, subst}
-use Rattle.vkray.specs.Answer.{answer_of}
+use Rattle.std.proofs.Common.{rules}
 use Rattle.vkray.specs.Call.{IsRead, reading}
-use Rattle.vkray.specs.Endings.{Ends}
 use Rattle.vkray.specs.Words.{Asks}
 use Rattle.vkray.proofs.Telling.{ends_call}
 use Rattle.vkray.proofs.top_call.read_and_run.Goals as goal
@@ -10,5 +8,4 @@ pub returns-in-Ok-clause-called : goal.returns-in-Ok-clause-called
 returns-in-Ok-clause-called g c =
     let asks : Asks c.args.words.now c.in-Some-Input.asked = search rules in
     let read : IsRead (reading g.S.Source.left g.S.Source.faults c.args.source.now c.read_all.new.source) c.in-Ok.bytes.items = search rules in
-    ends_call c.args.words.now _ c.in-Ok.bytes.items c.execute.result c.in-Some-Input.asked asks read
-    (subst (λ (input : List ℕ). Ends (answer_of c.in-Some-Input.asked input) c.execute.result) c.as_slice.ensures.value c.execute.ensures)
+    ends_call c.args.words.now _ c.in-Ok.bytes.items c.execute.result c.in-Some-Input.asked asks read c.execute.ensures
