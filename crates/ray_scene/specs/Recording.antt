@@ -1,6 +1,6 @@
 -- The recording that builds the scene of a grid and traces its rays, as a JSON value and as its text.
 -- Members stand in the rising order of their names, as `serde_json` keeps them. (Own.)
-use Rattle.std.specs.Prelude.{ℕ, ◌+◌, ◌*◌, ◌-◌, ◌%◌, ◌==◌, ◌++◌, List, [], ◌∷◌, Bool, map, max, codes}
+use Rattle.std.specs.Prelude.{ℕ, ◌+◌, ◌*◌, ◌-◌, ◌%◌, ◌==◌, ◌++◌, List, [], ◌∷◌, map, max, codes}
 use Rattle.hex.specs.Hex.{encode_lower}
 use Rattle.ray_bytes.specs.StructureSizes.{build_scratch_size, structure_size}
 use Rattle.ray_scene.specs.Grid.{below, bytes_of, hits_offset, index_offset, input_words, instance_offset, rays_words, triangle_count, vertex_count}

@@ -1,100 +1,93 @@
-ghost use Rattle.std.specs.Prelude.{◌≡◌, ◌<◌, ◌≤◌, IfOk, map};
-ghost use Rattle.ray_scene.specs.Grid.{below};
-ghost use Rattle.ray_scene.specs.Recording.{bottom_build, instances, list_of, top_build, triangles};
-ghost use Rattle.serde_json.specs.View.{view};
+ghost use Rattle.std.specs.Prelude.{◌≡◌, ◌++◌, ◌-◌, ◌<◌, ◌≤◌, OnOk, string_bytes};
+ghost use Rattle.ray_scene.specs.Grid.{words_below};
+ghost use Rattle.ray_scene.specs.Recording.{bottom_build, top_build, triangles};
+ghost use Rattle.ray_scene.specs.Text.{next, next_triangles};
+ghost use Rattle.serde_json.specs.Written.{compact_text};
 
-use crate::commands::place;
 use crate::grid::{index_offset, instance_offset, triangle_count, vertex_count};
-use serde_json::{Value, json};
-use std::alloc::{AllocError as NoMemory, Global};
+use std::alloc::AllocError as NoMemory;
 
 // The build of the bottom structure.
-#[tactic(auto, unfolding(crate::specs::Recording::bottom_build))]
-pub(crate) fn bottom_build(alloc: Global, side: u32, layers: u32) -> Result<Value, NoMemory>
+pub(crate) fn add_bottom_build(text: &mut String, side: u32, layers: u32) -> Result<(), NoMemory>
     requires side { side ≤ 256 }
-    requires layers { layers ≤ 4 }
-    ensures { IfOk result (λ v. view v ≡ bottom_build side layers) }
+    requires begins { 1 ≤ layers }
+    requires ends { layers ≤ 4 }
+    ensures { OnOk result (string_bytes text.new
+        ≡ string_bytes text.old ++ next (bottom_build side layers)) }
 {
-    let geometries = geometries(alloc, side, layers)?;
-    let scratch = place(alloc, 2, 0)?;
-    json!(in alloc; {
-        "op": "build",
-        "infos": [{
-            "mode": "build",
-            "dst": 0,
-            "flags": [],
-            "scratch": scratch,
-            "geometries": geometries
-        }]
-    })
+    text.push_str(r#",{"infos":[{"dst":0,"flags":[],"geometries":["#)?;
+    add_triangles(text, "", side, layers, 0)?;
+    add_further_triangles(text, side, layers)?;
+    text.push_str(r#"],"mode":"build","scratch":{"buffer":2,"offset":0}}],"op":"build"}"#)?;
+    Ok(())
 }
 
-// The triangles of all layers.
-fn geometries(alloc: Global, side: u32, layers: u32) -> Result<Value, NoMemory>
+// The triangles of all layers but the first.
+#[tactic(auto, using(crate::proofs::Words::more_words))]
+fn add_further_triangles(text: &mut String, side: u32, layers: u32) -> Result<(), NoMemory>
     requires side { side ≤ 256 }
-    requires layers { layers ≤ 4 }
-    ensures { IfOk result (λ v. view v ≡ list_of (map (triangles side layers) (below layers))) }
+    requires begins { 1 ≤ layers }
+    requires ends { layers ≤ 4 }
+    ensures { OnOk result (string_bytes text.new
+        ≡ string_bytes text.old ++ words_below (next_triangles side layers) (layers - 1)) }
 {
-    let mut list = Vec::new(alloc);
-    for layer in 0..layers {
-        list.push(triangles(alloc, side, layers, layer)?)?;
+    for layer in 0..layers - 1 {
+        add_triangles(text, ",", side, layers, layer + 1)?;
     }
-    Ok(Value::from(list))
+    Ok(())
 }
 
-// The triangles of a layer.
-#[tactic(auto, unfolding(crate::specs::Recording::triangles))]
-fn triangles(alloc: Global, side: u32, layers: u32, layer: u32) -> Result<Value, NoMemory>
+// The triangles of a layer, after the comma before them, if any.
+fn add_triangles(
+    text: &mut String,
+    comma: &str,
+    side: u32,
+    layers: u32,
+    layer: u32,
+) -> Result<(), NoMemory>
     requires side { side ≤ 256 }
     requires layers { layers ≤ 4 }
     requires layer { layer < layers }
-    ensures { IfOk result (λ v. view v ≡ triangles side layers layer) }
+    ensures { OnOk result (string_bytes text.new
+        ≡ string_bytes text.old ++ (comma.now ++ compact_text (triangles side layers layer))) }
 {
-    let vertex = place(alloc, 0, index_offset(side, layer))?;
-    json!(in alloc; {
-        "kind": "triangles",
-        "opaque": layer % 2 == 0,
-        "format": "s32x3",
-        "vertex": vertex,
-        "stride": 12,
-        "max_vertex": vertex_count(side) - 1,
-        "index": {"type": "u32", "buffer": 0, "offset": index_offset(side, layers)},
-        "count": triangle_count(side),
-        "primitive_offset": 0,
-        "first_vertex": 0,
-        "transform_offset": 0
-    })
+    let count = triangle_count(side);
+    let index = index_offset(side, layers);
+    let max_vertex = vertex_count(side) - 1;
+    let opaque = layer % 2 == 0;
+    let vertex = index_offset(side, layer);
+    write!(
+        text,
+        r#"{comma}{{"count":{count},"first_vertex":0,"format":"s32x3","index":"#
+    )?;
+    write!(
+        text,
+        r#"{{"buffer":0,"offset":{index},"type":"u32"}},"kind":"triangles","#
+    )?;
+    write!(
+        text,
+        r#""max_vertex":{max_vertex},"opaque":{opaque},"primitive_offset":0,"#
+    )?;
+    write!(
+        text,
+        r#""stride":12,"transform_offset":0,"vertex":{{"buffer":0,"offset":{vertex}}}}}"#
+    )?;
+    Ok(())
 }
 
-// The build of the top structure.
-#[tactic(auto, unfolding(crate::specs::Recording::top_build))]
-pub(crate) fn top_build(alloc: Global, side: u32, layers: u32) -> Result<Value, NoMemory>
+// The build of the top structure, of the one instance.
+pub(crate) fn add_top_build(text: &mut String, side: u32, layers: u32) -> Result<(), NoMemory>
     requires side { side ≤ 256 }
     requires layers { layers ≤ 4 }
-    ensures { IfOk result (λ v. view v ≡ top_build side layers) }
+    ensures { OnOk result (string_bytes text.new
+        ≡ string_bytes text.old ++ next (top_build side layers)) }
 {
-    let instances = instances(alloc, side, layers)?;
-    let scratch = place(alloc, 2, 0)?;
-    json!(in alloc; {
-        "op": "build",
-        "infos": [{
-            "mode": "build",
-            "dst": 1,
-            "flags": [],
-            "scratch": scratch,
-            "geometries": [instances],
-            "uses": [0]
-        }]
-    })
-}
-
-// The one instance.
-#[tactic(auto, unfolding(crate::specs::Recording::instances))]
-fn instances(alloc: Global, side: u32, layers: u32) -> Result<Value, NoMemory>
-    requires side { side ≤ 256 }
-    requires layers { layers ≤ 4 }
-    ensures { IfOk result (λ v. view v ≡ instances side layers) }
-{
-    let data = place(alloc, 0, instance_offset(side, layers))?;
-    json!(in alloc; {"kind": "instances", "data": data, "count": 1, "primitive_offset": 0})
+    let data = instance_offset(side, layers);
+    write!(
+        text,
+        r#",{{"infos":[{{"dst":1,"flags":[],"geometries":[{{"count":1,"data":{{"buffer":0,"offset":{data}}},"#
+    )?;
+    text.push_str(r#""kind":"instances","primitive_offset":0}],"mode":"build","#)?;
+    text.push_str(r#""scratch":{"buffer":2,"offset":0},"uses":[0]}],"op":"build"}"#)?;
+    Ok(())
 }

@@ -1,125 +1,126 @@
-ghost use Rattle.std.specs.Prelude.{◌≡◌, ◌≤◌, IfOk};
-ghost use Rattle.ray_scene.specs.Recording.{buffer, filled_buffer, full_barrier, host_barrier, place, plain, read, structure, trace};
-ghost use Rattle.serde_json.specs.View.{view};
+ghost use Rattle.std.specs.Prelude.{◌≡◌, ◌++◌, ◌∷◌, ◌≤◌, OnOk, string_bytes};
+ghost use Rattle.ray_scene.specs.Recording.{buffer, filled_buffer, full_barrier, host_barrier, plain, read, structure, trace};
+ghost use Rattle.ray_scene.specs.Text.{IsPlain, next};
+ghost use Rattle.serde_json.specs.Written.{compact_text};
 
-use crate::grid::{digits, hits_offset};
-use serde_json::{Value, json};
+use crate::grid::{add_digits, hits_offset};
 use std::alloc::{AllocError as NoMemory, Global};
 
-// A command that has no members but its name.
-#[tactic(auto, unfolding(crate::specs::Recording::plain))]
-pub(crate) fn plain(alloc: Global, op: &str) -> Result<Value, NoMemory>
-    ensures { IfOk result (λ v. view v ≡ plain op.now) }
-{
-    json!(in alloc; {"op": op})
-}
-
-// The making of a buffer that begins with words.
-#[tactic(auto, unfolding(crate::specs::Recording::filled_buffer))]
-pub(crate) fn filled_buffer(
+// The making of a buffer that begins with words, after the bracket or the comma before it.
+pub(crate) fn add_filled_buffer(
+    text: &mut Vec<u8>,
     alloc: Global,
+    before: u8,
     id: u32,
     size: u32,
     usage: &str,
     words: &[u32],
-) -> Result<Value, NoMemory>
-    ensures { IfOk result (λ v. view v ≡ filled_buffer id size usage.now words.now) }
+) -> Result<(), NoMemory>
+    requires { IsPlain usage.now }
+    ensures { OnOk result (text.new.items
+        ≡ text.old.items ++ before ∷ compact_text (filled_buffer id size usage.now words.now)) }
 {
-    let data = digits(alloc, words)?;
-    json!(in alloc; {"op": "buffer", "id": id, "size": size, "usage": [usage], "data": data})
+    text.push(before)?;
+    text.extend_from_slice(b"{\"data\":\"")?;
+    add_digits(text, words)?;
+    let end = format!(in alloc;
+        r#"","id":{id},"op":"buffer","size":{size},"usage":["{usage}"]}}"#
+    )?;
+    text.extend_from_slice(end.as_bytes())?;
+    Ok(())
 }
 
 // The making of a buffer.
-#[tactic(auto, unfolding(crate::specs::Recording::buffer))]
-pub(crate) fn buffer(alloc: Global, id: u32, size: u64, usage: &str) -> Result<Value, NoMemory>
-    ensures { IfOk result (λ v. view v ≡ buffer id size usage.now) }
+#[tactic(auto, using(crate::proofs::Texts::buffer_text))]
+pub(crate) fn add_buffer(text: &mut String, id: u32, size: u64, usage: &str) -> Result<(), NoMemory>
+    requires { IsPlain usage.now }
+    ensures { OnOk result (string_bytes text.new
+        ≡ string_bytes text.old ++ next (buffer id size usage.now)) }
 {
-    json!(in alloc; {"op": "buffer", "id": id, "size": size, "usage": [usage]})
+    write!(
+        text,
+        r#",{{"id":{id},"op":"buffer","size":{size},"usage":["{usage}"]}}"#
+    )?;
+    Ok(())
 }
 
 // The making of a structure.
-#[tactic(auto, unfolding(crate::specs::Recording::structure))]
-pub(crate) fn structure(
-    alloc: Global,
+pub(crate) fn add_structure(
+    text: &mut String,
     id: u32,
     kind: &str,
     offset: u64,
     size: u64,
-) -> Result<Value, NoMemory>
-    ensures { IfOk result (λ v. view v ≡ structure id kind.now offset size) }
+) -> Result<(), NoMemory>
+    requires { IsPlain kind.now }
+    ensures { OnOk result (string_bytes text.new
+        ≡ string_bytes text.old ++ next (structure id kind.now offset size)) }
 {
-    json!(in alloc; {
-        "op": "structure", "id": id, "kind": kind, "buffer": 1, "offset": offset, "size": size
-    })
+    write!(
+        text,
+        r#",{{"buffer":1,"id":{id},"kind":"{kind}","offset":{offset},"op":"structure","size":{size}}}"#
+    )?;
+    Ok(())
 }
 
-// A place in a buffer.
-#[tactic(auto, unfolding(crate::specs::Recording::place))]
-pub(crate) fn place(alloc: Global, buffer: u32, offset: u32) -> Result<Value, NoMemory>
-    ensures { IfOk result (λ v. view v ≡ place buffer offset) }
+// A command that has no members but its name.
+#[tactic(auto, using(crate::proofs::Texts::plain_text))]
+pub(crate) fn add_plain(text: &mut String, op: &str) -> Result<(), NoMemory>
+    requires { IsPlain op.now }
+    ensures { OnOk result (string_bytes text.new ≡ string_bytes text.old ++ next (plain op.now)) }
 {
-    json!(in alloc; {"buffer": buffer, "offset": offset})
+    write!(text, r#",{{"op":"{op}"}}"#)?;
+    Ok(())
 }
 
 // The barrier between all that is written before and all that comes after.
-#[tactic(auto, unfolding(crate::specs::Recording::full_barrier))]
-pub(crate) fn full_barrier(alloc: Global) -> Result<Value, NoMemory>
-    ensures { IfOk result (λ v. view v ≡ full_barrier) }
+pub(crate) fn add_full_barrier(text: &mut String) -> Result<(), NoMemory>
+    ensures { OnOk result (string_bytes text.new ≡ string_bytes text.old ++ next full_barrier) }
 {
-    json!(in alloc; {
-        "op": "barrier",
-        "src_stages": ["all"],
-        "src_access": ["memory_write"],
-        "dst_stages": ["all"],
-        "dst_access": ["memory_read", "memory_write"]
-    })
+    text.push_str(concat!(
+        r#",{"dst_access":["memory_read","memory_write"],"dst_stages":["all"],"op":"barrier","#,
+        r#""src_access":["memory_write"],"src_stages":["all"]}"#
+    ))?;
+    Ok(())
 }
 
 // The barrier between all that is written before and the host.
-#[tactic(auto, unfolding(crate::specs::Recording::host_barrier))]
-pub(crate) fn host_barrier(alloc: Global) -> Result<Value, NoMemory>
-    ensures { IfOk result (λ v. view v ≡ host_barrier) }
+pub(crate) fn add_host_barrier(text: &mut String) -> Result<(), NoMemory>
+    ensures { OnOk result (string_bytes text.new ≡ string_bytes text.old ++ next host_barrier) }
 {
-    json!(in alloc; {
-        "op": "barrier",
-        "src_stages": ["all"],
-        "src_access": ["memory_write"],
-        "dst_stages": ["host"],
-        "dst_access": ["host_read"]
-    })
+    text.push_str(concat!(
+        r#",{"dst_access":["host_read"],"dst_stages":["host"],"op":"barrier","#,
+        r#""src_access":["memory_write"],"src_stages":["all"]}"#
+    ))?;
+    Ok(())
 }
 
 // The trace of the rays.
-#[tactic(auto, unfolding(crate::specs::Recording::trace))]
-pub(crate) fn trace(alloc: Global, rays: u32) -> Result<Value, NoMemory>
+pub(crate) fn add_trace(text: &mut String, rays: u32) -> Result<(), NoMemory>
     requires { rays ≤ 65536 }
-    ensures { IfOk result (λ v. view v ≡ trace rays) }
+    ensures { OnOk result (string_bytes text.new ≡ string_bytes text.old ++ next (trace rays)) }
 {
-    let from = place(alloc, 3, 0)?;
-    let hits = place(alloc, 3, hits_offset(rays))?;
-    json!(in alloc; {
-        "op": "trace",
-        "top": 1,
-        "rays": from,
-        "count": rays,
-        "hits": hits,
-        "flags": [],
-        "mask": 255,
-        "script": [{"do": "confirm"}]
-    })
+    let hits = hits_offset(rays);
+    write!(
+        text,
+        r#",{{"count":{rays},"flags":[],"hits":{{"buffer":3,"offset":{hits}}},"mask":255,"#
+    )?;
+    text.push_str(concat!(
+        r#""op":"trace","rays":{"buffer":3,"offset":0},"#,
+        r#""script":[{"do":"confirm"}],"top":1}"#
+    ))?;
+    Ok(())
 }
 
 // The read of all hits.
-#[tactic(auto, unfolding(crate::specs::Recording::read))]
-pub(crate) fn read(alloc: Global, rays: u32) -> Result<Value, NoMemory>
+pub(crate) fn add_read(text: &mut String, rays: u32) -> Result<(), NoMemory>
     requires { rays ≤ 65536 }
-    ensures { IfOk result (λ v. view v ≡ read rays) }
+    ensures { OnOk result (string_bytes text.new ≡ string_bytes text.old ++ next (read rays)) }
 {
-    json!(in alloc; {
-        "op": "read",
-        "buffer": 3,
-        "offset": hits_offset(rays),
-        "size": 80 * rays,
-        "form": "hits"
-    })
+    let (offset, size) = (hits_offset(rays), 80 * rays);
+    write!(
+        text,
+        r#",{{"buffer":3,"form":"hits","offset":{offset},"op":"read","size":{size}}}"#
+    )?;
+    Ok(())
 }

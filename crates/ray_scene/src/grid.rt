@@ -1,6 +1,8 @@
-ghost use Rattle.std.specs.Prelude.{◌≡◌, ◌+◌, ◌++◌, ◌<◌, ◌≤◌, IfOk, OnOk, string_bytes};
+ghost use Rattle.std.specs.Prelude.{◌≡◌, ◌+◌, ◌++◌, ◌<◌, ◌≤◌, IfOk, OnOk};
+ghost use Rattle.byteorder.specs.Endian.{little_bytes};
 ghost use Rattle.hex.specs.Hex.{encode_lower};
-ghost use Rattle.ray_scene.specs.Grid.{bytes_of, cell_words, hits_offset, index_offset, index_words, input_words, instance_offset, layer_words, padded, ray_words, rays_words, triangle_count, vertex_count, vertex_number, vertex_words, words_below};
+ghost use Rattle.ray_scene.specs.Grid.{cell_words, hits_offset, index_offset, index_words, input_words, instance_offset, layer_words, padded, ray_words, rays_words, triangle_count, vertex_count, vertex_number, vertex_words, words_below};
+ghost use Rattle.ray_scene.specs.Text.{digits_text};
 
 use byteorder::{ByteOrder, LittleEndian};
 use std::alloc::{AllocError as NoMemory, Global};
@@ -176,12 +178,24 @@ fn ray(side: u32, r: u32) -> [u32; 10]
     [x, y, 4096, 0, 0, u32::MAX, 0, 0, 1 << 29, 0]
 }
 
-// The hexadecimal digits of the bytes of words.
-#[tactic(auto, unfolding(crate::specs::Grid::bytes_of))]
-pub(crate) fn digits(alloc: Global, words: &[u32]) -> Result<String, NoMemory>
-    ensures { IfOk result (λ text. string_bytes text ≡ encode_lower (bytes_of words.now)) }
+// The hexadecimal digits of the bytes of words, after the text.
+#[tactic(auto, using(crate::proofs::Words::more_digits))]
+pub(crate) fn add_digits(text: &mut Vec<u8>, words: &[u32]) -> Result<(), NoMemory>
+    ensures { OnOk result (text.new.items ≡ text.old.items ++ digits_text words.now) }
 {
-    let mut bytes = vec![in alloc; 0; 4 * words.len()]?;
-    LittleEndian::write_u32_into(words, bytes.as_mut_slice());
-    hex::encode(alloc, bytes.as_slice())
+    for word in words {
+        text.extend_from_slice(&digits(*word))?;
+    }
+    Ok(())
+}
+
+// The digits of the bytes of a word.
+fn digits(word: u32) -> [u8; 8]
+    ensures { result ≡ encode_lower (little_bytes 4 word) }
+{
+    let mut bytes = [0; 4];
+    LittleEndian::write_u32(&mut bytes, word);
+    let mut digits = [0; 8];
+    let _written = hex::encode_to_slice(bytes, &mut digits);
+    digits
 }
