@@ -82,6 +82,7 @@ fn kind_name(kind: u32) -> &'static str
 }
 
 // Writes a short word with a number behind it so that they end at a place. Gives where they begin.
+#[inline(always)]
 fn put_field(room: &mut [u8], end: usize, word: &[u8], number: u64) -> usize
     requires fits { (32 ≤ end) × (end ≤ length room.old) }
     requires short { length word.now ≤ 12 }
@@ -92,6 +93,7 @@ fn put_field(room: &mut [u8], end: usize, word: &[u8], number: u64) -> usize
 }
 
 // Writes a number so that it ends at a place. Gives where it begins.
+#[inline(always)]
 fn put_number(room: &mut [u8], end: usize, number: u64) -> usize
     requires { (20 ≤ end) × (end ≤ length room.old) }
     ensures { IsPut (decimal number) 20 end room.old room.new result }
@@ -100,6 +102,7 @@ fn put_number(room: &mut [u8], end: usize, number: u64) -> usize
 }
 
 // Writes a word so that it ends at a place. Gives where it begins.
+#[inline(always)]
 fn put_word(room: &mut [u8], end: usize, word: &[u8]) -> usize
     requires { (length word.now ≤ end) × (end ≤ length room.old) }
     ensures { IsPut word.now (length word.now) end room.old room.new result }
