@@ -1,0 +1,1 @@
+"""Draws diagrams of recordings as SVG: which triangle has which ray, and the synchronization."""
