@@ -43,7 +43,7 @@ def legend(y):
     """Returns the lines below the drawing."""
     return [
         svg.disc(EDGE, y + 2, 7, "#777", "#111", 1.5),
-        svg.text(EDGE + 14, y + 7, "a ray through an edge or a vertex: its color is that of the one triangle that has it", 14, anchor="start"),
+        svg.text(EDGE + 14, y + 7, "a ray through an edge or a vertex, in the color of the triangle that has it", 14, anchor="start"),
         svg.disc(EDGE, y + 26, 4, "#777"), svg.text(EDGE + 14, y + 31, "a ray through the inside of a triangle", 14, anchor="start"),
         svg.disc(EDGE + 290, y + 26, 3, "white", "#999"), svg.text(EDGE + 304, y + 31, "a ray that hits nothing", 14, anchor="start"),
     ]

@@ -55,7 +55,7 @@ def by_depth(hits):
 def color_of(number):
     """Returns a color for a number; numbers that are near get colors that are apart."""
     hue = number * 0.6180339887498949 % 1
-    return tuple(round(255 * it) for it in colorsys.hsv_to_rgb(hue, 0.42 + 0.2 * (number % 3), 0.95))
+    return tuple(round(255 * it) for it in colorsys.hsv_to_rgb(hue, 0.3 + 0.15 * (number % 3), 0.96))
 
 
 def shaded(color, hit, geometry):
