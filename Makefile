@@ -6,13 +6,14 @@
 #   make                     proves everything that the program stands on, links it, leaves it as ./vkray
 #   make examples            runs each recording of examples/ with it, and compares text and status
 #   make conformance         runs all conformance cases through the library's one call
+#   make tools               tests the tools of tools/ with the linked program
 #   make test                the whole gate: every proof from nothing, the wrong bodies, the tests, the cases, the
 #                            programs, and then the side checks, which compare pages with sources
 # WORDS are what `make try` asks the program for: run, or check.
 WORDS = run
 SOURCES = crates.txt HANDLES $(shell find crates -path '*/out' -prune -o \( -name '*.rt' -o -name '*.antt' \) -print)
 
-.PHONY: all demo try quick examples conformance test
+.PHONY: all demo try quick examples conformance tools test
 
 all: vkray
 
@@ -48,6 +49,9 @@ examples: vkray
 
 conformance:
 	cd crates/vkray_cases && rt run -- $(CURDIR)/crates/vkray_cases/data
+
+tools: vkray
+	tools/test
 
 test:
 	rt ci
