@@ -10,8 +10,8 @@ use Rattle.serde_json.specs.Data.{Data, boolean}
 use Rattle.serde_json.specs.View.{items_of}
 use Rattle.serde_json.specs.Written.{compact_text, items_text}
 use Rattle.ray_scene.specs.Grid.{below, bytes_of, hits_offset, index_offset, instance_offset, triangle_count, vertex_count, words_below}
-use Rattle.ray_scene.specs.Recording.{bottom_build, buffer, filled_buffer, full_barrier, host_barrier, instances, list_of, place, plain, read, structure, top_build, trace, triangles}
-use Rattle.ray_scene.specs.Text.{added, digits_text, next, next_triangles}
+use Rattle.ray_scene.specs.Recording.{bottom_build, bottom_size, buffer, filled_buffer, full_barrier, host_barrier, instances, list_of, place, plain, read, structure, top_build, top_size, trace, triangles}
+use Rattle.ray_scene.specs.Text.{added, builds, commands, digits_text, empty_buffers, next, next_triangles, structures, traces, until_the_wait}
 
 -- the numbers that stand in the commands as they are
 numeral-0 : decimal 0 ≡ codes "0"
@@ -38,25 +38,14 @@ numeral-255 : decimal 255 ≡ codes "255"
 unfolding digits
 numeral-255 = refl
 
-pub plain_text : (op : List ℕ) → escape op ≡ op
-    → compact_text (plain op) ≡ codes "{\"op\":\"" ++ (op ++ codes "\"}")
-unfolding plain escape_byte
-plain_text op is = simp (is, append_assoc)
-
-pub buffer_text : (id size : ℕ) (usage : List ℕ) → escape usage ≡ usage
-    → compact_text (buffer id size usage)
-    ≡ codes "{\"id\":" ++ (decimal id ++ (codes ",\"op\":\"buffer\",\"size\":" ++ (decimal size
-    ++ (codes ",\"usage\":[\"" ++ (usage ++ codes "\"]}")))))
-unfolding buffer escape_byte
-buffer_text id size usage is = simp (is, append_assoc)
-
-pub structure_text : (id : ℕ) (kind : List ℕ) (offset size : ℕ) → escape kind ≡ kind
-    → compact_text (structure id kind offset size)
-    ≡ codes "{\"buffer\":1,\"id\":" ++ (decimal id ++ (codes ",\"kind\":\"" ++ (kind
-    ++ (codes "\",\"offset\":" ++ (decimal offset ++ (codes ",\"op\":\"structure\",\"size\":"
-    ++ (decimal size ++ codes "}")))))))
+pub structures_text : (old one new : List ℕ) (bottom top : ℕ)
+    → one ≡ old ++ (codes ",{\"buffer\":1,\"id\":0,\"kind\":\"bottom\",\"offset\":0,\"op\":\"structure\",\"size\":"
+    ++ (decimal bottom ++ codes "}"))
+    → new ≡ one ++ (codes ",{\"buffer\":1,\"id\":1,\"kind\":\"top\",\"offset\":" ++ (decimal bottom
+    ++ (codes ",\"op\":\"structure\",\"size\":" ++ (decimal top ++ codes "}"))))
+    → new ≡ added old (structures bottom top)
 unfolding structure escape_byte
-structure_text id kind offset size is = simp (numeral-1, is, append_assoc)
+structures_text old one new bottom top first second = rw (second, first) (simp (numeral-0, numeral-1))
 
 pub read_text : (rays offset : ℕ) → offset ≡ hits_offset rays → compact_text (read rays)
     ≡ codes "{\"buffer\":3,\"form\":\"hits\",\"offset\":" ++ (decimal offset
@@ -69,10 +58,10 @@ pub full_barrier_text : compact_text full_barrier
 unfolding full_barrier escape_byte
 full_barrier_text = refl
 
-pub host_barrier_text : compact_text host_barrier
-    ≡ codes "{\"dst_access\":[\"host_read\"],\"dst_stages\":[\"host\"],\"op\":\"barrier\",\"src_access\":[\"memory_write\"],\"src_stages\":[\"all\"]}"
-unfolding host_barrier escape_byte
-host_barrier_text = refl
+pub wait_text : (old : List ℕ) → added old until_the_wait
+    ≡ old ++ codes ",{\"dst_access\":[\"host_read\"],\"dst_stages\":[\"host\"],\"op\":\"barrier\",\"src_access\":[\"memory_write\"],\"src_stages\":[\"all\"]},{\"op\":\"end\"},{\"op\":\"submit\"},{\"op\":\"wait\"}"
+unfolding host_barrier plain escape_byte
+wait_text old = simp append_assoc
 
 pub trace_text : (old half new : List ℕ) (rays hits : ℕ) → hits ≡ hits_offset rays
     → half ≡ old ++ (codes ",{\"count\":" ++ (decimal rays
@@ -239,7 +228,7 @@ added_behind old text [] = refl
 added_behind old text (d ∷ ds) =
     added_behind old (text ++ next d) ds ∙ ap (λ t. added t ds) (sym (append_assoc old text (next d)))
 
-pub added_behind_all : (old : List ℕ) (ds : List Data) → old ++ added [] ds ≡ added old ds
+added_behind_all : (old : List ℕ) (ds : List Data) → old ++ added [] ds ≡ added old ds
 added_behind_all old ds = added_behind old [] ds ∙ ap (λ t. added t ds) (append-nil old)
 
 -- they are a list's last ones
@@ -256,3 +245,33 @@ pub whole_text : (d : Data) (ds : List Data)
 whole_text d ds =
     added_last (91 ∷ compact_text d) ds (10 ∷ [])
     ∙ sym (append_assoc (91 ∷ compact_text d) (items_text true (items_of ds)) (10 ∷ []))
+
+pub empty_buffers_text : (old none one two last new : List ℕ) (structures scratch : ℕ)
+    → none ≡ []
+    → one ≡ none ++ (codes ",{\"id\":1,\"op\":\"buffer\",\"size\":" ++ (decimal structures
+    ++ codes ",\"usage\":[\"structure\"]}"))
+    → two ≡ one ++ (codes ",{\"id\":2,\"op\":\"buffer\",\"size\":" ++ (decimal scratch
+    ++ codes ",\"usage\":[\"scratch\"]}"))
+    → last ≡ two
+    → new ≡ old ++ last
+    → new ≡ added old (empty_buffers structures scratch)
+unfolding buffer escape_byte
+empty_buffers_text old none one two last new structures scratch empty first second third fourth =
+    rw (fourth, third, second, first, empty) (simp (numeral-1, numeral-2, append_assoc))
+
+pub commands_text : (old none one two three last new : List ℕ) (side layers rays bottom top : ℕ)
+    → bottom ≡ bottom_size side layers → top ≡ top_size
+    → none ≡ []
+    → one ≡ added none (structures bottom top)
+    → two ≡ added one (builds side layers)
+    → three ≡ added two (traces rays)
+    → last ≡ three
+    → new ≡ old ++ last
+    → new ≡ added old (commands side layers rays)
+commands_text
+    old none one two three last new side layers rays bottom top low high
+    empty first second third fourth fifth =
+    let structured = first ∙ (λ i. added (empty i) (structures (low i) (high i))) in
+    let built = second ∙ ap (λ t. added t (builds side layers)) structured in
+    let traced = fourth ∙ (third ∙ ap (λ t. added t (traces rays)) built) in
+    fifth ∙ (ap (λ t. old ++ t) traced ∙ added_behind_all old (commands side layers rays))

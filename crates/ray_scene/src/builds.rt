@@ -1,14 +1,58 @@
 ghost use Rattle.std.specs.Prelude.{◌≡◌, ◌++◌, ◌-◌, ◌<◌, ◌≤◌, OnOk, string_bytes};
 ghost use Rattle.ray_scene.specs.Grid.{words_below};
-ghost use Rattle.ray_scene.specs.Recording.{bottom_build, top_build, triangles};
-ghost use Rattle.ray_scene.specs.Text.{next, next_triangles};
+ghost use Rattle.ray_scene.specs.Recording.{bottom_build, full_barrier, top_build, triangles};
+ghost use Rattle.ray_scene.specs.Text.{added, builds, next, next_triangles, structures};
 ghost use Rattle.serde_json.specs.Written.{compact_text};
 
 use crate::grid::{index_offset, instance_offset, triangle_count, vertex_count};
 use std::alloc::AllocError as NoMemory;
 
+// The making of both structures, of these sizes.
+pub(crate) fn add_structures(text: &mut String, bottom: u64, top: u64) -> Result<(), NoMemory>
+    ensures { OnOk result (string_bytes text.new
+        ≡ added (string_bytes text.old) (structures bottom top)) }
+{
+    write!(
+        text,
+        r#",{{"buffer":1,"id":0,"kind":"bottom","offset":0,"op":"structure","size":{bottom}}}"#
+    )?;
+    write!(
+        text,
+        r#",{{"buffer":1,"id":1,"kind":"top","offset":{bottom},"op":"structure","size":{top}}}"#
+    )?;
+    Ok(())
+}
+
+// What the device does up to the trace: both builds, and a barrier behind each.
+#[tactic(auto, unfolding(crate::specs::Recording::plain, json::specs::Print::escape_byte))]
+pub(crate) fn add_builds(text: &mut String, side: u32, layers: u32) -> Result<(), NoMemory>
+    requires side { side ≤ 256 }
+    requires begins { 1 ≤ layers }
+    requires ends { layers ≤ 4 }
+    ensures { OnOk result (string_bytes text.new
+        ≡ added (string_bytes text.old) (builds side layers)) }
+{
+    text.push_str(r#",{"op":"begin"}"#)?;
+    add_bottom_build(text, side, layers)?;
+    add_full_barrier(text)?;
+    add_top_build(text, side, layers)?;
+    add_full_barrier(text)?;
+    Ok(())
+}
+
+// The barrier between all that is written before and all that comes after.
+fn add_full_barrier(text: &mut String) -> Result<(), NoMemory>
+    ensures { OnOk result (string_bytes text.new ≡ string_bytes text.old ++ next full_barrier) }
+{
+    text.push_str(concat!(
+        r#",{"dst_access":["memory_read","memory_write"],"dst_stages":["all"],"op":"barrier","#,
+        r#""src_access":["memory_write"],"src_stages":["all"]}"#
+    ))?;
+    Ok(())
+}
+
 // The build of the bottom structure.
-pub(crate) fn add_bottom_build(text: &mut String, side: u32, layers: u32) -> Result<(), NoMemory>
+fn add_bottom_build(text: &mut String, side: u32, layers: u32) -> Result<(), NoMemory>
     requires side { side ≤ 256 }
     requires begins { 1 ≤ layers }
     requires ends { layers ≤ 4 }
@@ -76,7 +120,7 @@ fn add_triangles(
 }
 
 // The build of the top structure, of the one instance.
-pub(crate) fn add_top_build(text: &mut String, side: u32, layers: u32) -> Result<(), NoMemory>
+fn add_top_build(text: &mut String, side: u32, layers: u32) -> Result<(), NoMemory>
     requires side { side ≤ 256 }
     requires layers { layers ≤ 4 }
     ensures { OnOk result (string_bytes text.new

@@ -66,7 +66,6 @@ pub(crate) fn input_words(alloc: Global, side: u32, layers: u32) -> Result<Vec<u
 }
 
 // The vertices of all layers.
-#[tactic(auto, using(crate::proofs::Words::more_words))]
 fn add_layers(words: &mut Vec<u32>, side: u32, layers: u32) -> Result<(), NoMemory>
     requires side { side ≤ 256 }
     requires layers { layers ≤ 4 }
@@ -79,7 +78,6 @@ fn add_layers(words: &mut Vec<u32>, side: u32, layers: u32) -> Result<(), NoMemo
 }
 
 // The vertices of a layer.
-#[tactic(auto, using(crate::proofs::Words::more_words))]
 fn add_layer(words: &mut Vec<u32>, side: u32, layer: u32) -> Result<(), NoMemory>
     requires side { side ≤ 256 }
     requires layer { layer < 4 }
@@ -103,7 +101,6 @@ fn vertex(side: u32, layer: u32, n: u32) -> [u32; 3]
 }
 
 // The indices of all cells.
-#[tactic(auto, using(crate::proofs::Words::more_words))]
 fn add_cells(words: &mut Vec<u32>, side: u32) -> Result<(), NoMemory>
     requires begins { 1 ≤ side }
     requires ends { side ≤ 256 }
@@ -154,7 +151,7 @@ fn pad(words: &mut Vec<u32>, alloc: Global) -> Result<(), NoMemory>
 }
 
 // The words of all rays.
-#[tactic(auto, unfolding(crate::specs::Grid::rays_words), using(crate::proofs::Words::words_below_more))]
+#[tactic(auto, unfolding(crate::specs::Grid::rays_words))]
 pub(crate) fn rays_words(alloc: Global, side: u32, rays: u32) -> Result<Vec<u32>, NoMemory>
     requires side { side ≤ 256 }
     requires rays { rays ≤ 65536 }

@@ -7,10 +7,11 @@
 //! `serde_json`. The scene is our own: Vulkan says nothing of it.
 #![tactic(auto)]
 
+mod buffers;
 mod builds;
-mod commands;
 mod grid;
 mod scene;
+mod traces;
 
 pub use crate::scene::gen_text;
 pub use std::alloc::AllocError as NoMemory;

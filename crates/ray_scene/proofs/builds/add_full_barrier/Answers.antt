@@ -1,6 +1,6 @@
 use Rattle.std.proofs.Common.{◌++◌, ◌∷◌, ◌∙◌, ap, sym, string_bytes}
 use Rattle.ray_scene.proofs.Texts.{full_barrier_text}
-use Rattle.ray_scene.proofs.commands.add_full_barrier.Goals as goal
+use Rattle.ray_scene.proofs.builds.add_full_barrier.Goals as goal
 
 pub returns : goal.returns
 returns c =

@@ -1,6 +1,6 @@
 use Rattle.std.proofs.Common.{string_bytes}
 use Rattle.ray_scene.proofs.Texts.{trace_text}
-use Rattle.ray_scene.proofs.commands.add_trace.Goals as goal
+use Rattle.ray_scene.proofs.traces.add_trace.Goals as goal
 
 pub returns : goal.returns
 returns c =

@@ -1,6 +1,6 @@
 use Rattle.std.proofs.Common.{string_bytes}
 use Rattle.ray_scene.proofs.Texts.{filled_buffer_text}
-use Rattle.ray_scene.proofs.commands.add_filled_buffer.Goals as goal
+use Rattle.ray_scene.proofs.buffers.add_filled_buffer.Goals as goal
 
 pub returns : goal.returns
 returns c =

@@ -1,7 +1,0 @@
-use Rattle.std.proofs.Common.{◌++◌, ◌∷◌, ◌∙◌, ap, sym, string_bytes}
-use Rattle.ray_scene.proofs.Texts.{host_barrier_text}
-use Rattle.ray_scene.proofs.commands.add_host_barrier.Goals as goal
-
-pub returns : goal.returns
-returns c =
-    c.in_ok-push_str.ensures.bytes ∙ ap (λ t. string_bytes c.args.text.now ++ 44 ∷ t) (sym host_barrier_text)
