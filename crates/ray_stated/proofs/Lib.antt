@@ -1,0 +1,12 @@
+pub mod Actives
+pub mod Entered
+pub mod Extremes
+pub mod Sides
+pub mod Fronts
+pub mod Cuts
+pub mod Numbers
+pub mod Halving
+pub mod Arranging
+pub mod Ordered
+pub mod LeafBoxes
+pub mod Planned

@@ -1,0 +1,7 @@
+pub mod Order
+pub mod Stated
+pub mod Stored
+pub mod Carried
+pub mod Entries
+pub mod Reaches
+pub mod Partings
