@@ -10,3 +10,8 @@ pub mod Arranging
 pub mod Ordered
 pub mod LeafBoxes
 pub mod Planned
+pub mod Marked
+pub mod Walks
+pub mod Reading
+pub mod Respelled
+pub mod Decided

@@ -1,15 +1,18 @@
 -- The tree that stored nodes and an order carry, as a function of them. A stored node and its number determine a node,
 -- so all that is left to know are tests of what these nodes are. (Own.)
-use Rattle.std.specs.Prelude.{◌≡◌, ◌+◌, ◌==◌, ◌&&◌, ◌↔◌, ℕ, Bool, true, false, zero, suc, nat_le, if◌then◌else◌, Option, Some, None, is_some, List, [], ◌∷◌, length, map, slice_get, slice_index_or}
+use Rattle.std.specs.Prelude.{◌≡◌, ◌+◌, ◌==◌, ◌&&◌, ◌↔◌, ◌⊎◌, ◌≤◌, ℕ, Bool, true, false, zero, suc, nat_le, if◌then◌else◌, Option, Some, None, Result, Ok, Err, is_some, List, [], ◌∷◌, length, map, slice_get, slice_index_or}
 use Rattle.std.specs.List.{list_all}
 use Rattle.ray_geom.specs.Boxes.{BoxValue}
 use Rattle.ray_geom.specs.Equality.{box_eq}
 use Rattle.ray_geom.specs.LeastBoxes.{union_of}
 use Rattle.ray_tree.specs.declared.node.Node.{Node}
 use Rattle.ray_tree.specs.declared.node.Node.TheVariants.{Leaf, Inner}
-use Rattle.ray_tree.specs.Shapes.{node_at}
-use Rattle.ray_tree.specs.Trees.{TreeValue, tree_value, box_at, item_box, times, active}
+use Rattle.ray_tree.specs.Shapes.{node_at, levels}
+use Rattle.ray_tree.specs.Trees.{TreeValue, tree_value, shape_at, box_at, item_box, times, active}
 use Rattle.ray_stated.specs.declared.stored.StoredNode.{StoredNode}
+use Rattle.ray_stated.specs.declared.walk.Ends.{Ends}
+use Rattle.ray_stated.specs.declared.tree_fault.TreeFault.{TreeFault}
+use Rattle.ray_stated.specs.declared.tree_fault.TreeFault.TheVariants.{NotTree, NoMemory}
 use Rattle.ray_stated.specs.Stated.{no_box, leaf_box, stated_tree}
 use Rattle.ray_stated.specs.Stored.{stored_all, IsCarried}
 
@@ -27,11 +30,6 @@ abbrev pub read_as : List StoredNode → List ℕ → TreeValue
 read_as stored order = tree_value (nodes_from 0 stored) (map (λ s. s.bounds) stored) order
 
 -- the node and the place after those from a node down
-pub record Ends : Type 0 where
-  pub node : ℕ
-  pub place : ℕ
-
--- these
 abbrev pub ends : ℕ → ℕ → Ends
 ends node place = record { node = node; place = place }
 
@@ -71,7 +69,7 @@ in_preorder (node ∷ nodes) places = are_all (walked 96 (node ∷ nodes) 0 0) (
 -- whether each number below n passes a test
 abbrev pub all_below : ℕ → (ℕ → Bool) → Bool
 all_below zero test = true
-all_below (suc n) test = all_below n test && test n
+all_below (suc n) test = test n && all_below n test
 
 -- whether an order has each active item once, and nothing else (own)
 abbrev pub each_once : List (Option BoxValue) → List ℕ → Bool
@@ -97,10 +95,29 @@ is_tree items tree = in_preorder tree.nodes (length tree.order) && (each_once it
 abbrev pub carried : List StoredNode → List ℕ → List (Option BoxValue) → Option TreeValue
 carried stored order items = if is_tree items (read_as stored order) then Some (read_as stored order) else None
 
+-- what reading stored nodes and an order gives: the tree that they carry; that they carry none; or want of memory (own)
+abbrev pub IsRead : List StoredNode → List ℕ → List (Option BoxValue) → Result TreeValue TreeFault → Type 0
+IsRead stored order items (Ok tree) = IsCarried stored order items tree
+IsRead stored order items (Err NotTree) = (t : TreeValue) → IsCarried stored order items t → ⊥
+IsRead stored order items (Err NoMemory) = Unit {0}
+
 -- `carried` gives a tree exactly where the nodes and the order carry it
 abbrev pub CarriedAsSaid : List StoredNode → List ℕ → List (Option BoxValue) → Type 0
 CarriedAsSaid stored order items = (t : TreeValue) → (carried stored order items ≡ Some t) ↔ IsCarried stored order items t
 
+-- they carry no two trees
+abbrev pub CarriedIsOne : List StoredNode → List ℕ → List (Option BoxValue) → Type 0
+CarriedIsOne stored order items = (t u : TreeValue) → IsCarried stored order items t → IsCarried stored order items u → t ≡ u
+
+-- what they carry has at most 96 levels
+abbrev pub CarriedIsLow : List StoredNode → List ℕ → List (Option BoxValue) → Type 0
+CarriedIsLow stored order items = (t : TreeValue) → IsCarried stored order items t → levels (shape_at t 0) ≤ 96
+
 -- the stated tree is carried by its spelling
 abbrev pub StatedIsCarried : List (Option BoxValue) → Type 0
 StatedIsCarried items = let t = stated_tree items in IsCarried (stored_all t.nodes t.boxes) t.order items t
+
+-- a tree is read from its spelling as itself, if there is memory
+abbrev pub IsReadBack : TreeValue → List (Option BoxValue) → Type 0
+IsReadBack tree items = (result : Result TreeValue TreeFault) → IsRead (stored_all tree.nodes tree.boxes) tree.order items result
+    → (result ≡ Ok tree) ⊎ (result ≡ Err NoMemory)

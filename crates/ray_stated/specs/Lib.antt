@@ -5,3 +5,4 @@ pub mod Carried
 pub mod Entries
 pub mod Reaches
 pub mod Partings
+pub mod Apart

@@ -1,0 +1,4 @@
+use Rattle.ray_stated.proofs.walk.+walk.Given as goal
+
+abbrev pub decreases-walk : goal.decreases-walk
+decreases-walk l = l.levels
