@@ -1,5 +1,5 @@
 -- The active items in rising number.
-use Rattle.std.proofs.Common.{◌≡◌, ◌∙◌, ◌+◌, ◌<◌, ◌≤◌, ◌⊎◌, inl, inr, ◌++◌, ℕ, zero, suc, Bool, true, false, cond, Option, Some, None, List, [], ◌∷◌, length, refl, sym, ap, subst, arith, length-append}
+use Rattle.std.proofs.Common.{◌≡◌, ◌∙◌, ◌+◌, ◌<◌, ◌≤◌, ◌⊎◌, inl, inr, ◌++◌, ℕ, zero, suc, Bool, true, false, cond, Option, List, [], ◌∷◌, length, refl, sym, ap, subst, arith, length-append}
 use Rattle.std.specs.Prelude.{is_some}
 use Rattle.std.specs.List.{All}
 use Rattle.std.proofs.lemmas.Bool.Decides.{nat_tests}
@@ -77,8 +77,13 @@ few-if false n = omega arith
 pub actives-few : (items : List (Option BoxValue)) (n : ℕ) → length (actives items n) ≤ n
 actives-few items zero = omega (arith, ap length (actives_zero items))
 actives-few items (suc n) =
-    omega (arith, ap length (actives_suc items n), length-append (actives items n) (if_active (is_some (item_box items n)) n),
-    few-if (is_some (item_box items n)) n, actives-few items n)
+    omega (
+      arith,
+      ap length (actives_suc items n),
+      length-append (actives items n) (if_active (is_some (item_box items n)) n),
+      few-if (is_some (item_box items n)) n,
+      actives-few items n,
+    )
 
 -- each stands once
 itself : (p : ℕ) → one p p ≡ 1

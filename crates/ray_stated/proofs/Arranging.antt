@@ -1,24 +1,22 @@
 -- Entries that are sorted, or cut and arranged on both sides, are in the order of the stated tree.
-use Rattle.std.proofs.Common.{◌≡◌, ◌∙◌, ◌+◌, ◌-◌, ◌*◌, ◌/◌, ◌^◌, ◌<◌, ◌≤◌, inl, inr, ◌++◌, ℕ, zero, suc, true, false, cond, Option, List, [], ◌∷◌, length, take, drop, get_or, refl, sym, ap, ap₂, subst, arith, length-append, length-take-le, length-drop, take-append-drop}
+use Rattle.std.proofs.Common.{◌≡◌, ◌∙◌, ◌+◌, ◌-◌, ◌*◌, ◌/◌, ◌^◌, ◌<◌, ◌≤◌, inl, inr, ◌++◌, ℕ, zero, suc, Option, List, length, take, drop, get_or, refl, sym, ap, ap₂, subst, arith, length-take-le, length-drop, take-append-drop}
 use Rattle.std.proofs.lemmas.List.{length-map}
 use Rattle.std.specs.Prelude.{nat_lt, nat_le, if◌then◌else◌}
-use Rattle.std.specs.List.{All, filter}
+use Rattle.std.specs.List.{All}
 use Rattle.std.specs.List.Sorted.{IsPermutation, IsNonDecreasingBy}
 use Rattle.std.proofs.Math.Nat.{pow-suc, pow-zero}
 use Rattle.std.proofs.lemmas.Bool.{le-leb, lt-leb}
 use Rattle.std.proofs.lemmas.List.Elements.{All-weaker, All-map, All-take, All-drop}
 use Rattle.std.proofs.lemmas.List.Sorted.{IsPermutation-map, sum_by-IsPermutation, All-permutation, length_permutation}
-use Rattle.std.proofs.lemmas.List.Sums.{sum_by-append}
-use Rattle.std.proofs.lemmas.List.Filters.{sum_by-filter_both}
 use Rattle.ray_geom.specs.Boxes.{BoxValue}
-use Rattle.ray_tree.specs.Trees.{times, active}
+use Rattle.ray_tree.specs.Trees.{times}
 use Rattle.ray_tree.specs.Local.{IsActive}
 use Rattle.ray_tree.proofs.LeastLists.{All-first, All-second}
 use Rattle.ray_tree.proofs.Counting.{one, active-below, at_most_active, either}
 use Rattle.ray_stated.specs.declared.entry.Entry.{Entry}
 use Rattle.ray_stated.specs.Order.{sum_of, width, widest, axis_of, key, rank, half, first_half, other_half, arranged, actives, stated_order}
 use Rattle.ray_stated.specs.Entries.{entry_at, entry_sum, entry_key, items_in, AreOf, IsSmall, IsCut, IsListed, AreArranged}
-use Rattle.ray_stated.proofs.Actives.{actives-below, actives-active, actives-rise, actives-few, times-actives, times-past}
+use Rattle.ray_stated.proofs.Actives.{actives-active, actives-rise, actives-few, times-actives, times-past}
 use Rattle.ray_stated.proofs.Entered.{items_in-append}
 use Rattle.ray_stated.proofs.Numbers.{AreSame, times-append, all_same, length_same, rising-filter, rising_same, rising_sorted}
 use Rattle.ray_stated.proofs.Halving.{AreHalved, sums_same, axis_same, widest-few, firsts, others}

@@ -1,5 +1,5 @@
 -- When the first so many entries stand before all others along an axis.
-use Rattle.std.proofs.Common.{◌≡◌, ◌∙◌, ◌+◌, ◌-◌, ◌<◌, ◌≤◌, ◌++◌, ℕ, Bool, true, false, List, [], ◌∷◌, length, take, drop, get_or, refl, sym, ap, subst, arith, length-drop}
+use Rattle.std.proofs.Common.{◌≡◌, ◌∙◌, ◌+◌, ◌-◌, ◌<◌, ◌≤◌, ◌++◌, ℕ, Bool, true, false, List, [], length, take, drop, get_or, sym, ap, subst, arith}
 use Rattle.std.proofs.lemmas.List.{take-append-le, drop-append-le}
 use Rattle.std.specs.Prelude.{slice_index_or, nat_lt, ◌↔◌, IsTrue}
 use Rattle.std.specs.List.{All}
@@ -36,10 +36,6 @@ pub cut_by : (axis many : ℕ) (es xs ys : List Entry) → take many es ≡ xs �
 cut_by axis many es xs ys t d before =
     subst (λ l. AreBefore axis l (drop many es)) (sym t) (subst (λ l. AreBefore axis xs l) (sym d) before)
 
--- entries that were parted at the cut
-pub cut_here : (axis limit many : ℕ) (old new : List Entry) → IsParted axis limit old new many → IsCut axis many new
-cut_here axis limit many old new parted = before_by axis limit (take many new) (drop many new) parted.front parted.back
-
 -- the cut lies behind the front
 pub cut_behind : (axis limit many cut : ℕ) (front back back1 : List Entry) → length front ≡ cut → cut < many → AreLow axis limit front
     → AreHigh axis limit back → IsPermutation back back1 → IsCut axis (many - cut) back1 → IsCut axis many (front ++ back1)
@@ -66,21 +62,6 @@ cut_within axis limit many cut front front1 back long lt low high moved inner =
     (take-append-le many front1 back within) (drop-append-le many front1 back within)
     (both_before axis (take many front1) (drop many front1) back inner
     (before_by axis limit (take many front1) back (All-take (λ e. entry_key axis e < limit) many front1 low1) high))
-
--- where all keys are one
-pub cut_even : (reach : Reach) (many : ℕ) (es : List Entry) → reach.hi ≤ reach.lo → AreWithin reach es → IsCut reach.axis many es
-cut_even reach many es le within =
-    All-weaker (IsWithinReach reach) (λ x. All (λ y. entry_key reach.axis x ≤ entry_key reach.axis y) (drop many es))
-    (λ x p. All-weaker (IsWithinReach reach) (λ y. entry_key reach.axis x ≤ entry_key reach.axis y)
-    (λ y q. let a = p.below in let b = q.above in omega arith) (drop many es) (All-drop (IsWithinReach reach) many es within))
-    (take many es) (All-take (IsWithinReach reach) many es within)
-
--- of none, or of all
-pub cut_none : (axis many : ℕ) (es : List Entry) → many ≡ 0 → IsCut axis many es
-cut_none axis many es is = λ k d lt. absurd (let none : length (take many es) ≡ 0 = ap (λ n. length (take n es)) is in omega (arith, none))
-
-pub cut_all : (axis many : ℕ) (es : List Entry) → length es ≤ many → IsCut axis many es
-cut_all axis many es le = λ k d lt j e small. absurd (omega (arith, length-drop many es))
 
 -- where no key of the others is below the greatest of the first so many
 pub cut_seen : (axis many most : ℕ) (es front back : List Entry) → front ≡ take many es → back ≡ drop many es → most ≡ greatest (entry_key axis) front

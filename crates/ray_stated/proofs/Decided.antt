@@ -1,9 +1,9 @@
 -- The tests by which `carried` gives a tree hold exactly where what is read is one, and what is carried is low.
-use Rattle.std.proofs.Common.{◌≡◌, ◌∙◌, ◌+◌, ◌<◌, ◌≤◌, ◌↔◌, ◌⊎◌, inl, inr, ℕ, zero, suc, max, Bool, true, false, cond, Option, Some, None, List, [], ◌∷◌, length, map, get_or, refl, sym, ap, ap₂, subst, arith}
-use Rattle.std.specs.Prelude.{◌==◌, ◌&&◌, ◌^◌, is_some, if◌then◌else◌, IsTrue, Result, Ok, Err}
+use Rattle.std.proofs.Common.{◌≡◌, ◌∙◌, ◌+◌, ◌<◌, ◌≤◌, ◌↔◌, ◌⊎◌, inl, inr, ℕ, zero, suc, max, Bool, true, false, cond, Option, Some, None, List, length, refl, sym, ap, ap₂, subst, arith}
+use Rattle.std.specs.Prelude.{◌==◌, ◌&&◌, ◌^◌, is_some, if◌then◌else◌, Result, Ok, Err}
 use Rattle.std.specs.Bool.{Decides}
 use Rattle.std.specs.List.{All, list_all}
-use Rattle.std.proofs.lemmas.Bool.{and_from, and_parts, cases_Bool, eqb-true}
+use Rattle.std.proofs.lemmas.Bool.{and_from, and_parts}
 use Rattle.std.proofs.lemmas.Bool.Decides.{Decides-eqb, Decides-below_and}
 use Rattle.std.proofs.lemmas.List.{get_or_default, get_or_past}
 use Rattle.std.proofs.lemmas.List.Elements.{All-weaker}
@@ -14,23 +14,23 @@ use Rattle.ray_geom.specs.Equality.{box_eq, box_eq-identical}
 use Rattle.ray_geom.specs.LeastBoxes.{HoldsBoxes, IsLeast, union_of}
 use Rattle.ray_tree.specs.declared.node.Node.{Node}
 use Rattle.ray_tree.specs.declared.node.Node.TheVariants.{Leaf, Inner}
-use Rattle.ray_tree.specs.Shapes.{node_at, shape_in, levels}
-use Rattle.ray_tree.specs.Trees.{TreeValue, tree_value, shape_at, box_at, item_box, boxes_in, times, active, TreeOver}
-use Rattle.ray_tree.specs.Local.{IsActive, IsFit, IsLocal, IsLocalAt, AreLocal}
+use Rattle.ray_tree.specs.Shapes.{node_at, levels}
+use Rattle.ray_tree.specs.Trees.{TreeValue, shape_at, box_at, item_box, boxes_in, times, active, TreeOver}
+use Rattle.ray_tree.specs.Local.{IsActive, IsFit, IsLocal, AreLocal}
 use Rattle.ray_tree.specs.Plans.{Plan, Few, Both, size, places_of, label, halves}
 use Rattle.ray_tree.proofs.Spelled.{shape_of_spell}
 use Rattle.ray_tree.proofs.Halved.{halved}
 use Rattle.ray_tree.proofs.Median.{median, once-most, order-few}
 use Rattle.ray_tree.proofs.Counting.{has_items, either}
-use Rattle.ray_tree.proofs.Locals.{tree_over, over_has, over_local, are_fit, fit_at}
+use Rattle.ray_tree.proofs.Locals.{tree_over, over_has, over_local, fit_at}
 use Rattle.ray_tree.proofs.LeastLists.{same_least}
 use Rattle.ray_stated.specs.declared.stored.StoredNode.{StoredNode}
 use Rattle.ray_stated.specs.declared.tree_fault.TreeFault.{TreeFault}
 use Rattle.ray_stated.specs.declared.tree_fault.TreeFault.TheVariants.{NotTree, NoMemory}
 use Rattle.ray_stated.specs.Order.{stated_order}
-use Rattle.ray_stated.specs.Stated.{no_box, leaf_box, halved_tree, stated_tree}
-use Rattle.ray_stated.specs.Stored.{stored_all, height, IsSpelled, IsPreorder, IsEmpty, IsRooted, IsCarried}
-use Rattle.ray_stated.specs.Carried.{nodes_from, read_as, in_preorder, all_below, each_once, due_box, all_due, is_tree, carried, IsRead, StatedIsCarried, IsReadBack}
+use Rattle.ray_stated.specs.Stated.{no_box, leaf_box, halved_tree}
+use Rattle.ray_stated.specs.Stored.{stored_all, height, IsPreorder, IsEmpty, IsRooted, IsCarried}
+use Rattle.ray_stated.specs.Carried.{read_as, in_preorder, all_below, each_once, due_box, all_due, is_tree, carried, IsRead, StatedIsCarried, IsReadBack}
 use Rattle.ray_stated.proofs.LeafBoxes.{leaf_least}
 use Rattle.ray_stated.proofs.Numbers.{holds_of}
 use Rattle.ray_stated.proofs.Ordered.{stated_once}

@@ -1,7 +1,7 @@
 -- Entries of which those so far are parted by a limit along an axis.
-use Rattle.std.proofs.Common.{◌≡◌, ◌≢◌, ◌∙◌, ◌+◌, ◌-◌, ◌<◌, ◌≤◌, inl, inr, ℕ, Bool, true, false, cond, List, length, take, drop, get_or, refl, sym, ap, subst, arith, length-take-le, length-drop}
+use Rattle.std.proofs.Common.{◌≡◌, ◌≢◌, ◌∙◌, ◌+◌, ◌<◌, ◌≤◌, inl, inr, ℕ, Bool, true, false, List, length, get_or, refl, sym, subst, arith, length-take-le, length-drop}
 use Rattle.std.specs.Prelude.{nat_lt, if◌then◌else◌}
-use Rattle.std.specs.List.{All, AllWithin, SwappedAt}
+use Rattle.std.specs.List.{AllWithin, SwappedAt}
 use Rattle.std.specs.List.Sorted.{IsPermutation}
 use Rattle.std.proofs.lemmas.Bool.{ltb-true, ltb-false}
 use Rattle.std.proofs.lemmas.List.{get_or-take, get_or-drop}

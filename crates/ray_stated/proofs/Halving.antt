@@ -1,20 +1,19 @@
 -- Entries that are cut in two are the two halves of the items in the order of the stated tree.
-use Rattle.std.proofs.Common.{◌≡◌, ◌∙◌, ◌+◌, ◌-◌, ◌*◌, ◌/◌, ◌^◌, ◌<◌, ◌≤◌, ◌⊎◌, inl, inr, ◌++◌, ℕ, zero, suc, Bool, true, false, cond, Option, List, [], ◌∷◌, length, take, drop, get_or, refl, sym, ap, ap₂, subst, arith, length-append}
+use Rattle.std.proofs.Common.{◌≡◌, ◌∙◌, ◌+◌, ◌*◌, ◌^◌, ◌<◌, ◌≤◌, inl, inr, ◌++◌, ℕ, zero, suc, Bool, true, false, cond, Option, List, [], ◌∷◌, length, get_or, refl, sym, ap, subst, arith}
 use Rattle.std.specs.Prelude.{nat_lt, nat_le, ◌&&◌}
 use Rattle.std.specs.List.{All, filter, count_by}
-use Rattle.std.proofs.lemmas.Bool.{ltb-true, lt-ltb, le-ltb, le-leb, lt-leb, cond_both, cases_Bool, true≢false}
-use Rattle.std.proofs.lemmas.Bool.Decides.{nat_tests}
-use Rattle.std.proofs.lemmas.List.Elements.{All-nil, All-cons, All-head, All-tail, All-weaker, All-append, All-map}
+use Rattle.std.proofs.lemmas.Bool.{lt-ltb, le-ltb, le-leb, lt-leb, cond_both, cases_Bool, true≢false}
+use Rattle.std.proofs.lemmas.List.Elements.{All-nil, All-cons, All-head, All-tail, All-weaker, All-map}
 use Rattle.std.proofs.lemmas.List.Sums.{sum_by-cons, sum_by-append, count_by-le-length}
 use Rattle.ray_geom.specs.Boxes.{BoxValue}
-use Rattle.ray_tree.specs.Trees.{times, active, item_box}
+use Rattle.ray_tree.specs.Trees.{times}
 use Rattle.ray_tree.specs.Local.{IsActive}
-use Rattle.ray_tree.proofs.Counting.{active-below, at_most_active, either}
+use Rattle.ray_tree.proofs.Counting.{active-below, either}
 use Rattle.ray_stated.specs.declared.entry.Entry.{Entry}
-use Rattle.ray_stated.specs.Order.{sum_of, greatest, least, width, widest, axis_of, key, rank, half, first_half, other_half}
-use Rattle.ray_stated.specs.Entries.{entry_at, entry_sum, entry_key, items_in, AreOf, IsListed}
+use Rattle.ray_stated.specs.Order.{sum_of, greatest, least, width, widest, axis_of, key, rank, half}
+use Rattle.ray_stated.specs.Entries.{entry_at, entry_sum, items_in, AreOf}
 use Rattle.ray_stated.proofs.Extremes.{greatest-all, greatest-most, least-all, least-least, least-low}
-use Rattle.ray_stated.proofs.Numbers.{AreSame, times-append, holds_of, all_stand, all_same, length_same, times-kept, times-left_out, count_same, rising-filter}
+use Rattle.ray_stated.proofs.Numbers.{AreSame, times-append, holds_of, all_stand, all_same, times-kept, times-left_out, count_same}
 
 -- a list that has a number that fails has fewer that pass than numbers
 count-cons : (test : ℕ → Bool) (q : ℕ) (qs : List ℕ) → count_by test (q ∷ qs) ≡ cond (test q) 1 0 + count_by test qs

@@ -1,5 +1,5 @@
 -- The box of a leaf is the least box of its items.
-use Rattle.std.proofs.Common.{◌≡◌, ◌∙◌, ◌+◌, ◌<◌, ◌≤◌, ◌++◌, ℕ, zero, suc, Option, Some, None, List, [], ◌∷◌, length, take, drop, refl, sym, ap, subst, arith, length-drop, length-take-le}
+use Rattle.std.proofs.Common.{◌≡◌, ◌∙◌, ◌+◌, ◌<◌, ◌≤◌, ◌++◌, ℕ, Option, Some, None, List, [], ◌∷◌, length, take, drop, refl, sym, ap, arith, length-drop, length-take-le}
 use Rattle.std.specs.Prelude.{◌↔◌, IfSome, is_some, if◌then◌else◌, unwrap_or}
 use Rattle.std.specs.Option.{option_to_list}
 use Rattle.std.specs.List.{All}

@@ -1,16 +1,16 @@
 -- Marks of the numbers so far, of which none stood twice.
-use Rattle.std.proofs.Common.{◌≡◌, ◌≢◌, ◌∙◌, ◌+◌, ◌<◌, ◌≤◌, ◌++◌, inl, inr, ℕ, Bool, true, false, cond, List, [], ◌∷◌, length, take, get_or, set, refl, sym, ap, subst, arith, zero-add, get_or-set_other, get_or-set_same, length-set}
+use Rattle.std.proofs.Common.{◌≡◌, ◌≢◌, ◌∙◌, ◌+◌, ◌<◌, ◌≤◌, ◌++◌, inl, inr, ℕ, Bool, true, false, cond, List, [], ◌∷◌, length, take, get_or, set, sym, ap, subst, arith, zero-add, get_or-set_other, get_or-set_same, length-set}
 use Rattle.std.specs.Prelude.{◌↔◌, IsTrue}
 use Rattle.std.specs.List.{All}
 use Rattle.std.proofs.lemmas.Bool.{cases_eq, ne_eqb, false≢true}
 use Rattle.std.proofs.lemmas.Bool.Decides.{nat_tests}
-use Rattle.std.proofs.lemmas.List.{take_more, take_all, get_or_default}
-use Rattle.std.proofs.lemmas.List.Elements.{All-nil, All-push, All-take}
-use Rattle.std.proofs.lemmas.List.Sums.{sum_by-append, sum_by-take-le, sum_by_more}
+use Rattle.std.proofs.lemmas.List.{take_more, take_all}
+use Rattle.std.proofs.lemmas.List.Elements.{All-nil, All-push}
+use Rattle.std.proofs.lemmas.List.Sums.{sum_by-take-le, sum_by_more}
 use Rattle.ray_tree.specs.Trees.{times}
 use Rattle.ray_tree.proofs.Counting.{one, either}
 use Rattle.ray_stated.specs.Apart.{AreApart}
-use Rattle.ray_stated.proofs.Numbers.{all_stand, holds_of, times-append}
+use Rattle.ray_stated.proofs.Numbers.{holds_of, times-append}
 
 pub record IsMarked (limit : ℕ) (seen : List ℕ) (marks : List Bool) : Type 0 where
   pub long : length marks ≡ limit
@@ -47,11 +47,22 @@ marked_more limit numbers k p marks lt at low free m =
       counted = λ q within. elim (cases_eq q p) [
         | inl same ↦
             subst (λ n. times n (seen ++ (p ∷ [])) ≡ cond (get_or (set marks p true) n false) 1 0) (sym same)
-            (omega (arith, times-last p p seen, itself p, m.counted p low, ap {B = ℕ} (λ b. cond b 1 0) free,
-            ap {B = ℕ} (λ b. cond b 1 0) (get_or-set_same marks p true false small)))
+            (omega (
+              arith,
+              times-last p p seen,
+              itself p,
+              m.counted p low,
+              ap {B = ℕ} (λ b. cond b 1 0) free,
+              ap {B = ℕ} (λ b. cond b 1 0) (get_or-set_same marks p true false small),
+            ))
         | inr ne ↦ (let apart : q ≢ p = ne in
-            omega (arith, times-last q p seen, different q p (λ e. ne (sym e)), m.counted q within,
-            ap {B = ℕ} (λ b. cond b 1 0) (get_or-set_other marks p q true false apart)))
+            omega (
+              arith,
+              times-last q p seen,
+              different q p (λ e. ne (sym e)),
+              m.counted q within,
+              ap {B = ℕ} (λ b. cond b 1 0) (get_or-set_other marks p q true false apart),
+            ))
       ];
     })
 
@@ -72,10 +83,7 @@ marked_all limit numbers k marks all m =
       ];
     }
 
--- one that is too great, or is marked already
-pub too_great : (limit : ℕ) (numbers : List ℕ) (k : ℕ) → k < length numbers → limit ≤ get_or numbers k 0 → IsTrue false ↔ AreApart limit numbers
-too_great limit numbers k lt high = (λ h. absurd (false≢true h), λ a. absurd (let low = a.below k 0 lt in omega arith))
-
+-- one that is marked already
 pub seen_twice : (limit : ℕ) (numbers : List ℕ) (k p : ℕ) (marks : List Bool) → k < length numbers → get_or numbers k 0 ≡ p → p < limit
     → get_or marks p false ≡ true → IsMarked limit (take k numbers) marks → IsTrue false ↔ AreApart limit numbers
 seen_twice limit numbers k p marks lt at low marked m =

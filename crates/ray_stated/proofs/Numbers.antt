@@ -1,15 +1,15 @@
 -- Lists with the same numbers: what is so of all of one is so of all of the other, they are as long, as many pass a
 -- test, and where neither falls they are one list.
-use Rattle.std.proofs.Common.{◌≡◌, ◌∙◌, ◌+◌, ◌<◌, ◌≤◌, ◌⊎◌, inl, inr, ◌++◌, ℕ, zero, suc, Bool, true, false, cond, List, [], ◌∷◌, length, get_or, refl, sym, ap, ap₂, subst, arith}
+use Rattle.std.proofs.Common.{◌≡◌, ◌∙◌, ◌+◌, ◌<◌, ◌≤◌, ◌⊎◌, inl, inr, ◌++◌, ℕ, suc, Bool, true, false, cond, List, [], ◌∷◌, length, get_or, refl, sym, ap, ap₂, subst, arith}
 use Rattle.std.specs.Prelude.{◌==◌}
 use Rattle.std.specs.List.{All, filter, count_by}
 use Rattle.std.specs.List.Sorted.{IsNonDecreasingBy}
-use Rattle.std.proofs.lemmas.Bool.{eqb-true, ne_eqb, cases_eq, cases_order, cases_Bool, true≢false}
+use Rattle.std.proofs.lemmas.Bool.{eqb-true, ne_eqb, cases_order, cases_Bool, true≢false}
 use Rattle.std.proofs.lemmas.Bool.Decides.{nat_tests}
-use Rattle.std.proofs.lemmas.List.Elements.{All-nil, All-cons, All-head, All-tail, All-weaker, All-from_get_or, All-map, All-filter}
+use Rattle.std.proofs.lemmas.List.Elements.{All-head, All-tail, All-weaker, All-from_get_or, All-map, All-filter}
 use Rattle.std.proofs.lemmas.List.Sums.{sum_by-cons, sum_by-append, get_or-le-sum_by, length-filter}
 use Rattle.ray_tree.specs.Trees.{times}
-use Rattle.ray_tree.proofs.Counting.{one, total, total-same, total-times}
+use Rattle.ray_tree.proofs.Counting.{one, total-same, total-times}
 use Rattle.ray_stated.specs.declared.entry.Entry.{Entry}
 use Rattle.ray_stated.specs.Entries.{IsRising, items_in}
 

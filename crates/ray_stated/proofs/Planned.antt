@@ -7,7 +7,7 @@ use Rattle.ray_geom.specs.LeastBoxes.{union_of, HoldsBoxes, IsLeast}
 use Rattle.ray_tree.specs.declared.node.Node.{Node}
 use Rattle.ray_tree.specs.declared.node.Node.TheVariants.{Leaf, Inner}
 use Rattle.ray_tree.specs.Shapes.{node_at, shape_in}
-use Rattle.ray_tree.specs.Trees.{TreeValue, tree_value, boxes_in, boxes_below, times, active, IsShape, TreeOver}
+use Rattle.ray_tree.specs.Trees.{TreeValue, tree_value, boxes_in, boxes_below, times, active, TreeOver}
 use Rattle.ray_tree.specs.Local.{IsActive, IsLocal, IsLocalAt, AreLocal}
 use Rattle.ray_tree.specs.Plans.{Plan, Few, Both, size, places_of, spell, AreSmall, halves, median_nodes}
 use Rattle.ray_tree.proofs.Spelled.{length-spell, shape_of_plan}
@@ -22,8 +22,12 @@ use Rattle.ray_stated.proofs.LeafBoxes.{leaf_least}
 pub length-node_boxes : (items : List (Option BoxValue)) (order : List ℕ) (first : ℕ) (p : Plan) → length (node_boxes items order first p) ≡ size p
 length-node_boxes items order first (Few count) = refl
 length-node_boxes items order first (Both l r) =
-    omega (arith, length-append (node_boxes items order first l) (node_boxes items order (first + places_of l) r),
-    length-node_boxes items order first l, length-node_boxes items order (first + places_of l) r)
+    omega (
+      arith,
+      length-append (node_boxes items order first l) (node_boxes items order (first + places_of l) r),
+      length-node_boxes items order first l,
+      length-node_boxes items order (first + places_of l) r,
+    )
 
 -- what stands behind a list's front
 pub middle : {X : Type 0} (front : List X) (x : X) (rest : List X) (d : X) → get_or (front ++ (x ∷ rest)) (length front) d ≡ x
@@ -137,7 +141,10 @@ over_planned items order p small full once =
     let has = has_items order items once in
     let shape = shape_of_plan nodes boxes order p refl full small (length-node_boxes items order 0 p ∙ sym (length-spell 0 0 p)) (once-most order items once) in
     let whole : Stands items order nodes boxes 0 0 p = record {
-      front = []; rest = []; box_front = []; box_rest = [];
+      front = [];
+      rest = [];
+      box_front = [];
+      box_rest = [];
       nodes_are = sym (append-nil nodes);
       boxes_are = sym (append-nil boxes);
       long = refl;

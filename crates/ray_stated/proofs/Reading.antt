@@ -1,15 +1,13 @@
 -- Stored nodes and an order carry a tree exactly where what they are read as is one in preorder, and then that one.
-use Rattle.std.proofs.Common.{◌≡◌, ◌∙◌, ◌+◌, ◌*◌, ◌<◌, ◌≤◌, ◌++◌, inl, inr, ℕ, zero, suc, Option, List, [], ◌∷◌, length, map, take, get_or, refl, sym, ap, ap₂, subst, arith, length-take-le}
+use Rattle.std.proofs.Common.{◌≡◌, ◌∙◌, ◌+◌, ◌*◌, ◌<◌, ◌≤◌, ◌++◌, inl, inr, ℕ, Option, List, [], ◌∷◌, length, map, take, get_or, refl, sym, ap, ap₂, subst, arith, length-take-le}
 use Rattle.std.specs.Prelude.{◌==◌, if◌then◌else◌}
-use Rattle.std.specs.List.{All}
-use Rattle.std.proofs.lemmas.Bool.{eq-eqb, eqb-true, ne_eqb, cases_Bool}
+use Rattle.std.proofs.lemmas.Bool.{eqb-true, ne_eqb, cases_Bool}
 use Rattle.std.proofs.lemmas.List.{take_more, length-map}
 use Rattle.std.proofs.lemmas.List.Elements.{All-weaker}
 use Rattle.ray_geom.specs.Boxes.{BoxValue}
 use Rattle.ray_tree.specs.declared.node.Node.{Node}
 use Rattle.ray_tree.specs.declared.node.Node.TheVariants.{Leaf, Inner}
-use Rattle.ray_tree.specs.Shapes.{node_at}
-use Rattle.ray_tree.specs.Trees.{TreeValue, tree_value, times, active, IsShape, TreeOver}
+use Rattle.ray_tree.specs.Trees.{TreeValue, tree_value, times, IsShape, TreeOver}
 use Rattle.ray_tree.specs.Local.{IsActive}
 use Rattle.ray_tree.specs.Plans.{Plan, Few, Both, size, places_of, spell, AreSmall}
 use Rattle.ray_tree.proofs.Spelled.{length-spell, shape_of_plan}
@@ -18,7 +16,7 @@ use Rattle.ray_tree.proofs.Counting.{has_items, active-below}
 use Rattle.ray_tree.proofs.Sizes.{over-few}
 use Rattle.ray_stated.specs.declared.stored.StoredNode.{StoredNode}
 use Rattle.ray_stated.specs.Apart.{AreApart}
-use Rattle.ray_stated.specs.Stored.{stored_of, stored_all, IsSpelled, IsPreorder, IsEmpty, IsRooted, IsCarried}
+use Rattle.ray_stated.specs.Stored.{stored_of, stored_all, IsPreorder, IsEmpty, IsRooted, IsCarried}
 use Rattle.ray_stated.specs.Carried.{node_of, nodes_from, read_as}
 
 pub length-nodes_from : (n : ℕ) (stored : List StoredNode) → length (nodes_from n stored) ≡ length stored

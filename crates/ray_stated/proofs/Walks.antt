@@ -1,5 +1,5 @@
 -- The walk of nodes finds the end of what a plan spells there, and nothing else.
-use Rattle.std.proofs.Common.{◌≡◌, ◌∙◌, ◌+◌, ◌<◌, ◌≤◌, ◌++◌, inl, inr, ◌-◌, ℕ, zero, suc, max, Bool, true, false, Option, Some, None, List, [], ◌∷◌, length, drop, refl, sym, ap, ap₂, subst, arith, append_assoc, append-nil, length-append}
+use Rattle.std.proofs.Common.{◌≡◌, ◌∙◌, ◌+◌, ◌<◌, ◌≤◌, ◌++◌, ◌-◌, ℕ, zero, suc, Bool, true, false, Option, Some, None, List, [], ◌∷◌, length, drop, refl, sym, ap, arith, append_assoc, append-nil}
 use Rattle.std.specs.Prelude.{◌==◌, ◌&&◌, nat_le, if◌then◌else◌, slice_get}
 use Rattle.std.proofs.Math.Seq.{drop-append_seam}
 use Rattle.std.proofs.lemmas.List.{drop-drop}
@@ -80,8 +80,8 @@ walk_ends (suc k) (Both l r) nodes at place rest low small is =
     ∙ ap (λ b. if b then walked k nodes right (place + places_of l) else None) (eq-eqb right right refl)
     ∙ right_is
     ∙ (let same : right + size r ≡ at + size (Both l r) = omega arith in
-      let full : (place + places_of l) + places_of r ≡ place + places_of (Both l r) = omega arith in
-      λ i. Some (ends (same i) (full i)))
+    let full : (place + places_of l) + places_of r ≡ place + places_of (Both l r) = omega arith in
+    λ i. Some (ends (same i) (full i)))
 
 -- where it finds an end, a plan is spelled there
 pub record IsFound (nodes : List Node) (k at place : ℕ) (e : Ends) : Type 0 where

@@ -1,5 +1,5 @@
 -- How far entries reach along the axes, which no clause of a public call speaks of. (Own.)
-use Rattle.std.specs.Prelude.{◌≤◌, ◌^◌, ℕ, zero, suc, min, max, List, slice_index_or}
+use Rattle.std.specs.Prelude.{◌≤◌, ◌^◌, ℕ, zero, suc, min, max, List}
 use Rattle.std.specs.List.{All}
 use Rattle.ray_stated.specs.declared.entry.Entry.{Entry}
 use Rattle.ray_stated.specs.declared.reach.Side.{Side}

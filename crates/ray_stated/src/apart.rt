@@ -25,11 +25,7 @@ fn are_unmarked(marks: &mut [bool], numbers: &[u32]) -> bool
 }
 
 // Whether numbers are below a limit and none stands twice.
-pub(crate) fn are_apart(
-    alloc: Global,
-    limit: usize,
-    numbers: &[u32],
-) -> Result<bool, NoMemory>
+pub(crate) fn are_apart(alloc: Global, limit: usize, numbers: &[u32]) -> Result<bool, NoMemory>
     ensures { IfOk result (λ b. IsTrue b ↔ AreApart limit numbers.now) }
 {
     let mut marks = vec![in alloc; false; limit]?;

@@ -57,10 +57,7 @@ fn entry_of(b: &Box3, item: u32) -> Entry
 }
 
 // An entry of each active item, in rising number.
-pub(crate) fn entries_of(
-    alloc: Global,
-    items: &[Option<Box3>],
-) -> Result<Vec<Entry>, NoMemory>
+pub(crate) fn entries_of(alloc: Global, items: &[Option<Box3>]) -> Result<Vec<Entry>, NoMemory>
     requires { length items.now ≤ 2 ^ 20 }
     ensures of { IfOk result (λ v. AreOf items.now v.items) }
     ensures small { IfOk result (λ v. All IsSmall v.items) }

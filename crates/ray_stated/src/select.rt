@@ -208,13 +208,18 @@ fn spread(reach: Reach, some: usize, all: usize) -> u64
     let way = dense(reach, reach.hi).saturating_sub(least);
     let at = least.saturating_add(way.saturating_mul(some as u64) / all as u64);
     let span = reach.span.max(1);
-    (at / span).saturating_mul(1 << ITEM_BITS).saturating_add(reach.first).saturating_add(at % span)
+    (at / span)
+        .saturating_mul(1 << ITEM_BITS)
+        .saturating_add(reach.first)
+        .saturating_add(at % span)
 }
 
 // The place of a key among those of a reach, without those with a number that no item has.
 fn dense(reach: Reach, key: u64) -> u64 {
     let (sum, item) = (key >> ITEM_BITS, key % (1 << ITEM_BITS));
-    let offset = item.saturating_sub(reach.first).min(reach.span.saturating_sub(1));
+    let offset = item
+        .saturating_sub(reach.first)
+        .min(reach.span.saturating_sub(1));
     sum.saturating_mul(reach.span).saturating_add(offset)
 }
 

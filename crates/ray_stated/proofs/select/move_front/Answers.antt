@@ -1,4 +1,4 @@
-use Rattle.std.proofs.Common.{refl, arith}
+use Rattle.std.proofs.Common.{refl}
 use Rattle.ray_stated.proofs.Fronts.{front_next}
 use Rattle.ray_stated.proofs.select.move_front.Goals as goal
 

@@ -1,4 +1,4 @@
-use Rattle.std.proofs.Common.{◌∙◌, Some, None, sym, arith}
+use Rattle.std.proofs.Common.{◌∙◌, None, sym, arith}
 use Rattle.ray_stated.proofs.Walks.{walk_stop, walk_out, walk_leaf, walk_away, walk_inner, walk_astray, walk_on}
 use Rattle.ray_stated.proofs.walk.+walk.Goals as goal
 
