@@ -21,7 +21,11 @@ use Rattle.ray_stated.proofs.Entered.{items_in-append}
 use Rattle.ray_stated.proofs.Numbers.{AreSame, times-append, all_same, length_same, rising-filter, rising_same, rising_sorted}
 use Rattle.ray_stated.proofs.Halving.{AreHalved, sums_same, axis_same, widest-few, firsts, others}
 
--- few items, and more
+-- none, few items, and more
+pub arranged_zero : (items : List (Option BoxValue)) (ns : List ℕ) → arranged zero items ns ≡ ns
+unfolding arranged
+arranged_zero items ns = refl
+
 pub arranged_few : (h : ℕ) (items : List (Option BoxValue)) (ns : List ℕ) → length ns ≤ 4 → arranged h items ns ≡ ns
 unfolding arranged
 arranged_few zero items ns le = refl
@@ -37,7 +41,7 @@ arranged_more h items ns lt =
 below : (items : List (Option BoxValue)) (l : List ℕ) → All (IsActive items) l → All (λ q. q < length items) l
 below items l all = All-weaker (IsActive items) (λ q. q < length items) (λ q a. active-below items q a) l all
 
-items_permuted : (old new : List Entry) → IsPermutation old new → AreSame (items_in new) (items_in old)
+pub items_permuted : (old new : List Entry) → IsPermutation old new → AreSame (items_in new) (items_in old)
 items_permuted old new moved p = sum_by-IsPermutation (λ q. one p q) (items_in old) (items_in new) (IsPermutation-map (λ (e : Entry). e.item) old new moved)
 
 listed_long : (items : List (Option BoxValue)) (ns : List ℕ) (es : List Entry) → IsListed items ns (items_in es) → length ns ≡ length es

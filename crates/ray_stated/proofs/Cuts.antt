@@ -63,15 +63,6 @@ cut_within axis limit many cut front front1 back long lt low high moved inner =
     (both_before axis (take many front1) (drop many front1) back inner
     (before_by axis limit (take many front1) back (All-take (λ e. entry_key axis e < limit) many front1 low1) high))
 
--- where no key of the others is below the greatest of the first so many
-pub cut_seen : (axis many most : ℕ) (es front back : List Entry) → front ≡ take many es → back ≡ drop many es → most ≡ greatest (entry_key axis) front
-    → All (λ e. most ≤ entry_key axis e) back → IsCut axis many es
-cut_seen axis many most es front back t d is above =
-    cut_by axis many es front back (sym t) (sym d)
-    (All-weaker (λ e. entry_key axis e ≤ greatest (entry_key axis) front) (λ x. All (λ y. entry_key axis x ≤ entry_key axis y) back)
-    (λ x a. All-weaker (λ e. most ≤ entry_key axis e) (λ y. entry_key axis x ≤ entry_key axis y) (λ y b. omega (arith, is)) back above)
-    front (greatest-all (entry_key axis) front))
-
 -- what is left of the reach holds all of a part
 pub within_above : (reach above : Reach) (limit many : ℕ) (old new : List Entry) → IsParted reach.axis limit old new many → AreWithin reach old
     → above.axis ≡ reach.axis → above.lo ≡ limit → above.hi ≡ reach.hi → AreWithin above (drop many new)
@@ -90,13 +81,3 @@ within_below reach below limit many old new parted within axis lo hi =
       above = let b = (all k d lt).above in omega (arith, lo, ap key axis);
       below = omega (arith, parted.front k d lt, hi, ap key axis);
     }
-
--- one that is below a number tells that not all are from it on
-pub not_from : (axis least i : ℕ) (es : List Entry) (r : Bool) → r ≡ true → ((d : Entry) → r ≡ nat_lt (entry_key axis (get_or es i d)) least) → i < length es
-    → IsTrue false ↔ All (λ e. least ≤ entry_key axis e) es
-not_from axis least i es r h says lt =
-    let d : Entry = record { sums = []; item = 0 } in
-    let low = ltb-true (entry_key axis (get_or es i d)) least (sym (says d) ∙ h) in (
-      λ no_way. absurd (false≢true no_way),
-      λ all. absurd (let high = all i d lt in omega arith),
-    )

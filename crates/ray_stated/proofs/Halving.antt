@@ -57,7 +57,7 @@ sums_same items (suc (suc zero)) e lt is = ap (entry_sum 2) is
 sums_same items (suc (suc (suc n))) e lt is = absurd (omega arith)
 
 -- what is so of each entry's sum is so of each item's, and the other way round
-to_items : (P : ℕ → Type 0) (items : List (Option BoxValue)) (axis : ℕ) (es : List Entry) → axis < 3 → AreOf items es
+pub to_items : (P : ℕ → Type 0) (items : List (Option BoxValue)) (axis : ℕ) (es : List Entry) → axis < 3 → AreOf items es
     → All (λ e. P (entry_sum axis e)) es → All (λ p. P (sum_of items axis p)) (items_in es)
 to_items P items axis es lt of all =
     All-map (λ p. P (sum_of items axis p)) (λ (e : Entry). e.item) es (λ k d low. subst P (sums_same items axis (get_or es k d) lt (of k d low)) (all k d low))

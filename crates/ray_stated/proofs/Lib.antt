@@ -7,6 +7,7 @@ pub mod Cuts
 pub mod Numbers
 pub mod Halving
 pub mod Arranging
+pub mod Even
 pub mod Ordered
 pub mod LeafBoxes
 pub mod Planned

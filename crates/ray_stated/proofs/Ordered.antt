@@ -10,14 +10,10 @@ use Rattle.ray_tree.proofs.Counting.{one, either}
 use Rattle.ray_stated.specs.Order.{axis_of, rank, half, first_half, other_half, arranged, actives, stated_order}
 use Rattle.ray_stated.proofs.Actives.{times-actives, times-past}
 use Rattle.ray_stated.proofs.Numbers.{times-append}
-use Rattle.ray_stated.proofs.Arranging.{arranged_few, arranged_more}
+use Rattle.ray_stated.proofs.Arranging.{arranged_zero, arranged_few, arranged_more}
 
 opposite : (a b : ℕ) → nat_le b a ≡ not (nat_lt a b)
 opposite a b = grind (arith, nat_tests)
-
-arranged_zero : (items : List (Option BoxValue)) (ns : List ℕ) → arranged zero items ns ≡ ns
-unfolding arranged
-arranged_zero items ns = refl
 
 halves_times : (items : List (Option BoxValue)) (ns : List ℕ) (p : ℕ) → times p (first_half items ns) + times p (other_half items ns) ≡ times p ns
 halves_times items ns p =

@@ -39,6 +39,14 @@ side_z es = record {
 way_is : (f : Entry → ℕ) (es : List Entry) (side : Side) (n : ℕ) → IsSide f es side → n ≡ side.hi - side.lo → n ≡ width f es
 way_is f es side n is e = e ∙ ap₂ (λ a b. a - b) is.hi is.lo
 
+pub far_is : (es : List Entry) (sides : Sides) (x y z far : ℕ) → sides ≡ fold widened no_sides es → x ≡ sides.x.hi - sides.x.lo → y ≡ sides.y.hi - sides.y.lo
+    → z ≡ sides.z.hi - sides.z.lo → far ≡ max (max x y) z → far ≡ max (max (width (entry_sum 0) es) (width (entry_sum 1) es)) (width (entry_sum 2) es)
+far_is es sides x y z far is ex ey ez e =
+    let wx = way_is (entry_sum 0) es sides.x x (subst (λ (s : Sides). IsSide (entry_sum 0) es s.x) (sym is) (side_x es)) ex in
+    let wy = way_is (entry_sum 1) es sides.y y (subst (λ (s : Sides). IsSide (entry_sum 1) es s.y) (sym is) (side_y es)) ey in
+    let wz = way_is (entry_sum 2) es sides.z z (subst (λ (s : Sides). IsSide (entry_sum 2) es s.z) (sym is) (side_z es)) ez in
+    e ∙ (λ i. max (max (wx i) (wy i)) (wz i))
+
 pub axis_is : (es : List Entry) (sides : Sides) (x y z axis : ℕ) → sides ≡ fold widened no_sides es → x ≡ sides.x.hi - sides.x.lo → y ≡ sides.y.hi - sides.y.lo
     → z ≡ sides.z.hi - sides.z.lo → axis ≡ widest x y z → axis ≡ widest (width (entry_sum 0) es) (width (entry_sum 1) es) (width (entry_sum 2) es)
 axis_is es sides x y z axis is ex ey ez e =

@@ -2,8 +2,8 @@
 ghost use Rattle.std.specs.Prelude.{◌≡◌, ◌≤◌, ◌^◌, length, map, IfOk};
 ghost use Rattle.std.specs.List.{All};
 ghost use Rattle.std.specs.List.Sorted.{IsPermutation, IsNonDecreasingBy};
-ghost use Rattle.ray_stated.specs.Order.{stated_order, width, widest};
-ghost use Rattle.ray_stated.specs.Entries.{AreArranged, IsSmall, IsCut, entry_sum, items_in};
+ghost use Rattle.ray_stated.specs.Order.{stated_order};
+ghost use Rattle.ray_stated.specs.Entries.{AreArranged, IsSmall, items_in};
 
 use crate::entry::{Entry, entries_of};
 use crate::reach::reach_of;
@@ -23,23 +23,17 @@ fn arrange(entries: &mut [Entry])
         sort(entries);
         return;
     }
+    let reach = reach_of(entries);
+    // Where all sums are the same the items stand in rising number, to the last leaf.
+    if reach.far == 0 {
+        sort(entries);
+        return;
+    }
     let half = (entries.len() + 1) / 2;
-    halve(entries, half);
+    cut(entries, half, reach);
     let (left, right) = entries.split_at_mut(half);
     arrange(left);
     arrange(right);
-}
-
-// Brings the first so many before all others, along the axis along which sums are furthest apart.
-fn halve(entries: &mut [Entry], many: usize)
-    requires small { All IsSmall entries.old }
-    requires many { many ≤ length entries.old }
-    ensures same { IsPermutation entries.old entries.new }
-    ensures apart { IsCut (widest (width (entry_sum 0) entries.old) (width (entry_sum 1) entries.old)
-        (width (entry_sum 2) entries.old)) many entries.new }
-{
-    let reach = reach_of(entries);
-    cut(entries, many, reach);
 }
 
 // Brings entries into rising order of their items.

@@ -23,8 +23,9 @@ pub struct Sides {
     pub items: Side,
 }
 
-// How far entries reach along an axis: no key is less than `lo` or greater than `hi`. Their items'
-// numbers are from `first` on, and `span` where they are next to each other.
+// How far entries reach along the axis along which their sums are furthest apart, `far` of each
+// other: no key is less than `lo` or greater than `hi`. Their items' numbers are from `first` on, and
+// at most `span` of them.
 #[derive(Clone, Copy, Debug)]
 pub struct Reach {
     pub axis: usize,
@@ -32,13 +33,7 @@ pub struct Reach {
     pub hi: u64,
     pub first: u64,
     pub span: u64,
-}
-
-impl Reach {
-    // Whether the entries may have more than one sum.
-    pub(crate) fn is_wide(self) -> bool {
-        self.lo >> ITEM_BITS < self.hi >> ITEM_BITS
-    }
+    pub far: u32,
 }
 
 // No sum, and no number of an item, is above this.
@@ -132,10 +127,11 @@ fn along(sides: Sides, axis: usize) -> Side
 }
 
 // The reach along an axis of entries with these sides.
-fn reach_by(axis: usize, side: Side, items: Side) -> Reach
+fn reach_by(axis: usize, side: Side, items: Side, far: u32) -> Reach
     ensures axis { result.axis ≡ axis }
     ensures lo { result.lo ≡ side.lo * 2 ^ 20 }
     ensures hi { result.hi ≡ side.hi * 2 ^ 20 + (2 ^ 20 - 1) }
+    ensures far { result.far ≡ far }
 {
     Reach {
         axis,
@@ -143,6 +139,7 @@ fn reach_by(axis: usize, side: Side, items: Side) -> Reach
         hi: (u64::from(side.hi) << ITEM_BITS) + ((1 << ITEM_BITS) - 1),
         first: u64::from(items.lo),
         span: u64::from(way(items)) + 1,
+        far,
     }
 }
 
@@ -152,9 +149,13 @@ pub(crate) fn reach_of(entries: &[Entry]) -> Reach
     ensures axis { result.axis ≡ widest (width (entry_sum 0) entries.now)
         (width (entry_sum 1) entries.now) (width (entry_sum 2) entries.now) }
     ensures small { result.axis < 3 }
+    ensures far { result.far ≡ max (max (width (entry_sum 0) entries.now)
+        (width (entry_sum 1) entries.now)) (width (entry_sum 2) entries.now) }
     ensures within { AreWithin result entries.now }
 {
     let sides = sides_of(entries);
-    let axis = widest_axis(way(sides.x), way(sides.y), way(sides.z));
-    reach_by(axis, along(sides, axis), sides.items)
+    let (x, y, z) = (way(sides.x), way(sides.y), way(sides.z));
+    let axis = widest_axis(x, y, z);
+    let far = x.max(y).max(z);
+    reach_by(axis, along(sides, axis), sides.items, far)
 }

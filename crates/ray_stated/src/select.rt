@@ -1,9 +1,8 @@
 //! The exact cut of entries along an axis, by parting them again and again.
-ghost use Rattle.std.specs.Prelude.{◌≡◌, ◌<◌, ◌≤◌, ◌↔◌, IsTrue, length, nat_lt, if◌then◌else◌, slice_index_or};
+ghost use Rattle.std.specs.Prelude.{◌≡◌, ◌<◌, ◌≤◌, length, nat_lt, if◌then◌else◌, slice_index_or};
 ghost use Rattle.std.specs.List.{All, SwappedAt};
 ghost use Rattle.std.specs.List.Sorted.{IsPermutation};
 ghost use Rattle.ray_stated.specs.declared.entry.Entry.{Entry};
-ghost use Rattle.ray_stated.specs.Order.{greatest};
 ghost use Rattle.ray_stated.specs.Entries.{IsCut, entry_key};
 ghost use Rattle.ray_stated.specs.Reaches.{AreWithin};
 ghost use Rattle.ray_stated.specs.Partings.{IsParted};
@@ -25,47 +24,7 @@ pub(crate) fn cut(entries: &mut [Entry], many: usize, reach: Reach)
     ensures same { IsPermutation entries.old entries.new }
     ensures apart { IsCut reach.axis many entries.new }
 {
-    // Entries of one sum mostly stand in the order of their numbers already.
-    if !reach.is_wide() && is_cut(entries, many, reach.axis) {
-        return;
-    }
     select(entries, many, reach, CUTS);
-}
-
-// Whether the first so many stand before all others already.
-fn is_cut(entries: &[Entry], many: usize, axis: usize) -> bool
-    requires axis { axis < 3 }
-    requires many { many ≤ length entries.now }
-    ensures { IsTrue result → IsCut axis many entries.now }
-{
-    let (front, back) = entries.split_at(many);
-    are_from(back, axis, greatest_key(front, axis))
-}
-
-// The greatest key of entries.
-#[tactic(auto, using(std::proofs::lemmas::List::Sums::fold_more))]
-fn greatest_key(entries: &[Entry], axis: usize) -> u64
-    requires { axis < 3 }
-    ensures { result ≡ greatest (entry_key axis) entries.now }
-{
-    let mut most = 0;
-    for entry in entries {
-        most = entry.key(axis).max(most);
-    }
-    most
-}
-
-// Whether no key is below a number.
-fn are_from(entries: &[Entry], axis: usize, least: u64) -> bool
-    requires { axis < 3 }
-    ensures { IsTrue result ↔ All (λ e. least ≤ entry_key axis e) entries.now }
-{
-    for i in 0..entries.len() {
-        if is_below(entries, i, axis, least) {
-            return false;
-        }
-    }
-    true
 }
 
 // Brings the first so many along the axis of a reach before all others: what is below a limit goes

@@ -1,12 +1,18 @@
-use Rattle.std.proofs.Common.{◌∙◌}
-use Rattle.ray_stated.proofs.Sides.{axis_is, reach_holds}
+use Rattle.std.proofs.Common.{◌∙◌, arith}
+use Rattle.ray_stated.proofs.Sides.{axis_is, far_is, reach_holds}
 use Rattle.ray_stated.proofs.reach.reach_of.Goals as goal
 
 pub returns-clause-axis : goal.returns-clause-axis
 returns-clause-axis c =
     c.reach_by.ensures.axis
-    ∙ axis_is c.args.entries.now c.sides_of-sides.result c.way.result c.way-2.result c.way-3.result c.widest_axis-axis.result
-    c.sides_of-sides.ensures c.way.ensures c.way-2.ensures c.way-3.ensures c.widest_axis-axis.ensures.value
+    ∙ axis_is c.args.entries.now c.sides_of-sides.result c.way-x.result c.way-y.result c.way-z.result c.widest_axis-axis.result
+    c.sides_of-sides.ensures c.way-x.ensures c.way-y.ensures c.way-z.ensures c.widest_axis-axis.ensures.value
+
+pub returns-clause-far : goal.returns-clause-far
+returns-clause-far c =
+    c.reach_by.ensures.far
+    ∙ far_is c.args.entries.now c.sides_of-sides.result c.way-x.result c.way-y.result c.way-z.result _
+    c.sides_of-sides.ensures c.way-x.ensures c.way-y.ensures c.way-z.ensures (omega arith)
 
 pub returns-clause-within : goal.returns-clause-within
 returns-clause-within c =

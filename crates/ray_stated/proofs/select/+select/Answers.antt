@@ -9,7 +9,7 @@ use Rattle.ray_stated.proofs.select.+select.Goals as goal
 pub select-requires : goal.select-requires
 select-requires t c =
     let reach = c.args.reach in
-    let above : Reach = record { axis = reach.axis; lo = c.limit_of-limit.result; hi = reach.hi; first = reach.first; span = reach.span } in
+    let above : Reach = record { axis = reach.axis; lo = c.limit_of-limit.result; hi = reach.hi; first = reach.first; span = reach.span; far = reach.far } in
     let within = within_above reach above c.limit_of-limit.result c.move_front-cut.result c.args.entries.now c.move_front-cut.new.entries
     c.move_front-cut.ensures c.requires.within refl refl refl in (
       omega (arith, c.limit_of-limit.ensures.above, c.limit_of-limit.ensures.below),
@@ -25,7 +25,7 @@ select-requires t c =
 pub select-requires-then-many-cut-2 : goal.select-requires-then-many-cut-2
 select-requires-then-many-cut-2 t c =
     let reach = c.args.reach in
-    let below : Reach = record { axis = reach.axis; lo = reach.lo; hi = c.limit_of-limit.result - 1; first = reach.first; span = reach.span } in
+    let below : Reach = record { axis = reach.axis; lo = reach.lo; hi = c.limit_of-limit.result - 1; first = reach.first; span = reach.span; far = reach.far } in
     let within = within_below reach below c.limit_of-limit.result c.move_front-cut.result c.args.entries.now c.move_front-cut.new.entries
     c.move_front-cut.ensures c.requires.within refl refl refl in (
       omega (arith, c.limit_of-limit.ensures.above, c.limit_of-limit.ensures.below),
