@@ -1,20 +1,17 @@
 -- When the first so many entries stand before all others along an axis.
-use Rattle.std.proofs.Common.{◌≡◌, ◌∙◌, ◌+◌, ◌-◌, ◌<◌, ◌≤◌, ◌++◌, ℕ, Bool, true, false, List, [], length, take, drop, get_or, sym, ap, subst, arith}
+use Rattle.std.proofs.Common.{◌≡◌, ◌∙◌, ◌+◌, ◌-◌, ◌<◌, ◌≤◌, ◌++◌, ℕ, List, length, take, drop, sym, ap, subst, arith}
 use Rattle.std.proofs.lemmas.List.{take-append-le, drop-append-le}
-use Rattle.std.specs.Prelude.{slice_index_or, nat_lt, ◌↔◌, IsTrue}
+use Rattle.std.specs.Prelude.{slice_index_or}
 use Rattle.std.specs.List.{All}
 use Rattle.std.specs.List.Sorted.{IsPermutation}
-use Rattle.std.proofs.lemmas.Bool.{ltb-true, false≢true}
 use Rattle.std.proofs.Math.Seq.{take-append-add, drop-append-add}
 use Rattle.std.proofs.lemmas.List.Elements.{All-append, All-weaker, All-take, All-drop}
 use Rattle.std.proofs.lemmas.List.Sorted.{All-permutation}
 use Rattle.ray_stated.specs.declared.entry.Entry.{Entry}
 use Rattle.ray_stated.specs.declared.reach.Reach.{Reach}
-use Rattle.ray_stated.specs.Order.{greatest}
 use Rattle.ray_stated.specs.Entries.{entry_key, IsCut}
 use Rattle.ray_stated.specs.Reaches.{IsWithinReach, AreWithin}
 use Rattle.ray_stated.specs.Partings.{IsParted}
-use Rattle.ray_stated.proofs.Extremes.{greatest-all}
 
 -- none of the first list is behind one of the second
 abbrev pub AreBefore : ℕ → List Entry → List Entry → Type 0

@@ -1,5 +1,5 @@
 -- Items that all have the same sums stand in rising number.
-use Rattle.std.proofs.Common.{◌≡◌, ◌∙◌, ◌+◌, ◌-◌, ◌*◌, ◌/◌, ◌^◌, ◌<◌, ◌≤◌, inl, inr, ◌++◌, ℕ, zero, suc, max, Option, List, [], ◌∷◌, length, take, drop, get_or, refl, sym, ap, ap₂, subst, arith, length-take-le, take-append-drop}
+use Rattle.std.proofs.Common.{◌≡◌, ◌∙◌, ◌+◌, ◌^◌, ◌<◌, ◌≤◌, inl, inr, ◌++◌, ℕ, zero, suc, max, Option, List, [], ◌∷◌, length, take, drop, sym, ap, ap₂, subst, arith, length-take-le, take-append-drop}
 use Rattle.std.specs.Prelude.{nat_lt, nat_le}
 use Rattle.std.specs.List.{All}
 use Rattle.std.specs.List.Sorted.{IsPermutation, IsNonDecreasingBy}
@@ -9,10 +9,10 @@ use Rattle.ray_tree.specs.Trees.{times}
 use Rattle.ray_tree.specs.Local.{IsActive}
 use Rattle.ray_tree.proofs.Counting.{either}
 use Rattle.ray_stated.specs.declared.entry.Entry.{Entry}
-use Rattle.ray_stated.specs.Order.{sum_of, greatest, least, width, axis_of, key, rank, half, first_half, other_half, arranged}
-use Rattle.ray_stated.specs.Entries.{entry_sum, items_in, AreOf, IsSmall, IsRising, IsListed, AreArranged}
+use Rattle.ray_stated.specs.Order.{sum_of, least, width, axis_of, rank, half, first_half, other_half, arranged}
+use Rattle.ray_stated.specs.Entries.{entry_sum, items_in, IsSmall, IsRising, AreArranged}
 use Rattle.ray_stated.proofs.Extremes.{greatest-all, least-all}
-use Rattle.ray_stated.proofs.Numbers.{AreSame, times-append, all_same, rising-filter, rising_same, rising_sorted}
+use Rattle.ray_stated.proofs.Numbers.{times-append, all_same, rising-filter, rising_same, rising_sorted}
 use Rattle.ray_stated.proofs.Halving.{AreHalved, to_items, widest-few, firsts, others}
 use Rattle.ray_stated.proofs.Arranging.{arranged_zero, arranged_few, arranged_more, items_permuted}
 

@@ -23,9 +23,9 @@ pub struct Sides {
     pub items: Side,
 }
 
-// How far entries reach along the axis along which their sums are furthest apart, `far` of each
-// other: no key is less than `lo` or greater than `hi`. Their items' numbers are from `first` on, and
-// at most `span` of them.
+// How far entries reach along the axis along which their sums are furthest apart, by `far`: no key
+// is less than `lo` or greater than `hi`. Their items' numbers are from `first` on, at most `span`
+// of them.
 #[derive(Clone, Copy, Debug)]
 pub struct Reach {
     pub axis: usize,

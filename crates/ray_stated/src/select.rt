@@ -74,7 +74,8 @@ fn move_front(entries: &mut [Entry], axis: usize, limit: u64) -> usize
 fn is_below(entries: &[Entry], i: usize, axis: usize, limit: u64) -> bool
     requires axis { axis < 3 }
     requires small { i < length entries.now }
-    ensures { (d : Entry) → result ≡ nat_lt (entry_key axis (slice_index_or entries.now i d)) limit }
+    ensures { (d : Entry) → result
+        ≡ nat_lt (entry_key axis (slice_index_or entries.now i d)) limit }
 {
     entries[i].key(axis) < limit
 }
