@@ -7,13 +7,14 @@
 #   make examples            runs each recording of examples/ with it, and compares text and status
 #   make conformance         runs all conformance cases through the library's one call
 #   make tools               tests the tools of tools/ with the linked program
+#   make c                   proves the check for programs in C, and builds and runs examples/c
 #   make test                the whole gate: every proof from nothing, the wrong bodies, the tests, the cases, the
 #                            programs, and then the side checks, which compare pages with sources
 # WORDS are what `make try` asks the program for: run, or check.
 WORDS = run
 SOURCES = crates.txt HANDLES $(shell find crates -path '*/out' -prune -o \( -name '*.rt' -o -name '*.antt' \) -print)
 
-.PHONY: all demo try quick examples conformance tools test
+.PHONY: all demo try quick examples conformance tools c test
 
 all: vkray
 
@@ -52,6 +53,12 @@ conformance:
 
 tools: vkray
 	tools/test
+
+c:
+	cd crates/vkray_c && rt lib > /dev/null
+	$(CC) -std=c99 -O2 -Iinclude -o crates/vkray_c/out/check examples/c/check.c \
+	  crates/vkray_c/out/libvkray_c.a "$$(dirname "$$(rt doc)")/c/liblibc_c.a"
+	test "$$(crates/vkray_c/out/check < examples/hazard.json)" = "refused 10 V25 with 8"
 
 test:
 	rt ci
