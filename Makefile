@@ -8,13 +8,14 @@
 #   make conformance         runs all conformance cases through the library's one call
 #   make tools               tests the tools of tools/ with the linked program
 #   make c                   proves the check for programs in C, and builds and runs examples/c
+#   make pages               makes anew what pages say of sources, which the side checks compare
 #   make test                the whole gate: every proof from nothing, the wrong bodies, the tests, the cases, the
 #                            programs, and then the side checks, which compare pages with sources
 # WORDS are what `make try` asks the program for: run, or check.
 WORDS = run
 SOURCES = crates.txt HANDLES $(shell find crates -path '*/out' -prune -o \( -name '*.rt' -o -name '*.antt' \) -print)
 
-.PHONY: all demo try quick examples conformance tools c test
+.PHONY: all demo try quick examples conformance tools c pages test
 
 all: vkray
 
@@ -59,6 +60,11 @@ c:
 	$(CC) -std=c99 -O2 -Iinclude -o crates/vkray_c/out/check examples/c/check.c \
 	  crates/vkray_c/out/libvkray_c.a "$$(dirname "$$(rt doc)")/c/liblibc_c.a"
 	test "$$(crates/vkray_c/out/check < examples/hazard.json)" = "refused 10 V25 with 8"
+
+pages:
+	checks/stands_on.py --write
+	checks/rules.py --write
+	checks/index.py --write
 
 test:
 	rt ci

@@ -129,7 +129,7 @@ def main():
     if "--write" in sys.argv:
         PAGE.write_text(made)
     elif not PAGE.exists() or PAGE.read_text() != made:
-        print("docs/RULES.md isn't what the sources say: checks/rules.py --write")
+        print("docs/RULES.md isn't what the sources say: make pages")
         return 1
     return 0
 

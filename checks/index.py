@@ -1,0 +1,73 @@
+#!/usr/bin/env python3
+"""Makes docs/INDEX.md: the terms of docs/DEFINITIONS.md in the order of the alphabet, each with its crate, and its
+words with the file and the line where they are defined. Without --write it compares the page with that.
+"""
+import pathlib
+import re
+import sys
+
+TOP = pathlib.Path(__file__).resolve().parent.parent
+PAGE = TOP / "docs" / "INDEX.md"
+ROW = re.compile(r"\| (.*?) \| (.*) \| (.*?) \| (.*?) \|$")
+
+
+def rows():
+    """Returns the crates, the term, the plain words, the files and the source of each definition."""
+    crates = []
+    for line in (TOP / "docs" / "DEFINITIONS.md").read_text().splitlines():
+        if line.startswith("## "):
+            crates = re.findall(r"crates/(\w+)/specs", line)
+        row = ROW.match(line)
+        if row and crates and row[1] not in ("Definition", "---", "Step"):
+            yield crates, row[1], row[2], re.findall(r"`([\w/.]+)`", row[3]), row[4]
+
+
+def sources(crates, files):
+    """Returns the files of these names in specs/ of the crates, or below their folders."""
+    named = [pathlib.Path("crates", crate, *way) for crate in crates for file in files
+             for way in (("specs", f"{file}.antt"), (file,))]
+    return [it for it in named if (TOP / it).is_file()]
+
+
+def defined(word, files):
+    """Returns a link to the line that defines a word, if one of the files does."""
+    start = re.compile(rf"\s*(?:\w+ )*{re.escape(word)}(?![\w-])(?= *(?::|\(|$))")
+    for file in files:
+        for number, line in enumerate((TOP / file).read_text().splitlines(), 1):
+            if start.match(line) and re.match(r"\s*(abbrev|unfoldable|record|data|pub|struct|enum)\b", line):
+                return f"[`{word}`](../{file}#L{number})"
+    return None
+
+
+def page():
+    """Returns the text of the page."""
+    made = [
+        "# Index of definitions",
+        "",
+        "Made by `checks/index.py` from `docs/DEFINITIONS.md`, which says each in plain words, and from the files that define them.",
+        "",
+        "| Term | Crate | Words | Source |",
+        "|---|---|---|---|",
+    ]
+    found = []
+    for crates, term, plain, names, source in rows():
+        files = sources(crates, names)
+        words = [defined(word, files) for word in dict.fromkeys(re.findall(r"`([\w-]+)`", plain))]
+        links = [it for it in words if it] or [f"[{file.name}](../{file})" for file in files]
+        if links:
+            found.append(f"| {term} | {', '.join(crates)} | {', '.join(links)} | {source} |")
+    return "\n".join(made + sorted(found, key=str.casefold)) + "\n"
+
+
+def main():
+    made = page()
+    if "--write" in sys.argv:
+        PAGE.write_text(made)
+    elif not PAGE.exists() or PAGE.read_text() != made:
+        print("docs/INDEX.md isn't what the sources say: make pages")
+        return 1
+    return 0
+
+
+if __name__ == "__main__":
+    sys.exit(main())
