@@ -1,5 +1,5 @@
 ghost use Rattle.std.specs.Prelude.{◌≡◌, ◌≤◌, ◌^◌, [], length};
-ghost use Rattle.ray_climb.specs.Refits.{HasActivity};
+ghost use Rattle.ray_tree.specs.NodeBoxes.{HasActivity};
 
 use crate::field::Field;
 use crate::size::Size;

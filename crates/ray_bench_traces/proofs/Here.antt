@@ -3,8 +3,8 @@ use Rattle.std.specs.Prelude.{◌≡◌, List, [], ◌∷◌, All}
 use Rattle.std.proofs.Common.{sym, subst}
 use Rattle.std.proofs.lemmas.List.Elements.{All-cons, All-nil}
 use Rattle.ray_top.specs.declared.used.Used.{Used}
-use Rattle.ray_walk.specs.Candidates.{Structures}
-use Rattle.ray_walk.specs.Standing.{IsHere}
+use Rattle.ray_candidates.specs.Candidates.{Structures}
+use Rattle.ray_candidates.specs.Standing.{IsHere}
 
 pub three_here :
     (s : Structures) (a b c : Used) (used : List Used) → used ≡ a ∷ b ∷ c ∷ []

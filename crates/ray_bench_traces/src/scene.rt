@@ -6,12 +6,13 @@ ghost use Rattle.ray_top.specs.Contents.{has_both_fast};
 
 use ray_bottom::{Bottom, Bottoms};
 use ray_bytes::InstanceView;
+use ray_candidates::standing_law;
 use ray_flags::{BuildFlags, RayFlags};
 use ray_geom::{Ray, Steps};
 use ray_primitives::BuildFault;
 use ray_query::{Client, Commit};
 use ray_top::{Top, Used};
-use ray_walk::{NoMemory, Turns, standing_law, trace_plain, trace_ray};
+use ray_walk::{NoMemory, Turns, trace_plain, trace_ray};
 use std::alloc::Global;
 use std::marker::{Brand, Model};
 use std::thread::Threads;
@@ -26,7 +27,7 @@ pub(crate) struct Scene {
 impl Model for Scene {
     ghost use Rattle.ray_bottom.specs.Slots.{Slots};
     ghost use Rattle.ray_top.specs.Trees.{TopWithTree, without_tree};
-    ghost use Rattle.ray_walk.specs.Standing.{AreStanding, structures_in};
+    ghost use Rattle.ray_candidates.specs.Standing.{AreStanding, structures_in};
 
     ghost Value = { TopWithTree × Slots };
 

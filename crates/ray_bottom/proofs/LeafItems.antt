@@ -15,11 +15,12 @@ use Rattle.ray_primitives.specs.Primitives.{TriangleValue, IsTriangleOf, IsAabb,
 use Rattle.ray_geometries.specs.declared.geometry.Geometry.{Geometry}
 use Rattle.ray_geometries.specs.declared.shapes.Shapes.{Shapes}
 use Rattle.ray_geometries.specs.declared.shapes.Shapes.TheVariants.{Triangles, Boxes}
-use Rattle.ray_bottom.specs.declared.prim_place.PrimPlace.{PrimPlace}
+use Rattle.ray_leaves.specs.declared.prim_place.PrimPlace.{PrimPlace}
 use Rattle.ray_geometries.specs.Contents.{ContentsValue, IsContents, IsGeometry, ShapesAreWithin, bounds_of, boxes_of_shapes}
 use Rattle.ray_bottom.specs.Meeting.{KeepsBoxes, KeepsPoints, box_meet, hit_in_world, meet_of, shape_meet, triangle_meet}
 use Rattle.ray_bottom.specs.Trees.{places_by}
-use Rattle.ray_bottom.specs.LeafItems.{AreKept, IsItemOf, any_points, item_at, items_by, place_of_item, points_at, points_in, points_meet, points_of_box, points_of_tri}
+use Rattle.ray_leaves.specs.LeafItems.{IsItemOf, any_points, item_at, place_of_item, points_at, points_in, points_of_box, points_of_tri}
+use Rattle.ray_bottom.specs.Leaves.{AreKept, items_by, points_meet}
 use Rattle.ray_bottom.proofs.Held.{KeepsBoxes-geometry, KeepsPoints-triangle, KeepsTri-box}
 
 -- ---- the items of a leaf

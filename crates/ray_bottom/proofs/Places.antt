@@ -14,12 +14,13 @@ use Rattle.std.proofs.lemmas.Grind.{common_steps}
 use Rattle.std.proofs.lemmas.List.Sums.{sum_by-le-sum_by}
 use Rattle.std.proofs.lemmas.List.{take_more, append-nil, get_or-append_right, length-map, length-take}
 use Rattle.ray_geometries.specs.declared.geometry.Geometry.{Geometry}
-use Rattle.ray_bottom.specs.declared.prim_place.PrimPlace.{PrimPlace}
+use Rattle.ray_leaves.specs.declared.prim_place.PrimPlace.{PrimPlace}
 use Rattle.ray_primitives.specs.Primitives.{TriangleValue, box_of_triangle}
 use Rattle.ray_geometries.specs.declared.shapes.Shapes.{Shapes}
 use Rattle.ray_geometries.specs.declared.shapes.Shapes.TheVariants.{Triangles, Boxes}
 use Rattle.ray_geometries.specs.Contents.{count_of, count_of_shapes, total_of, boxes_of, boxes_of_shapes, active_boxes, active_of}
-use Rattle.ray_bottom.specs.Trees.{place_at, place_in_one, place_of, places_from, items_of, items_of_shapes}
+use Rattle.ray_leaves.specs.Places.{place_of}
+use Rattle.ray_bottom.specs.Trees.{place_at, place_in_one, places_from, items_of, items_of_shapes}
 
 -- the places of one geometry
 abbrev own : ℕ → Geometry → List PrimPlace

@@ -23,10 +23,13 @@ pub record BuilderValue : Type 0 where
   pub contents : ContentsValue
   pub replaced : Option ContentsValue
 
--- the same with the box tree of the structure that is updated
+-- the same with the box tree of the structure that is updated; and that of these
 pub record BuilderWithTree : Type 0 where
   pub contents : ContentsValue
   pub replaced : Option BottomWithTree
+
+abbrev pub builder_value : ContentsValue → Option BottomWithTree → BuilderWithTree
+builder_value contents replaced = record { contents = contents; replaced = replaced }
 
 abbrev pub bare : BuilderWithTree → BuilderValue
 bare b = record { contents = b.contents; replaced = option_map without_tree b.replaced }

@@ -2,11 +2,11 @@
 use Rattle.std.specs.Prelude.{◌≡◌, List, map}
 use Rattle.ray_tree.specs.Trees.{TreeOver}
 use Rattle.ray_wide.specs.Wides.{WideOver}
-use Rattle.ray_bottom.specs.declared.prim_place.PrimPlace.{PrimPlace}
-use Rattle.ray_bottom.specs.declared.leaf_list.LeafList.{LeafList}
+use Rattle.ray_leaves.specs.declared.prim_place.PrimPlace.{PrimPlace}
+use Rattle.ray_leaves.specs.declared.leaf_list.LeafList.{LeafList}
 use Rattle.ray_bottom.specs.Trees.{BottomWithTree, items_of, places_in_order}
-use Rattle.ray_bottom.specs.LeafItems.{item_at}
-use Rattle.ray_bottom.specs.Lists.{items_in}
+use Rattle.ray_leaves.specs.LeafItems.{item_at}
+use Rattle.ray_leaves.specs.Lists.{items_in}
 
 -- a tree over the items, a wide one over its leaves, and in its order the places and the primitives
 pub record IsIndexed (bottom : BottomWithTree) (places : List PrimPlace) (leaf_items : LeafList) : Type 0 where

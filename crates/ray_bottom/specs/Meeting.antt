@@ -13,7 +13,7 @@ use Rattle.ray_primitives.specs.Primitives.{TriangleValue}
 use Rattle.ray_geometries.specs.declared.geometry.Geometry.{Geometry}
 use Rattle.ray_geometries.specs.declared.shapes.Shapes.{Shapes}
 use Rattle.ray_geometries.specs.declared.shapes.Shapes.TheVariants.{Triangles, Boxes}
-use Rattle.ray_bottom.specs.declared.prim_place.PrimPlace.{PrimPlace}
+use Rattle.ray_leaves.specs.declared.prim_place.PrimPlace.{PrimPlace}
 use Rattle.ray_bottom.specs.declared.meet.Meet.{Meet}
 use Rattle.ray_bottom.specs.declared.meet.Meet.TheVariants.{Tri, Aabb}
 use Rattle.ray_bottom.specs.declared.raw_meet.RawMeet.{RawMeet}

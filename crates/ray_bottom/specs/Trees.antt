@@ -13,7 +13,8 @@ use Rattle.ray_primitives.specs.Primitives.{box_of_triangle}
 use Rattle.ray_geometries.specs.declared.geometry.Geometry.{Geometry}
 use Rattle.ray_geometries.specs.declared.shapes.Shapes.{Shapes}
 use Rattle.ray_geometries.specs.declared.shapes.Shapes.TheVariants.{Triangles, Boxes}
-use Rattle.ray_bottom.specs.declared.prim_place.PrimPlace.{PrimPlace}
+use Rattle.ray_leaves.specs.declared.prim_place.PrimPlace.{PrimPlace}
+use Rattle.ray_leaves.specs.Places.{place_of}
 use Rattle.ray_geometries.specs.Contents.{ContentsValue, count_of}
 
 -- a structure: the flags of its build and its geometries, which are its contents, and its box trees, a binary and a wide one
@@ -44,9 +45,6 @@ abbrev pub items_of : List Geometry → List (Option BoxValue)
 items_of geometries = flat_map (λ g. items_of_shapes g.shapes) geometries
 
 -- the place of each primitive of these geometries, of which the first has number `from`, in the same order
-abbrev pub place_of : ℕ → ℕ → PrimPlace
-place_of geometry primitive = record { geometry = geometry; primitive = primitive }
-
 abbrev pub places_from : ℕ → List Geometry → List PrimPlace
 places_from from [] = []
 places_from from (g ∷ gs) = map (place_of from) (range_with_len 0 (count_of g)) ++ places_from (from + 1) gs

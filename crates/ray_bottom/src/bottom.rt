@@ -4,21 +4,21 @@ ghost use Rattle.ray_bytes.specs.StructureSizes.{compacted_size};
 ghost use Rattle.ray_geometries.specs.Contents.{bounds_of, total_of, active_of, active_boxes};
 ghost use Rattle.ray_geometries.specs.Contents.{kind_of, count_of, IsContents};
 ghost use Rattle.ray_geometries.specs.Storing.{payload_of};
-ghost use Rattle.ray_bottom.specs.LeafItems.{IsItemOf, items_below, place_of_item};
-ghost use Rattle.ray_bottom.specs.Lists.{part_of};
+ghost use Rattle.ray_leaves.specs.LeafItems.{IsItemOf, place_of_item};
+ghost use Rattle.ray_bottom.specs.Leaves.{items_below};
+ghost use Rattle.ray_leaves.specs.Lists.{part_of};
 ghost use Rattle.ray_bottom.specs.Slots.{IsSound};
 ghost use Rattle.ray_bottom.specs.Trees.{without_tree, items_of, places_below};
 ghost use Rattle.ray_tree.specs.Trees.{TreeOver};
 ghost use Rattle.ray_wide.specs.Subtrees.{IsWideLeaf};
 ghost use Rattle.ray_wide.specs.Wides.{WideOver};
 
-use crate::leaf_list::{LeafList, LeafPart};
-use crate::prim_place::PrimPlace;
 use ray_bytes::compacted_of;
 use ray_flags::{BuildFlags, Kind};
 use ray_geom::{Box3, Steps};
 use ray_geometries::{Contents, Geometry};
 use ray_hierarchy::Hierarchy;
+use ray_leaves::{LeafList, LeafPart, PrimPlace};
 use ray_tree::{Node, Tree};
 use ray_wide::{Wide, WideLeaf};
 use std::alloc::{AllocError as NoMemory, Global};
@@ -115,22 +115,28 @@ impl Bottom {
     }
 
     /// The primitives of a leaf, by its node in the binary tree, with copies of their points that
-    /// stand beside each other; none for another node.
-    pub fn leaf_items(&self, leaf: u32) -> LeafPart<'_>
+    /// stand beside each other; none for another node. It takes one step for each of them.
+    pub fn leaf_items<L: Ledger>(&self, leaf: u32, steps: &mut Steps<L>) -> LeafPart<'_>
         requires { leaf < length self.now.tree.nodes }
         ensures places { map place_of_item (part_of result) ≡ places_below self.now leaf }
         ensures held { All (IsItemOf self.now.geometries) (part_of result) }
+        ensures cost { steps.new ≡ steps.old + length (part_of result) }
     {
-        self.items_below(leaf)
+        let items = self.items_below(leaf);
+        count_each(items.len(), steps);
+        items
     }
 
     /// The same, of a leaf as the wide tree names it: the binary tree isn't asked.
-    pub fn items_of_leaf(&self, leaf: WideLeaf) -> LeafPart<'_>
+    pub fn items_of_leaf<L: Ledger>(&self, leaf: WideLeaf, steps: &mut Steps<L>) -> LeafPart<'_>
         requires { IsWideLeaf self.now.tree.nodes leaf }
         ensures places { map place_of_item (part_of result) ≡ places_below self.now leaf.node }
         ensures held { All (IsItemOf self.now.geometries) (part_of result) }
+        ensures cost { steps.new ≡ steps.old + length (part_of result) }
     {
-        self.items_between(leaf)
+        let part = self.items_between(leaf);
+        count_each(part.len(), steps);
+        part
     }
 
     // The same, as it is kept.
@@ -257,5 +263,15 @@ impl Bottom {
         ensures { slice_get self.now.geometries geometry ≡ Some result.now }
     {
         self.contents.geometry(geometry).unwrap()
+    }
+}
+
+// Counts one step for each of so many primitives. Steps hold no bytes, so nothing is left of it
+// when it runs.
+fn count_each<L: Ledger>(many: usize, steps: &mut Steps<L>)
+    ensures { steps.new ≡ steps.old + many }
+{
+    for k in 0..many {
+        steps.tick();
     }
 }

@@ -1,4 +1,5 @@
-ghost use Rattle.std.specs.Prelude.{◌≡◌, ◌≤◌, ◌^◌, None, Some, [], IfOk, IsSome, option_copied, option_and_then, option_map, length, slice_get, false};
+ghost use Rattle.std.specs.Prelude.{◌≡◌, ◌≤◌, ◌^◌, None, Some, [], IfOk, IfSome, IsSome, option_copied, option_and_then, option_map};
+ghost use Rattle.std.specs.Prelude.{length, slice_get, false};
 ghost use Rattle.ray_flags.specs.declared.kind.Kind.TheVariants.{Triangle, Aabb};
 ghost use Rattle.ray_geometries.specs.Contents.{has_both_fast, HasRoom};
 ghost use Rattle.ray_bottom.specs.Builders.{bare, with_triangles, with_boxes, IsAdded};
@@ -7,16 +8,18 @@ ghost use Rattle.ray_bottom.specs.Builders.{triangles_in, boxes_in, IsRestored};
 ghost use Rattle.ray_geometries.specs.Storing.{stored_shapes};
 ghost use Rattle.ray_bottom.specs.Trees.{items_of, without_tree};
 ghost use Rattle.ray_hierarchy.specs.Hierarchies.{IsTreeOf};
+ghost use Rattle.ray_bottom.specs.Updating.{IsUpdateOf};
 ghost use Rattle.ray_tree.specs.Trees.{TreeOver, active_of};
+ghost use Rattle.ray_climb.specs.Refits.{IsRefit};
 
 use crate::bottom::Bottom;
 use crate::items::{items_of, places_of};
-use crate::leaf_items::leaf_items_of;
 use ray_bytes::{BoxView, IndexView, TransformView, VertexView};
 use ray_flags::BuildFlags;
 use ray_geom::Box3;
 use ray_geometries::{Contents, Geometry, Shapes, Stored};
 use ray_hierarchy::Hierarchy;
+use ray_leaves::leaf_items_of;
 use ray_primitives::{
     BoxInfo, BuildFault, KeptBox, KeptTriangle, TriangleInfo, read_boxes, read_triangles,
 };
@@ -35,14 +38,14 @@ pub struct Builder<'a> {
 
 impl<'a> Model for Builder<'a> {
     ghost use Rattle.std.specs.Prelude.{option_copied};
-    ghost use Rattle.ray_bottom.specs.Builders.{BuilderWithTree};
+    ghost use Rattle.ray_bottom.specs.Builders.{BuilderWithTree, builder_value};
+    ghost use Rattle.ray_bottom.specs.Updating.{IsUnderWay};
 
     ghost Value = { BuilderWithTree };
 
-    ghost view = { λ b. record {
-      contents = b.contents;
-      replaced = option_copied b.replaced;
-    } };
+    ghost view = { λ b. builder_value b.contents (option_copied b.replaced) };
+
+    ghost invariant = { λ b. IsUnderWay (builder_value b.contents (option_copied b.replaced)) };
 }
 
 impl<'a> Builder<'a> {
@@ -73,6 +76,7 @@ impl<'a> Builder<'a> {
         } }
     {
         let _limits = replaced.geometries();
+        let _tree = replaced.tree();
         Builder {
             alloc,
             contents: Contents::new(alloc, replaced.flags()),
@@ -160,13 +164,18 @@ impl<'a> Builder<'a> {
     /// The structure with the contents. Its tree is that of its build (`IsBuilt`): by keys where
     /// the flags prefer fast builds, else by halves. An update refits the old tree to the boxes of
     /// the primitives that are read (`IsUpdated`): it has the same nodes and the same order, and as
-    /// each node's box the least box of the primitives below it; where other primitives are active
-    /// than in the old structure its tree is built anew. `rt` lends the threads for it.
+    /// each node's box the least box of the primitives below it. So it is where the geometries are
+    /// as many as the old ones, each of the old kind and with as many primitives (`IsUpdateOf`);
+    /// where other primitives are active than in the old structure the tree is built anew. `rt`
+    /// lends the threads for it.
     pub fn finish<R: Threads + Sync>(self, rt: &R) -> Result<Bottom, NoMemory>
         ensures contents { IfOk result (λ b. without_tree b ≡ self.entry.contents) }
         ensures tree { let c = self.entry.contents in
             let old = option_map (λ b. b.tree) self.entry.replaced in
             IfOk result (λ b. IsTreeOf old c.flags (items_of c.geometries) b.tree) }
+        ensures refit { let gs = self.entry.contents.geometries in
+            IfOk result (λ b. IfSome self.entry.replaced (λ old.
+            IsUpdateOf old.geometries gs → IsRefit old.tree (items_of gs) b.tree)) }
     {
         let geometries = self.contents.as_slice();
         let total = self.contents.total();

@@ -3,11 +3,12 @@ ghost use Rattle.std.specs.Prelude.{◌≡◌, ◌++◌, ◌≤◌, ◌^◌, OnO
 ghost use Rattle.std.specs.List.{range_with_len};
 ghost use Rattle.ray_primitives.specs.Primitives.{box_of_triangle};
 ghost use Rattle.ray_geometries.specs.Contents.{total_of};
-ghost use Rattle.ray_bottom.specs.Trees.{items_of, items_of_shapes, place_at, place_in_one, place_of, places_from};
+ghost use Rattle.ray_leaves.specs.Places.{place_of};
+ghost use Rattle.ray_bottom.specs.Trees.{items_of, items_of_shapes, place_at, place_in_one, places_from};
 
-use crate::prim_place::PrimPlace;
 use ray_geom::Box3;
 use ray_geometries::{Geometry, Shapes};
+use ray_leaves::PrimPlace;
 use ray_primitives::{KeptBox, KeptTriangle};
 use std::alloc::{AllocError as NoMemory, Global};
 

@@ -9,32 +9,24 @@
 //! - [`Bottoms`], the structures by their ids, with room that is made first.
 //!
 //! It stands on `ray_geometries` (the contents, and how they are stored), `ray_primitives` (how
-//! geometry is read and kept), `ray_contents`, `ray_geom`, `ray_prune` (spans), `ray_hierarchy`
-//! (box trees), `ray_bytes` and `ray_flags`.
+//! geometry is read and kept), `ray_leaves` (the primitives at leaves), `ray_contents`, `ray_geom`,
+//! `ray_prune` (spans), `ray_hierarchy` (box trees), `ray_bytes` and `ray_flags`.
 #![tactic(auto)]
 
 mod bottom;
 mod bottoms;
 mod builder;
 mod items;
-mod leaf_item;
-mod leaf_items;
-mod leaf_list;
 mod meet;
-mod prim_place;
 mod raw_meet;
 mod testing;
-mod triangle_item;
 
 pub use crate::bottom::Bottom;
 pub use crate::bottoms::Bottoms;
 pub use crate::builder::Builder;
-pub use crate::leaf_item::{ItemPoints, LeafItem};
-pub use crate::leaf_list::LeafPart;
 pub use crate::meet::Meet;
-pub use crate::prim_place::PrimPlace;
 pub use crate::raw_meet::RawMeet;
-pub use crate::triangle_item::TriangleItem;
 pub use ray_geometries::{Stored, stored_again, stored_back};
+pub use ray_leaves::{ItemPoints, LeafItem, LeafPart, PrimPlace, TriangleItem};
 pub use ray_primitives::{BoxInfo, BuildFault, TriangleInfo};
 pub use std::alloc::AllocError as NoMemory;

@@ -10,19 +10,19 @@ ghost use Rattle.ray_primitives.specs.Primitives.{box_of_triangle};
 ghost use Rattle.ray_geometries.specs.Contents.{bounds_of, boxes_of};
 ghost use Rattle.ray_bottom.specs.Meeting.{Hit, Through, meet_value, raw_meet_value, meet_of, shape_meet};
 ghost use Rattle.ray_bottom.specs.Meeting.{triangle_meet, box_meet, hit_in_world, span_in_object};
-ghost use Rattle.ray_bottom.specs.LeafItems.{AreKept, IsItemOf, points_meet};
+ghost use Rattle.ray_leaves.specs.LeafItems.{IsItemOf};
+ghost use Rattle.ray_bottom.specs.Leaves.{AreKept, points_meet};
 ghost use Rattle.ray_bottom.specs.Meeting.{KeepsPoints, KeepsBoxes, KeepsTri};
 
 use crate::bottom::Bottom;
-use crate::leaf_item::{ItemPoints, LeafItem};
 use crate::meet::Meet;
-use crate::prim_place::PrimPlace;
 use crate::raw_meet::RawMeet;
 use ray_contents::kept_image;
 use ray_geom::{
     Box3, Matrix, ObjectRay, Point32, Ray, Steps, Tri, Unreduced, meet_tri, object_ray,
 };
 use ray_geometries::{Geometry, Shapes};
+use ray_leaves::{ItemPoints, LeafItem, PrimPlace};
 use ray_primitives::{KeptBox, KeptTriangle};
 use ray_prune::reach_box;
 use std::sync::ledger::Ledger;
@@ -52,22 +52,15 @@ impl Bottom {
     }
 
     /// The same of a primitive at a leaf of this structure, by the copy of its points, with
-    /// fractions that aren't put in lowest terms yet. (Own.)
-    pub fn test_item<L: Ledger>(
-        &self,
-        item: &LeafItem,
-        ray: &Ray,
-        m: &Matrix,
-        steps: &mut Steps<L>,
-    ) -> Option<RawMeet>
+    /// fractions that aren't put in lowest terms yet. The step was taken where the leaf's
+    /// primitives were read, by [`Bottom::leaf_items`] or [`Bottom::items_of_leaf`]. (Own.)
+    pub fn test_item(&self, item: &LeafItem, ray: &Ray, m: &Matrix) -> Option<RawMeet>
         requires kept { KeepsBounds m.now (bounds_of self.now.geometries) }
         requires held { IsItemOf self.now.geometries item.now }
-        ensures meet { option_map raw_meet_value result
+        ensures { option_map raw_meet_value result
             ≡ meet_of self.now.geometries item.now.place ray.now m.now }
-        ensures step { steps.new ≡ steps.old + 1 }
     {
         let _limits = self.geometries();
-        steps.tick();
         test_points(item.points, ray, m)
     }
 }

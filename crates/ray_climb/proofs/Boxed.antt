@@ -14,13 +14,14 @@ use native.Mathlib.Decide.{ℕ_discrete}
 use lib.ListN.{get_elem?}
 use Rattle.ray_tree.specs.declared.node.Node.{Node}
 use Rattle.ray_tree.specs.Shapes.{node_at}
-use Rattle.ray_climb.specs.Refits.{RefitValue, AreBoxes, kid, is_kid, parent_of, is_right, box_over, IsRefit}
+use Rattle.ray_climb.specs.Refits.{RefitValue, kid, is_kid, parent_of, is_right, box_over, IsRefit}
+use Rattle.ray_tree.specs.NodeBoxes.{AreBoxes}
 use Rattle.ray_climb.specs.Halves.{low_half, high_half, corner_of}
 use Rattle.ray_climb.specs.Ready.{AreBoxesBelow, AreParentsBelow, AreParents, IsUp, IsReady, AreExact, AreTrue, HasKidsBelow, marked}
 use Rattle.ray_climb.specs.declared.refit.Up.{Up}
 use Rattle.ray_climb.proofs.OneParent.{below, above, parent_is}
 use Rattle.ray_climb.proofs.Packing.{corner_again}
-use Rattle.ray_climb.proofs.LeastOver.{is_box, least_at}
+use Rattle.ray_tree.proofs.LeastOver.{is_box, least_at}
 
 pub boxes_more : (items : List (Option BoxValue)) (i : ℕ) → AreBoxesBelow items i → ((b : BoxValue) → item_box items i ≡ Some b → IsBox b) → AreBoxesBelow items (i + 1)
 boxes_more items i below here = record {
@@ -126,7 +127,7 @@ pub boxed_again : (r : RefitValue) → AreBoxes r.items → (words : List ℕ) �
 boxed_again r are words exact n low high small at_low at_high =
     let l : low ≡ low_half (box_over r n) = sym (at_word words (3 * n + 1) low at_low) ∙ exact.low n small in
     let h : high ≡ high_half (box_over r n) = sym (at_word words (3 * n + 2) high at_high) ∙ exact.high n small in
-    let b = is_box r are n in
+    let b = is_box r.tree r.items are n in
     λ i. box_value
     ((ap corner_of l ∙ corner_again (box_over r n).lo b.lo_short) i)
     ((ap corner_of h ∙ corner_again (box_over r n).hi b.hi_short) i)
@@ -143,7 +144,7 @@ refitted r ready boxes are = record {
     items_once = ready.shape.items_once;
   };
   active_once = ready.activity.active_once;
-  least = λ n d small. subst (λ b. IsLeast (HoldsBoxes (boxes_below r.items r.tree.order (shape_at r.tree n))) b) (sym (are.each n d small)) (least_at r ready.shape ready.activity n small);
+  least = λ n d small. subst (λ b. IsLeast (HoldsBoxes (boxes_below r.items r.tree.order (shape_at r.tree n))) b) (sym (are.each n d small)) (least_at r.tree r.items ready.shape ready.activity n small);
 }
 
 pub refit_by : (r : RefitValue) (boxes : List BoxValue) (nodes : List Node) (order : List ℕ) (new : TreeValue) → nodes ≡ r.tree.nodes → order ≡ r.tree.order

@@ -7,13 +7,14 @@ use Rattle.ray_tree.specs.Trees.{IsShape, shape_at}
 use Rattle.ray_tree.proofs.NodeLaws.{at_inner}
 use Rattle.ray_tree.proofs.Under.{shape_suc, shape_zero}
 use Rattle.ray_climb.specs.Halves.{low_half, high_half, lesser_half, greater_half}
-use Rattle.ray_climb.specs.Refits.{RefitValue, HasActivity, AreBoxes, is_inner, kid, parent_of, is_right, box_over, frame_of}
+use Rattle.ray_climb.specs.Refits.{RefitValue, is_inner, kid, parent_of, is_right, box_over, frame_of}
+use Rattle.ray_tree.specs.NodeBoxes.{HasActivity, AreBoxes}
 use Rattle.ray_climb.specs.Ready.{IsTable}
 use Rattle.ray_climb.proofs.Trees.{IsFrame}
 use Rattle.ray_climb.proofs.Packing.{lesser_packed, greater_packed}
 use Rattle.ray_climb.proofs.OneParent.{below, above}
 use Rattle.ray_climb.proofs.Leaves.{node_small, node_leaf, leaf_only, leaf_named}
-use Rattle.ray_climb.proofs.LeastOver.{is_box, over_union}
+use Rattle.ray_tree.proofs.LeastOver.{is_box, over_union}
 
 -- no way down has more levels than are looked at
 levels_grown : (nodes : List Node) (k n : ℕ) (node : Node) → ((m : ℕ) → levels (shape_in k nodes m) ≤ k) → levels (grow (shape_in k nodes) n node) ≤ suc k
@@ -51,15 +52,15 @@ module _ (r : RefitValue) (shape : IsShape r.tree) where
         → low_half (box_over r p) ≡ lesser_half (low_half (box_over r (kid node false))) (low_half (box_over r (kid node true)))
     low_case p (Leaf first count) is small inner = absurd (true≢false (sym inner))
     low_case p (Inner a b) is small inner =
-        ap low_half (over_union r shape activity p a b small is)
-        ∙ lesser_packed (box_over r a).lo (box_over r b).lo (is_box r are a).lo_short (is_box r are b).lo_short
+        ap low_half (over_union r.tree r.items shape activity p a b small is)
+        ∙ lesser_packed (box_over r a).lo (box_over r b).lo (is_box r.tree r.items are a).lo_short (is_box r.tree r.items are b).lo_short
 
     high_case : (p : ℕ) (node : Node) → node_at r.tree.nodes p ≡ node → p < length r.tree.nodes → is_inner node ≡ true
         → high_half (box_over r p) ≡ greater_half (high_half (box_over r (kid node false))) (high_half (box_over r (kid node true)))
     high_case p (Leaf first count) is small inner = absurd (true≢false (sym inner))
     high_case p (Inner a b) is small inner =
-        ap high_half (over_union r shape activity p a b small is)
-        ∙ greater_packed (box_over r a).hi (box_over r b).hi (is_box r are a).hi_short (is_box r are b).hi_short
+        ap high_half (over_union r.tree r.items shape activity p a b small is)
+        ∙ greater_packed (box_over r a).hi (box_over r b).hi (is_box r.tree r.items are a).hi_short (is_box r.tree r.items are b).hi_short
 
     pub is_frame : IsFrame (frame_of r)
     is_frame = record {

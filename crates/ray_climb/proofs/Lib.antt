@@ -12,7 +12,6 @@ mod Allowed
 mod Packing
 mod OneParent
 mod Leaves
-pub mod LeastOver
 mod Framed
 mod Opening
 mod Boxed

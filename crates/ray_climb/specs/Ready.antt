@@ -8,7 +8,8 @@ use Rattle.ray_tree.specs.Shapes.{node_at}
 use Rattle.ray_tree.specs.Trees.{TreeValue, IsShape, item_box}
 use Rattle.ray_climb.specs.declared.refit.Up.{Up}
 use Rattle.ray_climb.specs.Halves.{low_half, high_half}
-use Rattle.ray_climb.specs.Refits.{RefitValue, HasActivity, AreBoxes, kid, parent_of, is_right, box_over}
+use Rattle.ray_climb.specs.Refits.{RefitValue, kid, parent_of, is_right, box_over}
+use Rattle.ray_tree.specs.NodeBoxes.{HasActivity, AreBoxes}
 use Rattle.ray_climb.specs.Rule.{words_of, lows_in, highs_in}
 
 -- a tree can be refitted to its new items

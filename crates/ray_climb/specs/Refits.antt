@@ -1,14 +1,12 @@
 -- Trees that are refitted to new items: what is asked of the items, what refitting gives, and the
 -- frame that the climb rule reads of both. (Own.)
-use Rattle.std.specs.Prelude.{◌≡◌, ℕ, zero, suc, ◌==◌, ◌||◌, pos, Bool, true, false, if◌then◌else◌, Option, Some, unwrap_or, List, length, slice_index}
-use Rattle.ray_geom.specs.Vector.{vec3}
-use Rattle.ray_geom.specs.Boxes.{BoxValue, IsBox, box_value}
-use Rattle.ray_geom.specs.LeastBoxes.{box_of_boxes}
+use Rattle.std.specs.Prelude.{◌≡◌, ℕ, zero, suc, ◌==◌, ◌||◌, Bool, true, false, if◌then◌else◌, Option, List, length, slice_index}
+use Rattle.ray_geom.specs.Boxes.{BoxValue}
 use Rattle.ray_tree.specs.declared.node.Node.{Node}
 use Rattle.ray_tree.specs.declared.node.Node.TheVariants.{Leaf, Inner}
 use Rattle.ray_tree.specs.Shapes.{node_at}
-use Rattle.ray_tree.specs.Trees.{TreeValue, TreeOver, shape_at, leaves_of, item_box, active, boxes_below}
-use Rattle.ray_tree.specs.Trees.{times as places_of}
+use Rattle.ray_tree.specs.NodeBoxes.{least_box}
+use Rattle.ray_tree.specs.Trees.{TreeValue, TreeOver, leaves_of}
 use Rattle.ray_climb.specs.Frames.{Frame}
 use Rattle.ray_climb.specs.Halves.{low_half, high_half}
 
@@ -20,20 +18,12 @@ pub record RefitValue : Type 0 where
 abbrev pub refit_value : TreeValue → List (Option BoxValue) → RefitValue
 refit_value tree items = record { tree = tree; items = items }
 
--- the items have the activity of a tree's: each active one has one place, and no other number any
-pub record HasActivity (tree : TreeValue) (items : List (Option BoxValue)) : Type 0 where
-  pub active_once : (p : ℕ) → places_of p tree.order ≡ active items p
-
 -- a tree is what refitting an old one to new items gives: it has the shape of the old one, and the
 -- box of each node is the least box of the new items from it down
 pub record IsRefit (old : TreeValue) (items : List (Option BoxValue)) (new : TreeValue) : Type 0 where
   pub nodes : new.nodes ≡ old.nodes
   pub order : new.order ≡ old.order
   pub over : TreeOver new items
-
--- the box of each active item is within the limits
-pub record AreBoxes (items : List (Option BoxValue)) : Type 0 where
-  pub each : (p : ℕ) (b : BoxValue) → item_box items p ≡ Some b → IsBox b
 
 -- whether a node has children
 abbrev pub is_inner : Node → Bool
@@ -64,13 +54,9 @@ parent_of nodes n = parent_below (length nodes) nodes n
 abbrev pub is_right : List Node → ℕ → Bool
 is_right nodes n = kid (node_at nodes (parent_of nodes n)) true == n
 
--- a box for where there is none
-abbrev pub no_box : BoxValue
-no_box = box_value (vec3 (pos 0) (pos 0) (pos 0)) (vec3 (pos 0) (pos 0) (pos 0))
-
 -- the least box of the new items from a node down
-unfoldable pub box_over : RefitValue → ℕ → BoxValue
-box_over r n = unwrap_or (box_of_boxes (boxes_below r.items r.tree.order (shape_at r.tree n))) no_box
+abbrev pub box_over : RefitValue → ℕ → BoxValue
+box_over r n = least_box r.items r.tree n
 
 -- what the climb rule reads of a tree and its new items
 abbrev pub frame_of : RefitValue → Frame

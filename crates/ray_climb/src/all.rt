@@ -1,6 +1,7 @@
 ghost use Rattle.std.specs.Prelude.{◌-◌, ◌≤◌, ◌^◌, length, IfOk};
 ghost use Rattle.std.specs.Thread.{IsSync};
-ghost use Rattle.ray_climb.specs.Refits.{HasActivity, IsRefit};
+ghost use Rattle.ray_tree.specs.NodeBoxes.{HasActivity};
+ghost use Rattle.ray_climb.specs.Refits.{IsRefit};
 ghost use Rattle.ray_climb.specs.Seats.{HasTodo, HasDone};
 
 use crate::climb::Climb;

@@ -2,14 +2,15 @@ ghost use Rattle.std.specs.Prelude.{◌≡◌, ◌-◌, ◌<◌, ◌≤◌, ◌^
 ghost use Rattle.std.specs.Prelude.{length, replicate, IfOk, IfErr, IsOk};
 ghost use Rattle.std.specs.List.{range_with_len};
 ghost use Rattle.ray_tree.specs.Trees.{leaves_of};
-ghost use Rattle.ray_climb.specs.Refits.{HasActivity, IsRefit, refit_value};
+ghost use Rattle.ray_tree.specs.NodeBoxes.{HasActivity};
+ghost use Rattle.ray_climb.specs.Refits.{IsRefit, refit_value};
 ghost use Rattle.ray_climb.specs.Rule.{times, words_of};
 ghost use Rattle.ray_climb.specs.Seats.{HasEachLeaf, seat_view, keeping, leaving};
 ghost use Rattle.ray_climb.specs.Steps.{without};
 
 use crate::ascent::climb;
 use crate::boxes::boxes_of;
-use crate::least::check_boxes;
+use crate::limits::check_boxes;
 use crate::parents::parents_of;
 use crate::refit::Refit;
 use crate::rule::{Both, ClimbRule, Cut, Keep, View};

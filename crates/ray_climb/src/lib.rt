@@ -22,7 +22,7 @@ mod ascent;
 mod boxes;
 mod climb;
 mod half;
-mod least;
+mod limits;
 mod parents;
 mod rebuilt;
 mod refit;

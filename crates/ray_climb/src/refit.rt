@@ -7,9 +7,8 @@ ghost use Rattle.ray_climb.specs.Refits.{kid, box_over};
 ghost use Rattle.ray_climb.specs.Ready.{IsReady, IsUp};
 
 use crate::half::half;
-use crate::least::least_in;
 use ray_geom::{Box3, Vec3};
-use ray_tree::{Node, Tree};
+use ray_tree::{Node, Tree, least_in};
 use std::marker::Model;
 
 // A tree, its new items, and the parents of its nodes. Contracts see the tree and the items.
@@ -80,7 +79,14 @@ impl Refit {
     {
         self.ready();
         match self.tree.node(n) {
-            Node::Leaf { first, count } => least_in(&self.tree, &self.items, first, count),
+            Node::Leaf { first, count } => {
+                least_in(
+                    &self.items,
+                    self.tree.order(),
+                    first as usize,
+                    count as usize,
+                )
+            }
             Node::Inner { left: _, right: _ } => Box3::of_point(Vec3 { x: 0, y: 0, z: 0 }),
         }
     }

@@ -18,6 +18,7 @@ use Rattle.ray_geometries.specs.declared.shapes.Shapes.{Shapes}
 use Rattle.ray_geometries.specs.declared.shapes.Shapes.TheVariants.{Triangles, Boxes}
 use Rattle.ray_geometries.specs.Contents.{IsGeometry, ShapesAreWithin, is_index_size, kind_of_shapes, count_of_shapes}
 use Rattle.ray_geometries.specs.Storing.{triangles_of, boxes_of_elements, stored_shapes, element_bytes, format_of, index_size_of, AreStored, IsStoredBack}
+use Rattle.ray_primitives.proofs.Chosen.{if_some}
 
 -- ---- read back
 
@@ -63,17 +64,13 @@ first_of : (a b : Bool) → (a && b) ≡ true → a ≡ true
 first_of true b e = refl
 first_of false b e = absurd cc
 
-if_some : {X : Type 0} (b : Bool) (o : Option X) (x : X) → (if b then o else None) ≡ Some x → (b ≡ true) × (o ≡ Some x)
-if_some true o x e = (refl, e)
-if_some false o x e = absurd cc
-
 -- what a map gives it gives of a value
-record IsMapped {X Y : Type 0} (f : X → Y) (o : Option X) (y : Y) : Type 0 where
-  value : X
-  is_some : o ≡ Some value
-  same : f value ≡ y
+pub record IsMapped {X Y : Type 0} (f : X → Y) (o : Option X) (y : Y) : Type 0 where
+  pub value : X
+  pub is_some : o ≡ Some value
+  pub same : f value ≡ y
 
-mapped : {X Y : Type 0} (f : X → Y) (o : Option X) (y : Y) → option_map f o ≡ Some y → IsMapped f o y
+pub mapped : {X Y : Type 0} (f : X → Y) (o : Option X) (y : Y) → option_map f o ≡ Some y → IsMapped f o y
 mapped f None y e = absurd cc
 mapped f (Some x) y e = let same : f x ≡ y = cc in record { value = x; is_some = refl; same = same }
 

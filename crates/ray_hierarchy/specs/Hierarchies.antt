@@ -6,10 +6,12 @@ use Rattle.ray_flags.specs.declared.build_flags.BuildFlags.{BuildFlags}
 use Rattle.ray_flags.specs.Flags.{build_has, PreferFastBuild}
 use Rattle.ray_tree.specs.Shapes.{levels, AreHalves}
 use Rattle.ray_tree.specs.Trees.{TreeValue, TreeOver, shape_at}
-use Rattle.ray_morton.specs.KeyOrder.{IsInKeyOrder, items_below}
+use Rattle.ray_morton.specs.KeyOrder.{IsInKeyOrder}
+use Rattle.ray_tree.specs.Trees.{items_below}
 use Rattle.ray_morton.specs.Cuts.{AreCut}
 use Rattle.ray_wide.specs.Wides.{WideValue, WideOver}
-use Rattle.ray_climb.specs.Refits.{HasActivity, IsRefit}
+use Rattle.ray_tree.specs.NodeBoxes.{HasActivity}
+use Rattle.ray_climb.specs.Refits.{IsRefit}
 
 -- the trees of a structure: a binary tree over its items, and a wide tree over the leaves of that
 pub record HierarchyValue : Type 0 where

@@ -1,10 +1,11 @@
-ghost use Rattle.std.specs.Prelude.{◌≡◌, ◌≤◌, ◌^◌, ◌↔◌, IfOk, IsTrue, length};
+ghost use Rattle.std.specs.Prelude.{◌≡◌, ◌≤◌, ◌^◌, IfOk, length};
 ghost use Rattle.ray_tree.specs.Trees.{active_of};
 ghost use Rattle.ray_wide.specs.Wides.{IsSameButLanes, WideOver};
-ghost use Rattle.ray_climb.specs.Refits.{HasActivity, IsRefit};
+ghost use Rattle.ray_tree.specs.NodeBoxes.{HasActivity};
+ghost use Rattle.ray_climb.specs.Refits.{IsRefit};
 ghost use Rattle.ray_hierarchy.specs.Hierarchies.{IsBuilt, IsUpdated, hierarchy_value};
 
-use crate::activity::{count_active, has_activity};
+use crate::activity::has_activity;
 use bitflags::Flags;
 use ray_climb::climb_all;
 use ray_flags::BuildFlags;
@@ -84,15 +85,11 @@ impl Hierarchy {
         }
     }
 
-    /// These trees refit to other items, which are at most 2^20 and have the activity of this
-    /// tree's: the same nodes and the same order, and as each node's box the least box of the items
-    /// below it. From 1,024 items on four seats do it, on threads that `rt` lends. The wide tree is
-    /// this one's but for its lanes.
-    ///
-    /// # Errors
-    ///
-    /// For want of memory alone.
-    pub fn refitted<R: Threads + Sync>(
+    // These trees refit to other items, which are at most 2^20 and have the activity of this
+    // tree's: the same nodes and the same order, and as each node's box the least box of the items
+    // below it. From 1,024 items on four seats do it, on threads that `rt` lends. The wide tree is
+    // this one's but for its lanes.
+    fn refitted<R: Threads + Sync>(
         &self,
         rt: &R,
         alloc: Global,
@@ -107,13 +104,6 @@ impl Hierarchy {
         let mut wide = self.wide.copy()?;
         wide.refit(&tree);
         Ok(Hierarchy { tree, wide })
-    }
-
-    /// Whether items have the activity of this tree's, so that it can be refit to them.
-    pub fn has_activity(&self, items: &[Option<Box3>]) -> bool
-        ensures { IsTrue result ↔ HasActivity self.now.tree items.now }
-    {
-        has_activity(&self.tree, items, count_active(items))
     }
 
     /// The same trees once more.

@@ -1,7 +1,7 @@
 //! The box trees of a structure: a binary tree over the boxes of its items, and the wide tree over
 //! its leaves by which rays walk.
 //!
-//! [`Hierarchy`] is the one type. Contracts see it as its binary tree. The layers above use these:
+//! [`Hierarchy`] is the one type. Contracts see it as both trees. The layers above use these:
 //! - [`Hierarchy::build`], which says by `IsBuilt` of `specs/Hierarchies` what the flags of a build
 //!   come to: a tree by keys where fast builds are preferred, else a tree by halves;
 //! - [`Hierarchy::updated`], which says by `IsUpdated` what an update comes to: the old tree refit,

@@ -9,24 +9,21 @@ use Rattle.ray_geom.specs.Vector.{vec3}
 use Rattle.ray_geom.specs.Boxes.{BoxValue, box_value}
 use Rattle.ray_tree.specs.declared.node.Node.{Node}
 use Rattle.ray_tree.specs.Shapes.{Gone, shape_in, inside, visits, holds, AreFew, levels}
-use Rattle.ray_tree.specs.Trees.{tree_value, times, active, TreeOver}
+use Rattle.ray_tree.specs.Trees.{tree_value, times, active, TreeOver, no_box}
 use Rattle.ray_tree.specs.Local.{AreFit, AreLocal}
 use Rattle.ray_tree.specs.Plans.{Plan, Few, Both, size, places_of, label}
 use Rattle.ray_tree.proofs.Under.{shape_zero}
-use Rattle.ray_tree.proofs.Spelled.{shape_of_spell, shape_of_plan}
+use Rattle.ray_tree.proofs.Spelled.{shape_of_spell, shape_of_plan, levels-label}
 use Rattle.ray_tree.proofs.Filled.{spell-rises, none-rises}
 use Rattle.ray_tree.proofs.Locals.{are_fit, tree_over}
 use Rattle.ray_tree.proofs.Counting.{has_items, at_most_active}
-use Rattle.ray_morton.specs.KeyOrder.{key_at, IsInKeyOrder, items_below}
+use Rattle.ray_morton.specs.KeyOrder.{key_at, IsInKeyOrder}
+use Rattle.ray_tree.specs.Trees.{items_below}
 use Rattle.ray_morton.specs.Cuts.{IsCut, AreCut, keys_of}
 use Rattle.ray_morton.specs.Entries.{IsInOrder, key_part, item_part, key_parts, item_parts}
-use Rattle.ray_morton.specs.Planted.{height_of, Cuts, IsPlanted, IsTreeOf, IsLaid}
+use Rattle.ray_tree.specs.Plans.{height_of}
+use Rattle.ray_morton.specs.Planted.{Cuts, IsPlanted, IsTreeOf, IsLaid}
 use Rattle.ray_morton.proofs.Numbers.{keys_are, in_key_order}
-
-levels-label : (at first : ℕ) (p : Plan) → levels (label at first p) ≡ height_of p
-levels-label at first (Few count) = refl
-levels-label at first (Both l r) =
-    omega (arith, levels-label (at + 1) first l, levels-label ((at + 1) + size l) (first + places_of l) r)
 
 -- its leaves have the places one after the other
 items-label : (order : List ℕ) (at first : ℕ) (p : Plan) → items_below order (label at first p) ≡ take (places_of p) (drop first order)
@@ -129,10 +126,6 @@ pub made : (items : List (Option BoxValue)) (entries keys order : List ℕ) (nod
 made items entries keys order nodes sorted is_keys is_order tree =
     let same : keys ≡ keys_of items order = is_keys ∙ keys_are items entries sorted.has.keyed ∙ ap (keys_of items) (sym is_order) in
     made_by items order nodes (length order) refl (in_key_order items entries order sorted is_order) (subst (λ ks. IsTreeOf ks nodes) same tree)
-
--- any box
-no_box : BoxValue
-no_box = box_value (vec3 (pos 0) (pos 0) (pos 0)) (vec3 (pos 0) (pos 0) (pos 0))
 
 -- what the nodes name is there
 pub made-fit : (items : List (Option BoxValue)) (order : List ℕ) (nodes : List Node) → IsLaid items order nodes → AreFit (length order) nodes

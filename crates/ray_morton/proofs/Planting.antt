@@ -7,6 +7,7 @@ use Rattle.ray_tree.proofs.Spelled.{length-spell}
 use Rattle.ray_morton.specs.declared.cutting.Cut.{Cut}
 use Rattle.ray_morton.specs.Cuts.{IsCut}
 use Rattle.ray_morton.specs.Planted.{Cuts, IsPlanted, IsCutAt}
+use Rattle.ray_tree.proofs.Planting.{planted_both}
 
 pub leaf_planted : (keys : List ℕ) (first levels : ℕ) (n0 n1 : List Node) → 0 < length keys → length keys ≤ 4 → n1 ≡ n0 ++ (Leaf first (length keys) ∷ [])
     → IsPlanted keys first (levels + 1) n0 n1
@@ -25,27 +26,6 @@ pub planted_room : (keys : List ℕ) (first levels : ℕ) (old new : List Node) 
 planted_room keys first levels old new planted =
     let p = planted.plan in
     omega (arith, ap length planted.spelled, length-append old (spell (length old) first p), length-spell (length old) first p, planted.sized)
-
-set_middle : (before : List Node) (x y : Node) (after : List Node) → set (before ++ (x ∷ after)) (length before) y ≡ before ++ (y ∷ after)
-set_middle [] x y after = refl
-set_middle (b ∷ before) x y after = ap (λ l. b ∷ l) (set_middle before x y after)
-
-regrouped : (n0 : List Node) (x : Node) (ls rs : List Node) → ((n0 ++ (x ∷ [])) ++ ls) ++ rs ≡ n0 ++ (x ∷ (ls ++ rs))
-regrouped n0 x ls rs = simp append_assoc
-
-spelled_both : (n0 n1 n2 n3 : List Node) (x : Node) (first half : ℕ) (l r : Plan)
-    → n1 ≡ n0 ++ (x ∷ []) → n2 ≡ n1 ++ spell (length n1) first l → n3 ≡ n2 ++ spell (length n2) (first + half) r → places_of l ≡ half
-    → set n3 (length n0) (Inner (length n0 + 1) (length n2)) ≡ n0 ++ spell (length n0) first (Both l r)
-spelled_both n0 n1 n2 n3 x first half l r a b c full =
-    let one : length n1 ≡ length n0 + 1 = ap length a ∙ length-append n0 (x ∷ []) in
-    let two : length n2 ≡ (length n0 + 1) + size l = omega (arith, ap length b, length-append n1 (spell (length n1) first l), length-spell (length n1) first l, one) in
-    let ls = spell (length n0 + 1) first l in
-    let rs = spell ((length n0 + 1) + size l) (first + places_of l) r in
-    let left : n2 ≡ (n0 ++ (x ∷ [])) ++ ls = b ∙ ap₂ (λ u v. u ++ v) a (ap (λ k. spell k first l) one) in
-    let all : n3 ≡ n0 ++ (x ∷ (ls ++ rs)) =
-    c ∙ ap₂ (λ u v. u ++ v) left (λ i. spell (two i) (first + sym full i) r) ∙ regrouped n0 x ls rs in
-    (λ i. set (all i) (length n0) (Inner (length n0 + 1) (two i)))
-    ∙ set_middle n0 x (Inner (length n0 + 1) ((length n0 + 1) + size l)) (ls ++ rs)
 
 -- both parts are cut so, and the keys where they were cut
 cuts_both : (keys lefts rights : List ℕ) (half : ℕ) (l r : Plan) → lefts ≡ take half keys → rights ≡ drop half keys → places_of l ≡ half
@@ -73,7 +53,7 @@ both_planted keys lefts rights first bits halvings cut n0 n1 n2 n3 x at right fa
     let low = fair.low in
     record {
       plan = Both l.plan r.plan;
-      spelled = (λ i. set n3 (is_at i) (Inner (is_at i + 1) (is_right_node i))) ∙ spelled_both n0 n1 n2 n3 x first half l.plan r.plan pushed l.spelled r.spelled left_full;
+      spelled = (λ i. set n3 (is_at i) (Inner (is_at i + 1) (is_right_node i))) ∙ planted_both n0 n1 n2 n3 x first half l.plan r.plan pushed l.spelled r.spelled left_full;
       full = omega (arith, left_full, right_full, right_long, rest);
       small = (l.small, r.small);
       sized = omega (arith, left_sized, right_sized, left_long, right_long, rest);

@@ -3,7 +3,8 @@ use Rattle.std.specs.Prelude.{◌≡◌, ◌+◌, ◌/◌, ◌%◌, ◌^◌, ◌
 use Rattle.std.specs.List.{All}
 use Rattle.ray_geom.specs.Boxes.{BoxValue}
 use Rattle.ray_tree.specs.Shapes.{Shape, Gone, Tip, Fork}
-use Rattle.ray_morton.specs.KeyOrder.{key_at, items_below}
+use Rattle.ray_morton.specs.KeyOrder.{key_at}
+use Rattle.ray_tree.specs.Trees.{items_below}
 
 -- keys that are the same from a bit up, bit 0 being the lowest: what is left of each is the same number
 pub record AreSame (bit : ℕ) (keys : List ℕ) : Type 0 where

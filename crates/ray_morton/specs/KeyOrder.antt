@@ -22,9 +22,3 @@ IsBefore items p q = (key_at items p < key_at items q) ⊎ ((key_at items p ≡ 
 pub record IsInKeyOrder (items : List (Option BoxValue)) (numbers : List ℕ) : Type 0 where
   pub once : (p : ℕ) → times p numbers ≡ active items p
   pub rising : (i j : ℕ) → i < j → j < length numbers → IsBefore items (slice_index numbers i) (slice_index numbers j)
-
--- the items of the leaves from a node down, from the leftmost leaf on
-abbrev pub items_below : List ℕ → Shape → List ℕ
-items_below order Gone = []
-items_below order (Tip node first count) = take count (drop first order)
-items_below order (Fork node left right) = items_below order left ++ items_below order right

@@ -5,16 +5,12 @@ use Rattle.ray_geom.specs.Boxes.{BoxValue}
 use Rattle.ray_tree.specs.declared.node.Node.{Node}
 use Rattle.ray_tree.specs.Shapes.{shape_in, levels}
 use Rattle.ray_tree.specs.Trees.{tree_value, times, active, IsShape}
-use Rattle.ray_tree.specs.Plans.{Plan, Few, Both, size, places_of, spell, AreSmall, AreRising}
+use Rattle.ray_tree.specs.Plans.{Plan, Few, Both, size, places_of, spell, AreSmall, AreRising, height_of}
 use Rattle.ray_morton.specs.declared.cutting.Cut.{Cut}
-use Rattle.ray_morton.specs.KeyOrder.{IsInKeyOrder, items_below}
+use Rattle.ray_morton.specs.KeyOrder.{IsInKeyOrder}
+use Rattle.ray_tree.specs.Trees.{items_below}
 use Rattle.ray_morton.specs.Cuts.{AreSame, IsCut, AreCut}
 use Rattle.ray_morton.specs.Entries.{Rises}
-
--- how many levels of nodes a plan has
-abbrev pub height_of : Plan → ℕ
-height_of (Few count) = 1
-height_of (Both left right) = max (height_of left) (height_of right) + 1
 
 -- a plan cuts keys so at each inner node
 abbrev pub Cuts : List ℕ → Plan → Type 0

@@ -1,7 +1,8 @@
 ghost use Rattle.std.specs.Prelude.{◌≤◌, ◌^◌, IfOk, length};
 ghost use Rattle.ray_tree.specs.Shapes.{levels};
 ghost use Rattle.ray_tree.specs.Trees.{TreeOver, shape_at};
-ghost use Rattle.ray_morton.specs.KeyOrder.{IsInKeyOrder, items_below};
+ghost use Rattle.ray_morton.specs.KeyOrder.{IsInKeyOrder};
+ghost use Rattle.ray_tree.specs.Trees.{items_below};
 ghost use Rattle.ray_morton.specs.Cuts.{AreCut};
 
 use crate::fill::boxes_over;

@@ -10,41 +10,9 @@ ghost use Rattle.ray_tree.specs.Plans.{AreRising};
 ghost use Rattle.ray_morton.specs.Tips.{IsTip, AreTips, IsJoin, HasJoin};
 
 use ray_geom::{Box3, Vec3};
-use ray_tree::Node;
+use ray_tree::{Node, least_in};
 use std::alloc::{AllocError as NoMemory, Global};
 use std::thread::{self, Threads};
-
-// The box of an active item.
-fn box_of(items: &[Option<Box3>], p: u32) -> Box3
-    requires { IsActive items.now p }
-    ensures { item_box items.now p ≡ Some result }
-{
-    items[p as usize].unwrap()
-}
-
-// The least box of active items.
-fn least_of(items: &[Option<Box3>], numbers: &[u32]) -> Box3
-    requires some { 0 < length numbers.now }
-    requires active { All (IsActive items.now) numbers.now }
-    ensures { IsLeast (HoldsBoxes (boxes_of items.now numbers.now)) result }
-{
-    let mut least = box_of(items, numbers[0]);
-    for i in 1..numbers.len() {
-        least = least.union(&box_of(items, numbers[i]));
-    }
-    least
-}
-
-// The least box of the items of a leaf.
-fn least_in(items: &[Option<Box3>], order: &[u32], first: usize, count: usize) -> Box3
-    requires some { 0 < count }
-    requires within { first + count ≤ length order.now }
-    requires active { All (IsActive items.now) order.now }
-    ensures { IsLeast (HoldsBoxes (boxes_in items.now order.now first count)) result }
-{
-    let numbers = &order[first..];
-    least_of(items, &numbers[..count])
-}
 
 // Sets the box of a node if it is a leaf.
 fn set_leaf(items: &[Option<Box3>], order: &[u32], nodes: &[Node], i: usize, to: &mut Box3)

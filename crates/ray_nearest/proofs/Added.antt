@@ -10,7 +10,9 @@ use Rattle.ray_nearest.specs.declared.node.WalkNode.{WalkNode}
 use Rattle.ray_nearest.specs.declared.turn.Turn.{Turn}
 use Rattle.ray_nearest.specs.declared.turn.Turn.TheVariants.{Node, Candidate}
 use Rattle.ray_nearest.specs.Adding.{Adds, AddsFound, AddsNode, AddsNodes, AddsOne, HasValue, IsOpened, Passes}
-use Rattle.ray_nearest.specs.Scene.{SceneValue, is_open, is_within}
+use Rattle.ray_nearest.specs.Scene.{SceneValue}
+use Rattle.ray_query.specs.Limits.{is_open}
+use Rattle.ray_query.specs.Limits.{is_within}
 use Rattle.ray_nearest.specs.Turns.{turn_within}
 use Rattle.ray_nearest.proofs.Orders.{within-value}
 

@@ -11,11 +11,13 @@ use Rattle.ray_geom.specs.Ratio.{ratio_of}
 use Rattle.ray_geom.specs.RatioLaws.{ratio_cmp-total}
 use Rattle.ray_query.specs.declared.found.Found.{Found}
 use Rattle.ray_nearest.specs.declared.node.WalkNode.{WalkNode}
-use Rattle.ray_nearest.specs.KeyOrder.{AreApart}
+use Rattle.ray_query.specs.KeyOrder.{AreApart}
 use Rattle.ray_nearest.specs.Parts.{AreParts, IsBelow, Nests, SceneParts, all_from, every_with, grown, nodes_with, opened_with, scene_of, size_with, tested_at}
-use Rattle.ray_nearest.specs.Scene.{Holds, IsInOrder, IsScene, found_in, is_open}
-use Rattle.ray_nearest.proofs.Members.{Member-flat_map, sum_by-flat_map, All-from_Each, Each-from_members, Each-member, Member, Member-append}
-use Rattle.ray_nearest.proofs.Orders.{Each-from_All, false-else, never}
+use Rattle.ray_query.specs.Limits.{Holds, is_open}
+use Rattle.ray_nearest.specs.Scene.{IsScene, found_in}
+use Rattle.ray_query.specs.Limits.{IsInOrder}
+use Rattle.ray_query.proofs.Members.{Member-flat_map, sum_by-flat_map, All-from_Each, Each-from_members, Each-member, Member, Member-append}
+use Rattle.ray_query.proofs.Orders.{Each-from_All, false-else, never}
 
 map-same : {X Y : Type 0} (f g : X → Y) (xs : List X) → ((x : X) → Member x xs → f x ≡ g x) → map f xs ≡ map g xs
 map-same f g [] h = refl

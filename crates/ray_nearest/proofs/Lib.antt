@@ -1,8 +1,5 @@
 pub mod Orders
-pub mod Members
-pub mod Rising
 mod Popping
-mod Plays
 mod Pending
 mod Moving
 mod Underway

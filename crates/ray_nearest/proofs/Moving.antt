@@ -14,12 +14,15 @@ use Rattle.ray_nearest.specs.declared.node.WalkNode.{WalkNode}
 use Rattle.ray_nearest.specs.declared.turn.Turn.{Turn}
 use Rattle.ray_nearest.specs.declared.turn.Turn.TheVariants.{Node, Candidate}
 use Rattle.ray_nearest.specs.Adding.{Adds, AddsFound, AddsNode, AddsNodes, AddsOne, IsOpened, Passes}
-use Rattle.ray_nearest.specs.KeyOrder.{has_key}
-use Rattle.ray_nearest.specs.Scene.{Holds, IsScene, SceneValue, distance_of}
-use Rattle.ray_nearest.proofs.Members.{Each-member, Member, Member-append, Member-append_left, Member-append_right}
-use Rattle.ray_nearest.proofs.Orders.{Each-from_All, beyond-passed, never, shut-beyond}
+use Rattle.ray_query.specs.KeyOrder.{has_key}
+use Rattle.ray_query.specs.Limits.{Holds}
+use Rattle.ray_nearest.specs.Scene.{IsScene, SceneValue}
+use Rattle.ray_query.specs.Limits.{distance_of}
+use Rattle.ray_query.proofs.Members.{Each-member, Member, Member-append, Member-append_left, Member-append_right}
+use Rattle.ray_query.proofs.Orders.{Each-from_All, never}
+use Rattle.ray_query.proofs.Orders.{beyond-passed, shut-beyond}
 use Rattle.ray_nearest.proofs.Pending.{Fits, keys, pending, pending-permuted, stands, unopened, weight}
-use Rattle.ray_nearest.proofs.Plays.{plays_in}
+use Rattle.ray_query.proofs.Plays.{plays_in}
 
 -- turns were added that stand for what is more: of that nothing is lost but what is passed over, nothing else came, and it costs and weighs
 -- no more than so much

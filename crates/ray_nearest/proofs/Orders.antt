@@ -1,4 +1,4 @@
--- Orders: of ratios, of keys and of turns; and what holds of each element of a list.
+-- Limits, keys and turns in order.
 use Rattle.std.proofs.Common.{◌≡◌, ◌∙◌, refl, sym, ap, suc, Bool, true, false, List, [], ◌∷◌, All, Option, Some, None, arith}
 use Rattle.std.specs.Cmp.{IsTotalOrder}
 use Rattle.std.specs.Ordering.{is_lt, is_le, is_gt, ordering_reverse, ordering_then}
@@ -16,93 +16,18 @@ use Rattle.ray_query.specs.Key.{found_key, is_below, key_cmp, key_lt}
 use Rattle.ray_nearest.specs.declared.turn.Turn.{Turn}
 use Rattle.ray_nearest.specs.declared.turn.Turn.TheVariants.{Node, Candidate}
 use Rattle.ray_nearest.specs.Adding.{HasValue}
-use Rattle.ray_nearest.specs.Scene.{Holds, distance_of, is_open, is_within}
-use Rattle.ray_nearest.specs.TurnLaws.{key_cmp-total, turn_cmp}
+use Rattle.ray_query.specs.Limits.{Holds, is_open}
+use Rattle.ray_query.specs.Limits.{distance_of, is_within}
+use Rattle.ray_query.proofs.Orders.{le-from_not_lt}
+use Rattle.ray_nearest.specs.TurnLaws.{turn_cmp}
 use Rattle.ray_nearest.specs.Turns.{is_before, turn_at}
 
--- a test has one answer
-pub never : {A : Type 0} (b : Bool) → b ≡ true → b ≡ false → A
-never true p q = absurd (cc)
-never false p q = absurd (cc)
-
--- a test that can't be true is false, and one that can't be false is true
-pub false-else : (b : Bool) → (b ≡ true → ⊥) → b ≡ false
-false-else true h = absurd (h refl)
-false-else false h = refl
-
-pub true-else : (b : Bool) → (b ≡ false → ⊥) → b ≡ true
-true-else true h = refl
-true-else false h = absurd (h refl)
-
--- ---- answers of a comparison
-
-le-turned : (r : Ordering) → is_lt r ≡ false → is_le (ordering_reverse r) ≡ true
-le-turned Less p = absurd (cc)
-le-turned Equal p = refl
-le-turned Greater p = refl
-
-not_lt-turned : (r : Ordering) → is_le r ≡ true → is_lt (ordering_reverse r) ≡ false
-not_lt-turned Less p = refl
-not_lt-turned Equal p = refl
-not_lt-turned Greater p = absurd (cc)
-
-lt-turned : (r : Ordering) → is_le r ≡ false → is_lt (ordering_reverse r) ≡ true
-lt-turned Less p = absurd (cc)
-lt-turned Equal p = absurd (cc)
-lt-turned Greater p = refl
-
-not_gt : (r : Ordering) → is_le r ≡ true → is_gt r ≡ false
-not_gt Less p = refl
-not_gt Equal p = refl
-not_gt Greater p = absurd (cc)
-
-le-not_gt : (r : Ordering) → is_gt r ≡ false → is_le r ≡ true
-le-not_gt Less p = refl
-le-not_gt Equal p = refl
-le-not_gt Greater p = absurd (cc)
-
--- ---- any total order
-
-module _ {K : Type 0} {R : K → K → Ordering} (o : IsTotalOrder R) where
-  pub le-from_not_lt : (x y : K) → is_lt (R y x) ≡ false → is_le (R x y) ≡ true
-  le-from_not_lt x y p = ap is_le (o.antisymm x y) ∙ le-turned (R y x) p
-
-  pub not_lt-from_le : (x y : K) → is_le (R x y) ≡ true → is_lt (R y x) ≡ false
-  not_lt-from_le x y p = ap is_lt (o.antisymm y x) ∙ not_lt-turned (R x y) p
-
-  pub lt-from_not_le : (x y : K) → is_le (R x y) ≡ false → is_lt (R y x) ≡ true
-  lt-from_not_le x y p = ap is_lt (o.antisymm y x) ∙ lt-turned (R x y) p
-
-  pub le-chain : (x y z : K) → is_le (R x y) ≡ true → is_le (R y z) ≡ true → is_le (R x z) ≡ true
-  le-chain x y z p q = le-not_gt (R x z) (upto o x y z (not_gt (R x y) p) (not_gt (R y z) q))
-
-  pub lt-chain : (x y z : K) → is_lt (R x y) ≡ true → is_le (R y z) ≡ true → is_lt (R x z) ≡ true
-  lt-chain x y z p q =
-      true-else (is_lt (R x z))
-      (λ not. never (is_lt (R x y)) p (not_lt-from_le y x (le-chain y z x q (le-from_not_lt z x not))))
-
 -- ---- ratios and limits
-
-pub ratio_le-chain : (a b c : Ratio) → is_le (ratio_cmp a b) ≡ true → is_le (ratio_cmp b c) ≡ true → is_le (ratio_cmp a c) ≡ true
-ratio_le-chain = le-chain ratio_cmp-total
 
 -- ratios of one value are within the same limits
 pub within-value : (limit : Option Ratio) (e a : Ratio) → HasValue (Some a) e → is_within limit e ≡ is_within limit a
 within-value None e a p = refl
 within-value (Some c) e a p = ap is_le (ratio_cmp-total.congr e a c p)
-
--- what is nearer than what is within a limit is within it
-pub within-nearer : (limit : Option Ratio) (a b : Ratio) → is_le (ratio_cmp a b) ≡ true → is_within limit b ≡ true → is_within limit a ≡ true
-within-nearer None a b p q = refl
-within-nearer (Some c) a b p q = ratio_le-chain a b c p q
-
-pub beyond-farther : (limit : Option Ratio) (a b : Ratio) → is_le (ratio_cmp a b) ≡ true → is_within limit a ≡ false → is_within limit b ≡ false
-beyond-farther limit a b p q = false-else (is_within limit b) (λ in_. never (is_within limit a) (within-nearer limit a b p in_) q)
-
--- a box that isn't met within a limit holds nothing within it
-pub shut-beyond : (limit entry : Option Ratio) (f : Found) → Holds entry f → is_open limit entry ≡ false → is_within limit (ratio_of f.t) ≡ false
-shut-beyond limit None f h shut = absurd (cc)
-shut-beyond limit (Some e) f h shut = beyond-farther limit e (ratio_of f.t) h shut
 
 -- ---- keys
 
@@ -114,27 +39,6 @@ then_lt Greater s p = absurd (cc)
 -- what is nearer has the lower key
 pub key-nearer : (f g : Found) → is_lt (ratio_cmp (ratio_of f.t) (ratio_of g.t)) ≡ true → key_lt (found_key f) (found_key g) ≡ true
 key-nearer f g p = then_lt (frac_cmp f.t g.t) _ p
-
--- what is beyond the committed distance isn't below the committed key
-then_le : (r s : Ordering) → is_le r ≡ false → is_lt (ordering_then r s) ≡ false
-then_le Less s p = absurd (cc)
-then_le Equal s p = absurd (cc)
-then_le Greater s p = refl
-
-pub beyond-passed : (c : Option Commit) (f : Found) → is_within (distance_of c) (ratio_of f.t) ≡ false → is_below (found_key f) c ≡ false
-beyond-passed None f p = absurd (cc)
-beyond-passed (Some c) f p = then_le (frac_cmp f.t c.t) _ p
-
-pub key_lt-itself : (k : Key) → key_lt k k ≡ false
-key_lt-itself k = ap is_lt (tied_itself key_cmp-total k)
-
-lt-once : (o : Ordering) → is_lt o ≡ true → is_lt (ordering_reverse o) ≡ false
-lt-once Less p = refl
-lt-once Equal p = refl
-lt-once Greater p = absurd (cc)
-
-pub key_lt-not_both : (k l : Key) → key_lt k l ≡ true → key_lt l k ≡ false
-key_lt-not_both k l p = ap is_lt (key_cmp-total.antisymm l k) ∙ lt-once (key_cmp k l) p
 
 -- ---- turns
 
@@ -169,13 +73,3 @@ before-lt (Candidate f) (Candidate g) = refl
 pub turn-farther : (x y : Turn) → is_before y x ≡ false → is_le (ratio_cmp (turn_at x) (turn_at y)) ≡ true
 turn-farther x y p =
     le-from_not_lt ratio_cmp-total (turn_at x) (turn_at y) (then_not_lt (ratio_cmp (turn_at y) (turn_at x)) _ (sym (before-lt y x) ∙ p))
-
--- ---- each element
-
-abbrev pub Each : {X : Type 0} → (X → Type 0) → List X → Type 0
-Each P [] = Unit {0}
-Each P (x ∷ xs) = P x × Each P xs
-
-pub Each-from_All : {X : Type 0} (P : X → Type 0) (xs : List X) → All P xs → Each P xs
-Each-from_All P [] h = tt
-Each-from_All P (x ∷ xs) h = (h 0 x (omega arith), Each-from_All P xs (λ k d below. h (suc k) d (omega (arith, below))))

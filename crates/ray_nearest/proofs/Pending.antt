@@ -13,11 +13,12 @@ use Rattle.ray_nearest.specs.declared.node.WalkNode.{WalkNode}
 use Rattle.ray_nearest.specs.declared.turn.Turn.{Turn}
 use Rattle.ray_nearest.specs.declared.turn.Turn.TheVariants.{Node, Candidate}
 use Rattle.ray_nearest.specs.Adding.{HasValue}
-use Rattle.ray_nearest.specs.KeyOrder.{has_key}
-use Rattle.ray_nearest.specs.Scene.{Holds, IsScene, SceneValue}
+use Rattle.ray_query.specs.KeyOrder.{has_key}
+use Rattle.ray_query.specs.Limits.{Holds}
+use Rattle.ray_nearest.specs.Scene.{IsScene, SceneValue}
 use Rattle.ray_nearest.specs.Turns.{turn_at}
-use Rattle.ray_nearest.proofs.Members.{sum_by-flat_map, Member-permuted, Member-flat_map, flat_map-has, Each-member, Member}
-use Rattle.ray_nearest.proofs.Orders.{Each-from_All}
+use Rattle.ray_query.proofs.Members.{sum_by-flat_map, Member-permuted, Member-flat_map, flat_map-has, Each-member, Member}
+use Rattle.ray_query.proofs.Orders.{Each-from_All}
 
 module _ (s : SceneValue) where
   -- what a turn stands for: all that is found from a node down, or a candidate

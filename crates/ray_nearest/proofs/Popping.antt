@@ -14,10 +14,11 @@ use Rattle.std.proofs.lemmas.List.Sorted.{All-permutation, IsPermutation-cons, I
 use Rattle.ray_geom.specs.declared.ratio.Ratio.{Ratio}
 use Rattle.ray_nearest.specs.declared.turn.Turn.{Turn}
 use Rattle.ray_nearest.specs.declared.waiting.Waiting.{Waiting}
-use Rattle.ray_nearest.specs.Scene.{is_within}
+use Rattle.ray_query.specs.Limits.{is_within}
 use Rattle.ray_nearest.specs.TurnLaws.{IsFirst, turn_of, turns_of, waiting_cmp, waiting_cmp-total}
 use Rattle.ray_nearest.specs.Turns.{IsTaken, is_before, turn_at, turn_within}
-use Rattle.ray_nearest.proofs.Orders.{before-lt, beyond-farther, turn-farther}
+use Rattle.ray_nearest.proofs.Orders.{before-lt, turn-farther}
+use Rattle.ray_query.proofs.Orders.{beyond-farther}
 
 abbrev NotBefore : Turn → Turn → Type 0
 NotBefore x y = is_before y x ≡ false

@@ -7,7 +7,7 @@ use Rattle.ray_geom.specs.declared.ratio.Ratio.{Ratio}
 use Rattle.ray_geom.specs.Ratio.{ratio_cmp}
 use Rattle.ray_geom.specs.RatioLaws.{ratio_cmp-total}
 use Rattle.ray_nearest.specs.declared.waiting.Waiting.{Waiting}
-use Rattle.ray_nearest.specs.Scene.{is_within}
+use Rattle.ray_query.specs.Limits.{is_within}
 use Rattle.ray_nearest.specs.Turns.{turn_at}
 use Rattle.ray_nearest.specs.TurnLaws.{turn_of}
 

@@ -24,15 +24,19 @@ use Rattle.ray_nearest.specs.declared.turn.Turn.{Turn}
 use Rattle.ray_nearest.specs.declared.turn.Turn.TheVariants.{Node, Candidate}
 use Rattle.ray_nearest.specs.Adding.{AddsNodes, HasValue, IsOpened}
 use Rattle.ray_nearest.specs.Answer.{answer_in, played_in}
-use Rattle.ray_nearest.specs.KeyOrder.{AreApart, has_key, in_key_order}
-use Rattle.ray_nearest.specs.Scene.{IsInOrder, IsScene, SceneValue, distance_of, found_in, is_open, is_within, opened_in}
+use Rattle.ray_query.specs.KeyOrder.{AreApart, has_key, in_key_order}
+use Rattle.ray_query.specs.Limits.{IsInOrder, distance_of, is_within}
+use Rattle.ray_nearest.specs.Scene.{IsScene, SceneValue, found_in, opened_in}
+use Rattle.ray_query.specs.Limits.{is_open}
 use Rattle.ray_nearest.specs.Taking.{IsNext, IsKnown, Takes}
 use Rattle.ray_nearest.specs.Turns.{is_before, turn_at}
-use Rattle.ray_nearest.proofs.Members.{Member-flat_map, Each-member, Member, Member-append, Member-append_left, Member-append_right}
-use Rattle.ray_nearest.proofs.Orders.{Each, Each-from_All, beyond-farther, beyond-passed, key-nearer, key_lt-not_both, lt-chain, lt-from_not_le, never, ratio_le-chain, turn-farther, within-value}
-use Rattle.ray_nearest.proofs.Rising.{AreApart-first, Differs, IsAbove, above_other, in_key_order-first}
+use Rattle.ray_query.proofs.Members.{Member-flat_map, Each-member, Member, Member-append, Member-append_left, Member-append_right}
+use Rattle.ray_query.proofs.Orders.{Each, Each-from_All, key_lt-not_both, lt-chain, lt-from_not_le, never, ratio_le-chain}
+use Rattle.ray_query.proofs.Orders.{beyond-farther, beyond-passed}
+use Rattle.ray_nearest.proofs.Orders.{key-nearer, turn-farther, within-value}
+use Rattle.ray_query.proofs.Rising.{AreApart-first, Differs, IsAbove, above_other, in_key_order-first}
 use Rattle.ray_nearest.proofs.Pending.{Fits, keys, pending, pending-keys, pending-permuted, stands, stands-farther, unopened, weight}
-use Rattle.ray_nearest.proofs.Plays.{IsReached, play-same, plays_in, reached-play_one}
+use Rattle.ray_query.proofs.Plays.{IsReached, play-same, plays_in, reached-play_one}
 use Rattle.ray_nearest.proofs.Moving.{Moves, moves_nodes, moves_opened}
 
 -- a candidate isn't before a mark

@@ -8,7 +8,9 @@ use Rattle.ray_query.specs.declared.found.Found.{Found}
 use Rattle.ray_nearest.specs.declared.node.WalkNode.{WalkNode}
 use Rattle.ray_nearest.specs.declared.turn.Turn.{Turn}
 use Rattle.ray_nearest.specs.declared.turn.Turn.TheVariants.{Node, Candidate}
-use Rattle.ray_nearest.specs.Scene.{SceneValue, is_open, is_within}
+use Rattle.ray_nearest.specs.Scene.{SceneValue}
+use Rattle.ray_query.specs.Limits.{is_open}
+use Rattle.ray_query.specs.Limits.{is_within}
 
 -- a ratio has the value of an entry; which of the ratios of that value it is, is free
 abbrev pub HasValue : Option Ratio → Ratio → Type 0

@@ -5,7 +5,7 @@ use Rattle.ray_query.specs.declared.candidate.Candidate.{Candidate}
 use Rattle.ray_query.specs.declared.commit.Commit.{Commit}
 use Rattle.ray_query.specs.declared.decision.Decision.{Decision}
 use Rattle.ray_query.specs.Play.{QueryState, play, start}
-use Rattle.ray_nearest.specs.KeyOrder.{in_key_order}
+use Rattle.ray_query.specs.KeyOrder.{in_key_order}
 use Rattle.ray_nearest.specs.Scene.{SceneValue, found_in}
 
 -- how a query stands once all that is found in a scene was played, in rising order of keys, by a client of this meaning

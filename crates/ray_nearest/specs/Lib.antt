@@ -1,4 +1,3 @@
-pub mod KeyOrder
 pub mod Scene
 pub mod Parts
 pub mod Adding

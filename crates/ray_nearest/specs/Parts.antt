@@ -5,7 +5,9 @@ use Rattle.std.specs.List.{sum, flat_map}
 use Rattle.ray_geom.specs.declared.ratio.Ratio.{Ratio}
 use Rattle.ray_query.specs.declared.found.Found.{Found}
 use Rattle.ray_nearest.specs.declared.node.WalkNode.{WalkNode}
-use Rattle.ray_nearest.specs.Scene.{Holds, IsInOrder, SceneValue, is_open}
+use Rattle.ray_query.specs.Limits.{Holds, is_open}
+use Rattle.ray_nearest.specs.Scene.{SceneValue}
+use Rattle.ray_query.specs.Limits.{IsInOrder}
 
 -- what is right at each node: as in `SceneValue`, with a rank that falls from a node to those below
 pub record SceneParts : Type 0 where

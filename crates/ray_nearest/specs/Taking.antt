@@ -10,7 +10,8 @@ use Rattle.ray_nearest.specs.declared.node.WalkNode.{WalkNode}
 use Rattle.ray_nearest.specs.declared.turn.Turn.{Turn}
 use Rattle.ray_nearest.specs.declared.turn.Turn.TheVariants.{Node, Candidate}
 use Rattle.ray_nearest.specs.Adding.{IsOpened}
-use Rattle.ray_nearest.specs.Scene.{SceneValue, distance_of, is_within}
+use Rattle.ray_nearest.specs.Scene.{SceneValue}
+use Rattle.ray_query.specs.Limits.{distance_of, is_within}
 use Rattle.ray_nearest.specs.Turns.{is_before, turn_at}
 
 -- the next turn of a walk whose query stands so: none where the query is over, or where all turns that wait are beyond the

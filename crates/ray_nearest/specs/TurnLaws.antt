@@ -5,11 +5,8 @@ use Rattle.std.specs.Cmp.{IsTotalOrder, IsPartialOrder, IsEquivalence, IsPartial
 use Rattle.std.specs.Ordering.{as_partial_cmp, bool_cmp, eq_by_cmp, is_lt, nat_cmp, ordering_then}
 use Rattle.std.specs.declared.cmp.Ordering.{Ordering}
 use Rattle.std.proofs.lemmas.Cmp.{nat_cmp_total, on_total, then_total, back_total, eq_by_cmp_equiv}
-use Rattle.ray_geom.specs.FracLaws.{frac_cmp-total}
 use Rattle.ray_geom.specs.Ratio.{ratio_cmp}
 use Rattle.ray_geom.specs.RatioLaws.{ratio_cmp-total}
-use Rattle.ray_query.specs.declared.key.Key.{Key}
-use Rattle.ray_query.specs.Key.{key_cmp}
 use Rattle.ray_nearest.specs.declared.turn.Turn.{Turn}
 use Rattle.ray_nearest.specs.declared.turn.Turn.TheVariants.{Node, Candidate}
 use Rattle.ray_nearest.specs.declared.tie.Tie.{Tie}
@@ -24,14 +21,6 @@ turn_of w = kept_turn w.at w.kept
 -- the turns of those that wait
 abbrev pub turns_of : List Waiting → List Turn
 turns_of = map turn_of
-
--- keys are in a total order
-pub key_cmp-total : IsTotalOrder key_cmp
-key_cmp-total =
-    then_total (on_total (λ (k : Key). k.t) frac_cmp-total)
-    (then_total (on_total (λ (k : Key). k.instance) nat_cmp_total)
-    (then_total (on_total (λ (k : Key). k.geometry) nat_cmp_total)
-    (on_total (λ (k : Key). k.primitive) nat_cmp_total)))
 
 -- by what a turn is ordered among those at its distance
 abbrev pub tie_of : Turn → Tie

@@ -7,7 +7,7 @@ use Rattle.ray_geom.specs.Ratio.{ratio_cmp, ratio_of}
 use Rattle.ray_query.specs.Key.{found_key, key_lt}
 use Rattle.ray_nearest.specs.declared.turn.Turn.{Turn}
 use Rattle.ray_nearest.specs.declared.turn.Turn.TheVariants.{Node, Candidate}
-use Rattle.ray_nearest.specs.Scene.{is_within}
+use Rattle.ray_query.specs.Limits.{is_within}
 
 -- at which distance a turn comes: a node at its entry, a candidate at its own distance (own)
 abbrev pub turn_at : Turn → Ratio

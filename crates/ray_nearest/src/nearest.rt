@@ -3,7 +3,8 @@ ghost use Rattle.ray_query.specs.Key.{commit_key, found_key, is_below, key_lt};
 ghost use Rattle.ray_query.specs.Play.{play_one};
 ghost use Rattle.ray_query.specs.Raw.{reduced_found};
 ghost use Rattle.ray_nearest.specs.Answer.{answer_in};
-ghost use Rattle.ray_nearest.specs.Scene.{IsScene, distance_of, opened_in};
+ghost use Rattle.ray_nearest.specs.Scene.{IsScene, opened_in};
+ghost use Rattle.ray_query.specs.Limits.{distance_of};
 ghost use Rattle.ray_nearest.specs.Taking.{IsKnown, IsNext, Takes};
 ghost use Rattle.ray_nearest.specs.TurnLaws.{turn_of};
 

@@ -5,7 +5,7 @@ ghost use Rattle.std.specs.List.Sorted.{IsPermutation};
 ghost use Rattle.std.specs.Ordering.{is_lt};
 ghost use Rattle.ray_nearest.specs.declared.turn.Turn.TheVariants.{Node, Candidate};
 ghost use Rattle.ray_query.specs.Raw.{reduced_found};
-ghost use Rattle.ray_nearest.specs.Scene.{is_within};
+ghost use Rattle.ray_query.specs.Limits.{is_within};
 ghost use Rattle.ray_nearest.specs.TurnLaws.{IsFirst, turn_of, waiting_cmp};
 ghost use Rattle.ray_nearest.specs.Turns.{IsTaken, turn_within};
 

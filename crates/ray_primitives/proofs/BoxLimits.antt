@@ -1,5 +1,5 @@
 -- The boxes that are read are within the limits.
-use Rattle.std.proofs.Common.{ℕ, ◌≡◌, ◌^◌, ◌&&◌, not, Bool, true, false, Result, Ok, Err, Option, Some, None, List, length, drop, refl, ap, subst, arith}
+use Rattle.std.proofs.Common.{ℕ, ◌≡◌, ◌^◌, not, Bool, true, false, Result, Ok, Err, Option, Some, None, List, length, drop, refl, ap, subst, arith}
 use Rattle.std.specs.Prelude.{ℤ, int_lt, ◌≤ℤ◌, All, is_some, if◌then◌else◌}
 use Rattle.std.specs.Bool.{beq}
 use Rattle.std.proofs.lemmas.Int.{ints}
@@ -17,20 +17,10 @@ use Rattle.ray_primitives.specs.Primitives.{IsAabb}
 use Rattle.ray_primitives.specs.Updates.{old_at, box_after}
 use Rattle.ray_primitives.specs.BoxReading.{box_words, is_ordered, boxed, box_from, box_read, updated_box, box_element, boxes_read}
 use Rattle.ray_primitives.proofs.Results.{element_ok, if_ok, ok_same, short_within}
+use Rattle.ray_primitives.proofs.Chosen.{three}
 
 at_most_by : (a b : ℤ) → not (int_lt b a) ≡ true → a ≤ℤ b
 at_most_by a b e = grind (arith, ints)
-
-record AreTrue (a b c : Bool) : Type 0 where
-  first : a ≡ true
-  second : b ≡ true
-  third : c ≡ true
-
-three : (a b c : Bool) → ((a && b) && c) ≡ true → AreTrue a b c
-three true true true e = record { first = refl; second = refl; third = refl }
-three true true false e = absurd cc
-three true false c e = absurd cc
-three false b c e = absurd cc
 
 -- the test of order tells the order
 pub IsBelow-is_ordered : (lo hi : Vec3) → is_ordered lo hi ≡ true → IsBelow lo hi

@@ -1,5 +1,6 @@
 pub mod Keeping
 pub mod Results
+pub mod Chosen
 pub mod TriangleLimits
 pub mod BoxLimits
 pub mod StoredBack

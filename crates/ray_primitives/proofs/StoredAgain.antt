@@ -26,6 +26,7 @@ use Rattle.ray_primitives.specs.declared.index_values.IndexValues.{IndexValues}
 use Rattle.ray_primitives.specs.Primitives.{TriangleValue, active_triangle, inactive_triangle}
 use Rattle.ray_primitives.specs.BoxReading.{is_ordered}
 use Rattle.ray_primitives.specs.StoredPrimitives.{marked_point, zero_point, written_tri, written_box, corner_words, index_words, point_words, triangle_bytes, aabb_bytes, point_at, indices_at, indices_fit, is_zero, is_zero_but_x, inactive_from, active_from, marked_from, stored_from, stored_triangle, part_at, stored_triangle_at, stored_triangles, inactive_box_from, active_box_from, stored_box_from, stored_box, stored_box_at, stored_boxes}
+use Rattle.ray_primitives.proofs.Chosen.{if_some, same_some, three}
 
 -- bytes
 abbrev AreBytes : List ℕ → Type 0
@@ -41,24 +42,6 @@ unfolding signed_at
 again bytes at fits = of_z-to_z w32 (word_at bytes at) (word_below bytes at fits)
 
 -- ---- tests tell
-
-if_some : {X : Type 0} (b : Bool) (o : Option X) (x : X) → (if b then o else None) ≡ Some x → (b ≡ true) × (o ≡ Some x)
-if_some true o x e = (refl, e)
-if_some false o x e = absurd cc
-
-same_some : {X : Type 0} (x y : X) (o : Option X) → o ≡ Some x → o ≡ Some y → x ≡ y
-same_some x y o p q = cc
-
-record AreTrue (a b c : Bool) : Type 0 where
-  first : a ≡ true
-  second : b ≡ true
-  third : c ≡ true
-
-three : (a b c : Bool) → ((a && b) && c) ≡ true → AreTrue a b c
-three true true true e = record { first = refl; second = refl; third = refl }
-three true true false e = absurd cc
-three true false c e = absurd cc
-three false b c e = absurd cc
 
 two : (a b : Bool) → (a && b) ≡ true → (a ≡ true) × (b ≡ true)
 two true true e = (refl, refl)

@@ -13,25 +13,7 @@ use Rattle.ray_primitives.specs.BoxReading.{is_ordered}
 use Rattle.ray_primitives.specs.StoredPrimitives.{point_at, indices_at, indices_fit, is_zero, is_zero_but_x, inactive_from, active_from, marked_from, stored_from, stored_triangle, part_at, stored_triangle_at, stored_triangles, inactive_box_from, active_box_from, stored_box_from, stored_box, stored_box_at, stored_boxes}
 use Rattle.ray_primitives.proofs.Results.{short_within}
 use Rattle.ray_primitives.proofs.BoxLimits.{IsBelow-is_ordered}
-
--- of a choice whose other side is none
-if_some : {X : Type 0} (b : Bool) (o : Option X) (x : X) → (if b then o else None) ≡ Some x → (b ≡ true) × (o ≡ Some x)
-if_some true o x e = (refl, e)
-if_some false o x e = absurd cc
-
-same_some : {X : Type 0} (x y : X) (o : Option X) → o ≡ Some x → o ≡ Some y → x ≡ y
-same_some x y o p q = cc
-
-record AreTrue (a b c : Bool) : Type 0 where
-  first : a ≡ true
-  second : b ≡ true
-  third : c ≡ true
-
-three : (a b c : Bool) → ((a && b) && c) ≡ true → AreTrue a b c
-three true true true e = record { first = refl; second = refl; third = refl }
-three true true false e = absurd cc
-three true false c e = absurd cc
-three false b c e = absurd cc
+use Rattle.ray_primitives.proofs.Chosen.{AreTrue, if_some, same_some, three}
 
 fit_each : (size : ℕ) (i : IndexValues) → indices_fit size i ≡ true → AreTrue (index_fits size i.first) (index_fits size i.second) (index_fits size i.third)
 unfolding indices_fit

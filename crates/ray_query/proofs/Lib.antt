@@ -1,4 +1,7 @@
 mod Choosing
 mod Meanings
-mod Orders
+pub mod Orders
 mod Playing
+pub mod Members
+pub mod Rising
+pub mod Plays

@@ -1,4 +1,6 @@
 pub mod Key
+pub mod KeyOrder
+pub mod Limits
 pub mod Play
 pub mod Machine
 pub mod Record

@@ -10,7 +10,8 @@
 //! and a client play as the client's meaning says, and that of [`record_of`], the record of a
 //! committed hit. [`RawFound`] is what was found before its fractions are put in lowest terms. A
 //! [`Client`] tells its meaning, a decision as a function of the candidate;
-//! [`ByFn`] makes one of a function. They await the traces that find candidates.
+//! [`ByFn`] makes one of a function. Traces, which find candidates, stand above
+//! (ray_candidates, ray_walk).
 //!
 //! Laws are calls that do nothing and whose contract is the law: [`chosen_law`], [`ignoring_law`],
 //! [`confirming_law`] and [`parts_law`] say by `specs/Laws` that the play is what Vulkan means,

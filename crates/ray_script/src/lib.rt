@@ -9,7 +9,7 @@
 //! of the first rule that matches.
 //!
 //! The layer above uses both clauses: the first as a part of its grammar, the second as the rule on
-//! scripts. The meaning awaits the traces that play by it. It stands on ray_json and ray_query.
+//! scripts. Traces play by its meaning. It stands on ray_json and ray_query.
 #![tactic(auto)]
 
 mod bad_script;

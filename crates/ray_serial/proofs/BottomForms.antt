@@ -15,24 +15,21 @@ use Rattle.ray_flags.specs.declared.kind.Kind.TheVariants.{Triangle, Aabb}
 use Rattle.ray_geometries.specs.declared.geometry.Geometry.{Geometry}
 use Rattle.ray_geometries.specs.Contents.{ContentsValue, IsContents, has_both_fast, kind_of, count_of, total_of}
 use Rattle.ray_geometries.specs.Storing.{bytes_of_words, kind_number, geometry_bytes, payload_of}
-use Rattle.ray_serial.specs.Heads.{element_size}
-use Rattle.ray_serial.specs.Rows.{are_geometries, total_in, row_total, geometries_in}
-use Rattle.ray_serial.specs.InstanceBytes.{are_instances}
-use Rattle.ray_serial.specs.Form.{handle_count_in, payload_in, instances_of_payload, is_top_payload, flags_of_payload, geometry_count, row_of, at_most, or_else, bottom_total, has_flags, top_total, lacks_room, total_of_payload, has_bad_element, broken_line}
+use Rattle.ray_form.specs.Heads.{element_size}
+use Rattle.ray_form.specs.Rows.{are_geometries, total_in, row_total, geometries_in}
+use Rattle.ray_form.specs.InstanceBytes.{are_instances}
+use Rattle.ray_form.specs.Form.{handle_count_in, payload_in, instances_of_payload, is_top_payload, flags_of_payload, geometry_count, row_of, at_most, or_else, bottom_total, has_flags, top_total, lacks_room, total_of_payload, has_bad_element, broken_line}
 use Rattle.ray_serial.specs.Meaning.{KeepsLines, IsForm, is_top_form, deserialized_in, handle_at, with_flags, bottom_in_payload, bottom_in, HasRoom, CanRestore}
 use Rattle.ray_serial.specs.Written.{form_size, form_bytes, bottom_form}
-use Rattle.ray_serial.proofs.Words.{AreBytes, AreBytes-drop, HasFour, four_bytes, four_back, four_again, length-four_bytes, after_four}
+use Rattle.ray_serial.proofs.Words.{AreBytes, AreBytes-drop, HasFour, four_bytes, four_back, four_again, length-four_bytes, after_four, three, not_true}
 use Rattle.ray_serial.proofs.GeometryBack.{length-geometry_bytes, IsRow, row_back}
 use Rattle.ray_serial.proofs.GeometryAgain.{row_again}
 use Rattle.ray_serial.proofs.KeptLines.{KeepsLines-unbroken, unbroken-KeepsLines}
 use Rattle.ray_serial.proofs.Headers.{HasHeader, header_back, form_again, length-payload_in}
+use Rattle.ray_primitives.proofs.Chosen.{if_some}
+use Rattle.ray_geometries.proofs.Restoring.{mapped}
 
 -- ---- tests
-
-three : (a b c : Bool) → (a && b && c) ≡ true → (a ≡ true) × (b ≡ true) × (c ≡ true)
-three true true c e = (refl, refl, e)
-three true false c e = absurd cc
-three false b c e = absurd cc
 
 number_is : (a b : ℕ) → (a == b) ≡ true → a ≡ b
 number_is a b e = grind (arith, nat_tests)
@@ -51,14 +48,6 @@ is_at_most a b e = grind (arith, nat_tests)
 
 le_test : (a b : ℕ) → a ≤ b → nat_le a b ≡ true
 le_test a b h = grind (arith, nat_tests)
-
-not_true : (a : Bool) → not a ≡ true → a ≡ false
-not_true true e = absurd cc
-not_true false e = refl
-
-if_some : {X : Type 0} (b : Bool) (o : Option X) (x : X) → (if b then o else None) ≡ Some x → (b ≡ true) × (o ≡ Some x)
-if_some true o x e = (refl, e)
-if_some false o x e = absurd cc
 
 -- ---- one kind
 
@@ -377,15 +366,6 @@ contents_again handles payload total gs fits long keeps e =
       total_is = sum;
       same = payload_again payload gs fits long keeps.kind_is keeps.zero_is many again.same;
     }
-
-record IsMapped {X Y : Type 0} (f : X → Y) (o : Option X) (y : Y) : Type 0 where
-  value : X
-  is_some : o ≡ Some value
-  same : f value ≡ y
-
-mapped : {X Y : Type 0} (f : X → Y) (o : Option X) (y : Y) → option_map f o ≡ Some y → IsMapped f o y
-mapped f None y e = absurd cc
-mapped f (Some x) y e = let same : f x ≡ y = cc in record { value = x; is_some = refl; same = same }
 
 pub bottom_again : (handles : ℕ) (payload : List ℕ) (total : ℕ) (c : ContentsValue) → AreBytes payload → 16 ≤ length payload → KeepsBottom handles payload total →
     bottom_in_payload payload ≡ Some c → IsAgain payload total c

@@ -19,19 +19,17 @@ use Rattle.ray_geometries.specs.declared.shapes.Shapes.TheVariants.{Triangles, B
 use Rattle.ray_geometries.specs.Contents.{IsGeometry, is_index_size, kind_of, kind_of_shapes, count_of, count_of_shapes, total_of}
 use Rattle.ray_geometries.specs.Storing.{kind_number, opaque_number, format_number, index_number, format_of, index_size_of, stored_shapes, triangles_of, boxes_of_elements, element_bytes, geometry_bytes}
 use Rattle.ray_geometries.proofs.Restoring.{AreStored-shapes, element_bytes-stored}
-use Rattle.ray_serial.specs.Heads.{greatest_opacity, greatest_number, has_zeros, count_in, elements_size, is_head, is_whole, is_geometry, geometry_size, kind_named, format_named, index_size_named, elements_in, shapes_in, geometry_of, geometry_in}
-use Rattle.ray_serial.specs.Rows.{after_first, are_geometries, total_in, with_first, geometries_in}
+use Rattle.ray_form.specs.Heads.{greatest_opacity, greatest_number, has_zeros, count_in, elements_size, is_head, is_whole, is_geometry, geometry_size, kind_named, format_named, index_size_named, elements_in, shapes_in, geometry_of, geometry_in}
+use Rattle.ray_form.specs.Rows.{after_first, are_geometries, total_in, with_first, geometries_in}
 use Rattle.ray_serial.proofs.Words.{AreBytes, AreBytes-drop, AreBytes-take, HasWords, head_bytes, head_again}
+use Rattle.ray_primitives.proofs.Chosen.{if_some}
+use Rattle.ray_geometries.proofs.Restoring.{mapped}
 
 -- ---- what a test tells
 
 both : (a b : Bool) → (a && b) ≡ true → (a ≡ true) × (b ≡ true)
 both true b e = (refl, e)
 both false b e = absurd cc
-
-if_some : {X : Type 0} (b : Bool) (o : Option X) (x : X) → (if b then o else None) ≡ Some x → (b ≡ true) × (o ≡ Some x)
-if_some true o x e = (refl, e)
-if_some false o x e = absurd cc
 
 number_is : (a b : ℕ) → (a == b) ≡ true → a ≡ b
 number_is a b e = grind (arith, nat_tests)
@@ -41,16 +39,6 @@ is_at_most a b e = grind (arith, nat_tests)
 
 some_same : {X : Type 0} (x y : X) → Some x ≡ Some y → x ≡ y
 some_same x y e = cc
-
--- what a map gives it gives of a value
-record IsMapped {X Y : Type 0} (f : X → Y) (o : Option X) (y : Y) : Type 0 where
-  value : X
-  is_some : o ≡ Some value
-  same : f value ≡ y
-
-mapped : {X Y : Type 0} (f : X → Y) (o : Option X) (y : Y) → option_map f o ≡ Some y → IsMapped f o y
-mapped f None y e = absurd cc
-mapped f (Some x) y e = let same : f x ≡ y = cc in record { value = x; is_some = refl; same = same }
 
 -- ---- numbers
 

@@ -19,8 +19,8 @@ use Rattle.ray_geometries.specs.declared.shapes.Shapes.TheVariants.{Triangles, B
 use Rattle.ray_geometries.specs.Contents.{IsGeometry, ShapesAreWithin, is_index_size, kind_of, kind_of_shapes, count_of, count_of_shapes, total_of}
 use Rattle.ray_geometries.specs.Storing.{bytes_of_words, kind_number, opaque_number, format_number, index_number, format_of, index_size_of, stored_shapes, element_bytes, geometry_bytes, geometry_words}
 use Rattle.ray_geometries.proofs.Restoring.{IsStoredBack-geometry}
-use Rattle.ray_serial.specs.Heads.{element_size, greatest_opacity, greatest_number, elements_size, geometry_size, is_head, is_whole, is_geometry, kind_named, format_named, index_size_named, elements_in, shapes_in, geometry_of, geometry_in}
-use Rattle.ray_serial.specs.Rows.{after_first, are_geometries, total_in, with_first, geometries_in}
+use Rattle.ray_form.specs.Heads.{element_size, greatest_opacity, greatest_number, elements_size, geometry_size, is_head, is_whole, is_geometry, kind_named, format_named, index_size_named, elements_in, shapes_in, geometry_of, geometry_in}
+use Rattle.ray_form.specs.Rows.{after_first, are_geometries, total_in, with_first, geometries_in}
 use Rattle.ray_serial.proofs.Words.{HasWords, head_bytes, head_back, length-head_bytes, after_head}
 
 -- ---- sizes

@@ -7,7 +7,7 @@ use Rattle.byteorder.specs.Endian.{little_bytes, little_number}
 use Rattle.byteorder.specs.Numbers.{little_number-reads_back, length-bytes_low_first}
 use Rattle.ray_bytes.specs.Fields.{long_at}
 use Rattle.ray_bytes.proofs.LittleBytes.{little_bytes-at}
-use Rattle.ray_serial.specs.Form.{device_text, form_text, handle_count_in, payload_in}
+use Rattle.ray_form.specs.Form.{device_text, form_text, handle_count_in, payload_in}
 use Rattle.ray_serial.specs.Meaning.{KeepsLines, deserialized_in, handle_at, handles_in}
 use Rattle.ray_serial.specs.Written.{long_bytes, form_size, form_bytes}
 use Rattle.ray_serial.proofs.Words.{AreBytes}

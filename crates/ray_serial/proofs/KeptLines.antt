@@ -5,7 +5,7 @@ use Rattle.std.specs.Cmp.Lexicographic.{pointwise, bytes_decides}
 use Rattle.std.proofs.lemmas.Bool.Decides.{nat_tests}
 use Rattle.ray_bytes.specs.Fields.{long_at}
 use Rattle.ray_bytes.specs.StructureSizes.{structure_size}
-use Rattle.ray_serial.specs.Form.{device_text, form_text, handle_count_in, payload_in, geometry_count, is_short, lacks, has_other_size, lacks_room, total_of_payload, has_other_structure_size, has_bad_element, line, broken_contents_line, payload_line, broken_payload_line, broken_line}
+use Rattle.ray_form.specs.Form.{device_text, form_text, handle_count_in, payload_in, geometry_count, is_short, lacks, has_other_size, lacks_room, total_of_payload, has_other_structure_size, has_bad_element, line, broken_contents_line, payload_line, broken_payload_line, broken_line}
 use Rattle.ray_serial.specs.Meaning.{KeepsLines}
 
 -- ---- one line

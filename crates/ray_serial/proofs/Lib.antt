@@ -1,5 +1,3 @@
-pub mod RowSteps
-pub mod Bytes
 pub mod Words
 pub mod GeometryBack
 pub mod GeometryAgain

@@ -21,11 +21,12 @@ use Rattle.ray_top.specs.declared.used.Used.{Used}
 use Rattle.ray_top.specs.Contents.{top_with}
 use Rattle.ray_top.specs.Instances.{InstanceValue, instance_from, matrix_from, flags_in, forces_both}
 use Rattle.ray_top.specs.InstanceReading.{bounds_in, bounds_kept, forced, limited, in_use}
-use Rattle.ray_serial.specs.InstanceBytes.{is_active, is_placed, is_instance, instance_parts, are_instances}
-use Rattle.ray_serial.specs.Form.{handle_count_in, payload_in, is_top_payload, flags_of_payload, instances_of_payload, has_bad_element}
+use Rattle.ray_form.specs.InstanceBytes.{is_active, is_placed, is_instance, instance_parts, are_instances}
+use Rattle.ray_form.specs.Form.{handle_count_in, payload_in, is_top_payload, flags_of_payload, instances_of_payload, has_bad_element}
 use Rattle.ray_serial.specs.Meaning.{IsForm, is_top_form}
 use Rattle.ray_serial.specs.TopMeaning.{with_reference, reference_in, instance_in, instances_in, linked, instance_linked, linked_at, top_in, IsLinkRule}
 use Rattle.ray_serial.proofs.KeptLines.{KeepsLines-unbroken}
+use Rattle.ray_serial.proofs.Words.{not_true}
 
 -- ---- one instance
 
@@ -71,10 +72,6 @@ linked_rule used from rule Unknown good e = rule_is X5 rule tt (some_rule X5 rul
 both : (a b : Bool) → (a && b) ≡ true → (a ≡ true) × (b ≡ true)
 both true b e = (refl, e)
 both false b e = absurd cc
-
-not_true : (a : Bool) → not a ≡ true → a ≡ false
-not_true true e = absurd cc
-not_true false e = refl
 
 placed_good : (handles : ℕ) (from : InstanceRecord) → is_placed handles from ≡ true → IsGood from
 unfolding is_placed

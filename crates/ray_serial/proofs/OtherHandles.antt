@@ -11,7 +11,7 @@ use Rattle.byteorder.specs.Endian.{little_bytes, little_number}
 use Rattle.byteorder.specs.Numbers.{little_number-reads_back, little_from-lt, length-bytes_low_first}
 use Rattle.ray_bytes.specs.Fields.{long_at}
 use Rattle.ray_bytes.specs.StructureSizes.{structure_size}
-use Rattle.ray_serial.specs.Form.{handle_count_in, payload_in, geometry_count, total_of_payload, has_bad_element}
+use Rattle.ray_form.specs.Form.{handle_count_in, payload_in, geometry_count, total_of_payload, has_bad_element}
 use Rattle.ray_serial.specs.Meaning.{KeepsLines, IsForm, deserialized_in, handle_at, handle_in}
 use Rattle.ray_serial.specs.Written.{long_bytes, form_bytes}
 use Rattle.ray_serial.specs.Replaced.{with_handles, IsReplaced}

@@ -1,6 +1,6 @@
 -- The steps of the loop that restores geometries.
-use Rattle.std.proofs.Common.{ℕ, suc, ◌≡◌, ◌<◌, ◌+◌, ◌-◌, ◌++◌, ◌==◌, Bool, true, false, List, [], ◌∷◌, length, Option, Some, None, option_map, refl, sym, ap, subst, ◌∙◌, arith, append_assoc, append-nil, length-append}
-use Rattle.std.specs.Prelude.{All, IsSome, if◌then◌else◌}
+use Rattle.std.proofs.Common.{ℕ, suc, ◌≡◌, ◌<◌, ◌+◌, ◌-◌, ◌++◌, ◌==◌, true, List, [], ◌∷◌, length, Option, Some, None, option_map, refl, sym, ap, subst, ◌∙◌, arith, append_assoc, append-nil, length-append}
+use Rattle.std.specs.Prelude.{All, IsSome}
 use Rattle.std.proofs.lemmas.List.Sums.{sum_by-append, sum_by-cons}
 use Rattle.ray_bytes.specs.Fields.{word_at}
 use Rattle.ray_flags.specs.declared.kind.Kind.{Kind}
@@ -9,9 +9,11 @@ use Rattle.ray_bottom.specs.Builders.{BuilderValue, builder_with}
 use Rattle.ray_geometries.specs.Contents.{HasRoom, kind_of, count_of, total_of}
 use Rattle.ray_geometries.proofs.Restoring.{AreStored-shapes}
 use Rattle.std.proofs.lemmas.List.Elements.{All-cons, All-tail}
-use Rattle.ray_serial.specs.Heads.{kind_named, format_named, index_size_named, count_in, is_whole, elements_in, shapes_in, geometry_of, geometry_in}
-use Rattle.ray_serial.specs.Rows.{after_first, with_first, geometries_in}
+use Rattle.ray_form.specs.Heads.{kind_named, format_named, index_size_named, count_in, is_whole, elements_in, shapes_in, geometry_of, geometry_in}
+use Rattle.ray_form.specs.Rows.{after_first, with_first, geometries_in}
 use Rattle.ray_serial.specs.Meaning.{with_flags, CanRestore}
+use Rattle.ray_primitives.proofs.Chosen.{if_some}
+use Rattle.ray_geometries.proofs.Restoring.{mapped}
 
 -- what is there, and what follows
 abbrev pub append_to : List Geometry → List Geometry → List Geometry
@@ -56,19 +58,6 @@ next i n rest row start now below h can =
     (ap (λ m. option_map (append_to now.contents.geometries) (geometries_in m rest)) (sym (fewer i n below)) ∙ (h.same ∙ can.read))
 
 -- ---- what is known of it
-
-if_some : {X : Type 0} (b : Bool) (o : Option X) (x : X) → (if b then o else None) ≡ Some x → (b ≡ true) × (o ≡ Some x)
-if_some true o x e = (refl, e)
-if_some false o x e = absurd cc
-
-record IsMapped {X Y : Type 0} (f : X → Y) (o : Option X) (y : Y) : Type 0 where
-  value : X
-  is_some : o ≡ Some value
-  same : f value ≡ y
-
-mapped : {X Y : Type 0} (f : X → Y) (o : Option X) (y : Y) → option_map f o ≡ Some y → IsMapped f o y
-mapped f None y e = absurd cc
-mapped f (Some x) y e = let same : f x ≡ y = cc in record { value = x; is_some = refl; same = same }
 
 pub record IsSaid (rest : List ℕ) (g : Geometry) : Type 0 where
   pub whole : is_whole rest ≡ true

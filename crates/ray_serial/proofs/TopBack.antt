@@ -26,10 +26,10 @@ use Rattle.ray_top.specs.declared.instance.Instance.{Instance}
 use Rattle.ray_top.specs.declared.used.Used.{Used}
 use Rattle.ray_top.specs.Contents.{ContentsValue, TopValue, IsTop, IsActive, has_both_fast}
 use Rattle.ray_top.specs.Instances.{InstanceValue, told_instance, matrix_from, flags_in, forces_both}
-use Rattle.ray_serial.specs.Heads.{element_size, count_in, elements_size, geometry_size, is_head, is_whole, is_geometry}
-use Rattle.ray_serial.specs.Rows.{after_first, row_total, geometries_in}
-use Rattle.ray_serial.specs.InstanceBytes.{is_active, is_placed, is_instance, are_instances}
-use Rattle.ray_serial.specs.Form.{is_top_payload, flags_of_payload, geometry_count, row_of, instances_of_payload, at_most, bottom_total, top_total, has_flags, total_of_payload, has_bad_element}
+use Rattle.ray_form.specs.Heads.{element_size, count_in, elements_size, geometry_size, is_head, is_whole, is_geometry}
+use Rattle.ray_form.specs.Rows.{after_first, row_total, geometries_in}
+use Rattle.ray_form.specs.InstanceBytes.{is_active, is_placed, is_instance, are_instances}
+use Rattle.ray_form.specs.Form.{is_top_payload, flags_of_payload, geometry_count, row_of, instances_of_payload, at_most, bottom_total, top_total, has_flags, total_of_payload, has_bad_element}
 use Rattle.ray_serial.specs.Meaning.{KeepsLines, IsForm}
 use Rattle.ray_serial.specs.TopWritten.{handles_of, handle_number, placed_bytes, instance_bytes, all_instance_bytes, top_head, top_payload, top_form, FitsTold}
 use Rattle.ray_serial.proofs.Words.{head_bytes, head_back, length-head_bytes}

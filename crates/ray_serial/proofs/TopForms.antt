@@ -23,14 +23,15 @@ use Rattle.ray_top.specs.declared.used.Used.{Used}
 use Rattle.ray_top.specs.Contents.{top_with, top_built, has_both_fast}
 use Rattle.ray_top.specs.Instances.{InstanceValue}
 use Rattle.ray_top.specs.InstanceReading.{referring, instance_read, updated_instance, instance_element}
-use Rattle.ray_serial.specs.Heads.{element_size, count_in, elements_size, geometry_size, is_head, is_whole, is_geometry}
-use Rattle.ray_serial.specs.Rows.{after_first, row_total}
-use Rattle.ray_serial.specs.InstanceBytes.{is_active, instance_parts}
-use Rattle.ray_serial.specs.Form.{handle_count_in, payload_in, is_top_payload, flags_of_payload, geometry_count, row_of, instances_of_payload, at_most, bottom_total, top_total, has_flags, total_of_payload}
+use Rattle.ray_form.specs.Heads.{element_size, count_in, elements_size, geometry_size, is_head, is_whole, is_geometry}
+use Rattle.ray_form.specs.Rows.{after_first, row_total}
+use Rattle.ray_form.specs.InstanceBytes.{is_active, instance_parts}
+use Rattle.ray_form.specs.Form.{handle_count_in, payload_in, is_top_payload, flags_of_payload, geometry_count, row_of, instances_of_payload, at_most, bottom_total, top_total, has_flags, total_of_payload}
 use Rattle.ray_serial.specs.Meaning.{KeepsLines, IsForm, is_top_form, handle_at}
 use Rattle.ray_serial.specs.TopMeaning.{with_reference, reference_in, instance_in, instances_in, linked, instance_linked, linked_at, top_in, not_zero, put_reference, put_part, put_parts}
-use Rattle.ray_serial.proofs.Words.{AreBytes, AreBytes-drop}
+use Rattle.ray_serial.proofs.Words.{AreBytes, AreBytes-drop, three, not_true}
 use Rattle.ray_serial.proofs.KeptLines.{KeepsLines-unbroken}
+use Rattle.ray_primitives.proofs.Chosen.{if_some}
 
 -- ---- parts one after the other
 
@@ -284,18 +285,9 @@ both : (a b : Bool) → (a && b) ≡ true → (a ≡ true) × (b ≡ true)
 both true b e = (refl, e)
 both false b e = absurd cc
 
-three : (a b c : Bool) → (a && b && c) ≡ true → (a ≡ true) × (b ≡ true) × (c ≡ true)
-three true true c e = (refl, refl, e)
-three true false c e = absurd cc
-three false b c e = absurd cc
-
 first_of_five : (a b c d e : Bool) → (a && b && c && d && e) ≡ true → a ≡ true
 first_of_five true b c d e p = refl
 first_of_five false b c d e p = absurd cc
-
-if_some : {X : Type 0} (b : Bool) (o : Option X) (x : X) → (if b then o else None) ≡ Some x → (b ≡ true) × (o ≡ Some x)
-if_some true o x e = (refl, e)
-if_some false o x e = absurd cc
 
 number_is : (a b : ℕ) → (a == b) ≡ true → a ≡ b
 number_is a b e = grind (arith, nat_tests)
@@ -305,10 +297,6 @@ is_below a b e = grind (arith, nat_tests)
 
 is_at_most : (a b : ℕ) → nat_le a b ≡ true → a ≤ b
 is_at_most a b e = grind (arith, nat_tests)
-
-not_true : (a : Bool) → not a ≡ true → a ≡ false
-not_true true e = absurd cc
-not_true false e = refl
 
 some_number : (a b : ℕ) → Some a ≡ Some b → a ≡ b
 some_number a b e = cc

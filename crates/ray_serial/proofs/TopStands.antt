@@ -21,8 +21,8 @@ use Rattle.ray_top.specs.declared.instance.Instance.{Instance}
 use Rattle.ray_top.specs.declared.used.Used.{Used}
 use Rattle.ray_top.specs.Contents.{TopValue, IsActive}
 use Rattle.ray_top.specs.Instances.{InstanceValue, told_instance}
-use Rattle.ray_serial.specs.InstanceBytes.{instance_parts}
-use Rattle.ray_serial.specs.Form.{instances_of_payload, is_top_payload, flags_of_payload}
+use Rattle.ray_form.specs.InstanceBytes.{instance_parts}
+use Rattle.ray_form.specs.Form.{instances_of_payload, is_top_payload, flags_of_payload}
 use Rattle.ray_serial.specs.Meaning.{handle_in}
 use Rattle.ray_serial.specs.TopMeaning.{with_reference, reference_in, referring_instance, instance_in, instances_in}
 use Rattle.ray_serial.specs.TopWritten.{with_handle, handles_of, handle_number, placed_bytes, instance_bytes, all_instance_bytes, top_payload, top_form, record_of, told_record, records_of, FitsTold}

@@ -1,5 +1,5 @@
 -- Words and long numbers that are written and read back, and the other way round.
-use Rattle.std.proofs.Common.{ℕ, suc, zero, ◌≡◌, ◌<◌, ◌≤◌, ◌+◌, ◌==◌, ◌&&◌, ◌^◌, ◌++◌, Bool, true, false, List, [], ◌∷◌, length, take, drop, slice_index, refl, sym, ◌∙◌, arith}
+use Rattle.std.proofs.Common.{not, ℕ, suc, zero, ◌≡◌, ◌<◌, ◌≤◌, ◌+◌, ◌==◌, ◌&&◌, ◌^◌, ◌++◌, Bool, true, false, List, [], ◌∷◌, length, take, drop, slice_index, refl, sym, ◌∙◌, arith}
 use Rattle.std.proofs.lemmas.List.{get_or-drop}
 use Rattle.std.proofs.lemmas.Bool.Decides.{nat_tests}
 use Rattle.byteorder.specs.Endian.{little_bytes, little_number}
@@ -7,7 +7,7 @@ use Rattle.byteorder.specs.Numbers.{little_number-reads_back}
 use Rattle.ray_bytes.specs.Fields.{word_at}
 use Rattle.ray_bytes.proofs.LittleBytes.{little_bytes-at}
 use Rattle.ray_geometries.specs.Storing.{bytes_of_words}
-use Rattle.ray_serial.specs.Heads.{has_zeros, count_in}
+use Rattle.ray_form.specs.Heads.{has_zeros, count_in}
 
 -- bytes are below 256
 pub record AreBytes (bytes : List ℕ) : Type 0 where
@@ -83,10 +83,14 @@ eight_again bytes fits long =
     (little_bytes-at 4 24 bytes _ fits.each (omega arith)
     (little_bytes-at 4 28 bytes _ fits.each (omega arith) refl)))))))
 
-three : (a b c : Bool) → (a && b && c) ≡ true → (a ≡ true) × (b ≡ true) × (c ≡ true)
+pub three : (a b c : Bool) → (a && b && c) ≡ true → (a ≡ true) × (b ≡ true) × (c ≡ true)
 three true true c e = (refl, refl, e)
 three true false c e = absurd cc
 three false b c e = absurd cc
+
+pub not_true : (a : Bool) → not a ≡ true → a ≡ false
+not_true true e = absurd cc
+not_true false e = refl
 
 number_is : (a b : ℕ) → (a == b) ≡ true → a ≡ b
 number_is a b e = grind (arith, nat_tests)

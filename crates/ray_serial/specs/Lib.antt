@@ -1,7 +1,3 @@
-pub mod Heads
-pub mod Rows
-pub mod InstanceBytes
-pub mod Form
 pub mod Meaning
 pub mod Written
 pub mod TopWritten

@@ -7,9 +7,9 @@ use Rattle.ray_geometries.specs.Contents as bottoms
 use Rattle.ray_geometries.specs.declared.geometry.Geometry.{Geometry}
 use Rattle.ray_flags.specs.declared.build_flags.BuildFlags.{BuildFlags}
 use Rattle.ray_flags.specs.declared.kind.Kind.{Kind}
-use Rattle.ray_serial.specs.declared.serial_fault.SerialFault.{SerialFault}
-use Rattle.ray_serial.specs.Rows.{geometries_in}
-use Rattle.ray_serial.specs.Form.{device_text, form_text, handle_count_in, payload_in, is_top_payload, flags_of_payload, geometry_count, row_of, lacks_room, total_of_payload, has_bad_element, broken_line}
+use Rattle.ray_form.specs.declared.serial_fault.SerialFault.{SerialFault}
+use Rattle.ray_form.specs.Rows.{geometries_in}
+use Rattle.ray_form.specs.Form.{device_text, form_text, handle_count_in, payload_in, is_top_payload, flags_of_payload, geometry_count, row_of, lacks_room, total_of_payload, has_bad_element, broken_line}
 
 -- ---- which bytes are a form
 

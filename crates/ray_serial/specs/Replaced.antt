@@ -1,7 +1,7 @@
 -- What a form with other handles stands for. (Own: the form; in Vulkan an application replaces the device addresses of bottom
 -- structures in serialized data before it is read.)
 use Rattle.std.specs.Prelude.{ℕ, ◌≡◌, List, slice_get}
-use Rattle.ray_serial.specs.Form.{payload_in}
+use Rattle.ray_form.specs.Form.{payload_in}
 use Rattle.ray_serial.specs.Meaning.{IsForm, deserialized_in, handle_in}
 use Rattle.ray_serial.specs.Written.{form_bytes}
 

@@ -1,7 +1,7 @@
 -- That a form stands for the contents of a top structure. (Own: the form.)
 use Rattle.std.specs.Prelude.{◌≡◌, true, List, ℕ}
 use Rattle.ray_top.specs.Contents.{ContentsValue}
-use Rattle.ray_serial.specs.Form.{payload_in, flags_of_payload}
+use Rattle.ray_form.specs.Form.{payload_in, flags_of_payload}
 use Rattle.ray_serial.specs.Meaning.{is_top_form}
 use Rattle.ray_serial.specs.TopMeaning.{instances_in}
 use Rattle.ray_serial.specs.TopWritten.{records_of}

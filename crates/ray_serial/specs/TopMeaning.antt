@@ -17,8 +17,8 @@ use Rattle.ray_top.specs.declared.used.Used.{Used}
 use Rattle.ray_top.specs.Contents.{TopValue, top_with}
 use Rattle.ray_top.specs.Instances.{InstanceValue}
 use Rattle.ray_top.specs.InstanceReading.{bounds_in, in_use}
-use Rattle.ray_serial.specs.InstanceBytes.{is_active, instance_parts}
-use Rattle.ray_serial.specs.Form.{payload_in, flags_of_payload, instances_of_payload}
+use Rattle.ray_form.specs.InstanceBytes.{is_active, instance_parts}
+use Rattle.ray_form.specs.Form.{payload_in, flags_of_payload, instances_of_payload}
 use Rattle.ray_serial.specs.Meaning.{handle_in}
 
 -- ---- the instances

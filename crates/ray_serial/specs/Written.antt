@@ -7,7 +7,7 @@ use Rattle.ray_geometries.specs.Contents as bottoms
 use Rattle.ray_geometries.specs.declared.geometry.Geometry.{Geometry}
 use Rattle.ray_geometries.specs.Storing.{payload_of}
 use Rattle.ray_flags.specs.declared.kind.Kind.{Kind}
-use Rattle.ray_serial.specs.Form.{device_text, form_text}
+use Rattle.ray_form.specs.Form.{device_text, form_text}
 
 -- numbers of 64 bits
 unfoldable pub long_bytes : List ℕ → List ℕ

@@ -1,5 +1,5 @@
 ghost use Rattle.std.specs.Prelude.{◌≡◌, length};
-ghost use Rattle.ray_serial.specs.Form.{handle_count_in};
+ghost use Rattle.ray_form.specs.Form.{handle_count_in};
 ghost use Rattle.ray_serial.specs.Meaning.{IsForm};
 ghost use Rattle.ray_serial.specs.Replaced.{with_handles, IsReplaced};
 

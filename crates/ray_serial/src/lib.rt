@@ -2,36 +2,29 @@
 //! stand and refused at its first fault.
 //!
 //! The layer above uses [`SerialView`], which contracts see as the bytes, a form: `open` says by
-//! `opened` of `specs/Meaning` which of the eight lines of `specs/Form` bytes break first, and
-//! takes no memory; `to_bottom` and `to_top` say by `bottom_in` and `top_in` which structure it
-//! stands for. [`serialize`] and [`serialize_top`] give `bottom_form` and `top_form` of the
-//! contents, which are forms that stand for them.
+//! `opened` of `specs/Meaning` which of the eight lines of `specs/Form` of `ray_form` bytes break
+//! first, and takes no memory; `to_bottom` and `to_top` say by `bottom_in` and `top_in` which
+//! structure it stands for. [`serialize`] and [`serialize_top`] give `bottom_form` and `top_form`
+//! of the contents, which are forms that stand for them.
 //!
-//! It stands on `ray_bottom` (the payload and back), `ray_top` (instances and how they are read),
-//! `ray_bytes` and `ray_flags`.
+//! It stands on `ray_form` (which bytes are a form, and its parts), `ray_bottom` (the payload and
+//! back), `ray_top` (instances and how they are read), `ray_bytes` and `ray_flags`.
 #![tactic(auto)]
 
 mod counting;
-mod fields;
-mod geometry;
 mod handles;
-mod instances;
 mod laws;
-mod lines;
 mod linking;
 mod restoring;
-mod rows;
-mod serial_fault;
-mod texts;
 mod top_writing;
 mod view;
 mod writing;
 
 pub use crate::counting::{handle_count, serialized_size_top};
 pub use crate::laws::replaced_law;
-pub use crate::serial_fault::SerialFault;
 pub use crate::top_writing::serialize_top;
 pub use crate::view::SerialView;
 pub use crate::writing::{serialize, serialized_size};
+pub use ray_form::SerialFault;
 pub use ray_top::BuildFault;
 pub use std::alloc::AllocError as NoMemory;

@@ -1,14 +1,13 @@
 ghost use Rattle.std.specs.Prelude.{◌≡◌, ◌++◌, true, OnOk, IfOk, IfErr, length};
 ghost use Rattle.ray_top.specs.Trees.{GivesTop};
-ghost use Rattle.ray_serial.specs.Form.{payload_in, instances_of_payload};
+ghost use Rattle.ray_form.specs.Form.{payload_in, instances_of_payload};
 ghost use Rattle.ray_serial.specs.Meaning.{IsForm, is_top_form, HasRoom};
 ghost use Rattle.ray_serial.specs.TopMeaning.{reference_in, not_zero, put_reference, put_part};
 ghost use Rattle.ray_serial.specs.TopMeaning.{put_parts, top_in, IsLinkRule};
 
-use crate::instances::record_of;
-use crate::lines::{flags_of_payload, instances_of_payload, payload_in};
 use crate::view::handle;
 use ray_bytes::{InstanceRecord, InstanceView};
+use ray_form::{flags_of_payload, instances_of_payload, payload_in, record_of};
 use ray_top::{BuildFault, Top, Used};
 use std::alloc::{AllocError as NoMemory, Global};
 use std::thread::Threads;

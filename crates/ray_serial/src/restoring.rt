@@ -3,13 +3,13 @@ ghost use Rattle.ray_bytes.specs.Fields.{word_at};
 ghost use Rattle.ray_bottom.specs.Builders.{bare, builder_with, IsNew};
 ghost use Rattle.ray_geometries.specs.Contents.{has_both_fast, HasRoom};
 ghost use Rattle.ray_bottom.specs.Trees.{without_tree};
-ghost use Rattle.ray_serial.specs.Heads.{kind_named, count_in, geometry_in};
-ghost use Rattle.ray_serial.specs.Rows.{geometries_in};
+ghost use Rattle.ray_form.specs.Heads.{kind_named, count_in, geometry_in};
+ghost use Rattle.ray_form.specs.Rows.{geometries_in};
 ghost use Rattle.ray_serial.specs.Meaning.{with_flags, CanRestore};
 
-use crate::geometry::{after_first, stored};
 use ray_bottom::{Bottom, Builder};
 use ray_flags::BuildFlags;
+use ray_form::{after_first, stored};
 use std::alloc::{AllocError as NoMemory, Global};
 use std::thread::Threads;
 
@@ -49,7 +49,7 @@ fn append_all(builder: &mut Builder<'_>, n: u32, row: &[u8]) -> Result<(), NoMem
 }
 
 // Adds the geometry that begins here.
-#[tactic(auto, unfolding(crate::specs::Heads::geometry_in, crate::specs::Heads::shapes_in))]
+#[tactic(auto, unfolding(ray_form::specs::Heads::geometry_in, ray_form::specs::Heads::shapes_in))]
 fn append(builder: &mut Builder<'_>, rest: &[u8]) -> Result<(), NoMemory>
     requires anew { IsNew builder.old }
     requires room { HasRoom (kind_named (word_at rest.now 0)) (count_in rest.now)

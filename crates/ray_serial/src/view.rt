@@ -1,21 +1,19 @@
 ghost use Rattle.std.specs.Prelude.{◌≡◌, Some, IfOk, IfErr, false, true};
 ghost use Rattle.ray_bottom.specs.Trees.{without_tree};
 ghost use Rattle.ray_top.specs.Trees.{GivesTop};
-ghost use Rattle.ray_serial.specs.Form.{payload_in};
+ghost use Rattle.ray_form.specs.Form.{payload_in};
 ghost use Rattle.ray_serial.specs.TopMeaning.{top_in, IsLinkRule};
 ghost use Rattle.ray_serial.specs.Meaning.{IsForm, opened, is_top_form, deserialized_in};
 ghost use Rattle.ray_serial.specs.Meaning.{handle_in, bottom_in, HasRoom};
 ghost use Rattle.ray_serial.specs.Written.{bottom_form};
 
-use crate::fields::long;
-use crate::lines::{
-    broken_line, flags_of_payload, geometry_count, handle_count_in, is_top_payload, payload_in,
-    row_of,
-};
 use crate::linking::top_of;
 use crate::restoring::restored;
-use crate::serial_fault::SerialFault;
 use ray_bottom::Bottom;
+use ray_form::{
+    SerialFault, broken_line, flags_of_payload, geometry_count, handle_count_in, is_top_payload,
+    long, payload_in, row_of,
+};
 use ray_top::{BuildFault, Top, Used};
 use std::alloc::{AllocError as NoMemory, Global};
 use std::marker::Model;
@@ -129,7 +127,7 @@ fn bottom_of<R: Threads + Sync>(rt: &R, alloc: Global, bytes: &[u8]) -> Result<B
 }
 
 // A handle by its number.
-#[tactic(auto, unfolding(crate::specs::Meaning::handle_at, crate::specs::Form::lacks_room))]
+#[tactic(auto, unfolding(crate::specs::Meaning::handle_at, ray_form::specs::Form::lacks_room))]
 pub(crate) fn handle(bytes: &[u8], i: u64) -> Option<u64>
     requires { HasRoom bytes.now }
     ensures { result ≡ handle_in bytes.now i }

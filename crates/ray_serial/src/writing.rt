@@ -1,14 +1,14 @@
 ghost use Rattle.std.specs.Prelude.{◌≡◌, ◌<◌, ◌≤◌, ◌^◌, ◌++◌, Some, [], IfOk, OnOk, length};
 ghost use Rattle.ray_geometries.specs.Storing.{kind_number};
 ghost use Rattle.ray_bottom.specs.Trees.{without_tree};
-ghost use Rattle.ray_serial.specs.Heads.{element_size};
+ghost use Rattle.ray_form.specs.Heads.{element_size};
 ghost use Rattle.ray_serial.specs.Meaning.{IsForm, bottom_in};
 ghost use Rattle.ray_serial.specs.Written.{long_bytes, form_size, form_bytes, bottom_form, AreOf};
 
-use crate::texts::{DEVICE, FORM};
 use ray_bottom::Bottom;
 use ray_bytes::sizes_of;
 use ray_flags::Kind;
+use ray_form::{DEVICE, FORM};
 use ray_geom::Steps;
 use std::alloc::{AllocError as NoMemory, Global};
 use std::marker::Brand;

@@ -18,7 +18,7 @@ use Rattle.ray_tree.specs.Shapes.{node_at, levels}
 use Rattle.ray_tree.specs.Trees.{TreeValue, shape_at, box_at, item_box, boxes_in, times, active, TreeOver}
 use Rattle.ray_tree.specs.Local.{IsActive, IsFit, IsLocal, AreLocal}
 use Rattle.ray_tree.specs.Plans.{Plan, Few, Both, size, places_of, label, halves}
-use Rattle.ray_tree.proofs.Spelled.{shape_of_spell}
+use Rattle.ray_tree.proofs.Spelled.{shape_of_spell, levels-label}
 use Rattle.ray_tree.proofs.Halved.{halved}
 use Rattle.ray_tree.proofs.Median.{median, once-most, order-few}
 use Rattle.ray_tree.proofs.Counting.{has_items, either}
@@ -28,8 +28,9 @@ use Rattle.ray_stated.specs.declared.stored.StoredNode.{StoredNode}
 use Rattle.ray_stated.specs.declared.tree_fault.TreeFault.{TreeFault}
 use Rattle.ray_stated.specs.declared.tree_fault.TreeFault.TheVariants.{NotTree, NoMemory}
 use Rattle.ray_stated.specs.Order.{stated_order}
-use Rattle.ray_stated.specs.Stated.{no_box, leaf_box, halved_tree}
-use Rattle.ray_stated.specs.Stored.{stored_all, height, IsPreorder, IsEmpty, IsRooted, IsCarried}
+use Rattle.ray_tree.specs.Trees.{no_box}
+use Rattle.ray_stated.specs.Stated.{leaf_box, halved_tree}
+use Rattle.ray_stated.specs.Stored.{stored_all, IsPreorder, IsEmpty, IsRooted, IsCarried}
 use Rattle.ray_stated.specs.Carried.{read_as, in_preorder, all_below, each_once, due_box, all_due, is_tree, carried, IsRead, StatedIsCarried, IsReadBack}
 use Rattle.ray_stated.proofs.LeafBoxes.{leaf_least}
 use Rattle.ray_stated.proofs.Numbers.{holds_of}
@@ -145,12 +146,6 @@ module _ (stored : List StoredNode) (order : List ℕ) (items : List (Option Box
         ap (λ b. if b then Some (read_as stored order) else None) (tree_from (readable stored order items t h))
         ∙ ap (λ (u : TreeValue). Some u) (sym (carried_is stored order items t h)),
   )
-
--- no way down is longer than the plan is high
-levels-label : (at first : ℕ) (p : Plan) → levels (label at first p) ≡ height p
-levels-label at first (Few count) = refl
-levels-label at first (Both l r) =
-    ap₂ (λ (a b : ℕ). max a b + 1) (levels-label (at + 1) first l) (levels-label ((at + 1) + size l) (first + places_of l) r)
 
 low_by : (t : TreeValue) → IsPreorder t.nodes (length t.order) → levels (shape_at t 0) ≤ 96
 low_by t (IsEmpty none empty) = (median t.nodes 0 none (omega arith)).low

@@ -9,7 +9,8 @@ use Rattle.ray_geom.specs.LeastBoxes.{HoldsBoxes, IsLeast, box_of_boxes}
 use Rattle.ray_geom.proofs.LeastBoxes.{IsLeastOf-boxes}
 use Rattle.ray_tree.specs.Trees.{item_box, boxes_of, boxes_in, active}
 use Rattle.ray_tree.specs.Local.{IsActive}
-use Rattle.ray_stated.specs.Stated.{no_box, leaf_box}
+use Rattle.ray_tree.specs.Trees.{no_box}
+use Rattle.ray_stated.specs.Stated.{leaf_box}
 
 -- active items have boxes
 some_box : (items : List (Option BoxValue)) (ps : List ℕ) → 0 < length ps → All (IsActive items) ps → boxes_of items ps ≡ [] → ⊥

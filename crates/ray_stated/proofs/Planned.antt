@@ -16,7 +16,8 @@ use Rattle.ray_tree.proofs.Median.{order-few, once-most, median}
 use Rattle.ray_tree.proofs.Counting.{either, has_items}
 use Rattle.ray_tree.proofs.Locals.{tree_over}
 use Rattle.ray_tree.proofs.LeastLists.{same_least}
-use Rattle.ray_stated.specs.Stated.{no_box, root_box, node_boxes, planned_tree, halved_tree}
+use Rattle.ray_tree.specs.Trees.{no_box}
+use Rattle.ray_stated.specs.Stated.{root_box, node_boxes, planned_tree, halved_tree}
 use Rattle.ray_stated.proofs.LeafBoxes.{leaf_least}
 
 pub length-node_boxes : (items : List (Option BoxValue)) (order : List ℕ) (first : ℕ) (p : Plan) → length (node_boxes items order first p) ≡ size p

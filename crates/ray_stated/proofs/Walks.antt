@@ -8,10 +8,10 @@ use Rattle.std.proofs.lemmas.Bool.{eqb-true, leb-true, eq-eqb, le-leb, and_from,
 use Rattle.ray_tree.specs.declared.node.Node.{Node}
 use Rattle.ray_tree.specs.declared.node.Node.TheVariants.{Leaf, Inner}
 use Rattle.ray_tree.specs.Shapes.{node_at}
-use Rattle.ray_tree.specs.Plans.{Plan, Few, Both, size, places_of, spell, AreSmall}
+use Rattle.ray_tree.specs.Plans.{Plan, Few, Both, size, places_of, spell, AreSmall, height_of}
 use Rattle.ray_tree.proofs.Spelled.{size-some, length-spell}
 use Rattle.ray_stated.specs.declared.walk.Ends.{Ends}
-use Rattle.ray_stated.specs.Stored.{height, IsSpelled, IsPreorder, IsEmpty, IsRooted}
+use Rattle.ray_stated.specs.Stored.{IsSpelled, IsPreorder, IsEmpty, IsRooted}
 use Rattle.ray_stated.specs.Carried.{ends, after_leaf, after_left, after_node, walked, are_all, in_preorder}
 
 pub walked_zero : (nodes : List Node) (at place : ℕ) → walked zero nodes at place ≡ None
@@ -55,7 +55,7 @@ leaf_ends at place count some few =
     (and_from (place == place) (nat_le 1 count && nat_le count 4) (eq-eqb place place refl)
     (and_from (nat_le 1 count) (nat_le count 4) (le-leb 1 count (omega arith)) (le-leb count 4 few)))
 
-pub walk_ends : (k : ℕ) (p : Plan) (nodes : List Node) (at place : ℕ) (rest : List Node) → height p ≤ k → AreSmall p
+pub walk_ends : (k : ℕ) (p : Plan) (nodes : List Node) (at place : ℕ) (rest : List Node) → height_of p ≤ k → AreSmall p
     → drop at nodes ≡ spell at place p ++ rest → walked k nodes at place ≡ Some (ends (at + size p) (place + places_of p))
 walk_ends zero (Few count) nodes at place rest low small is = absurd (omega arith)
 walk_ends zero (Both l r) nodes at place rest low small is = absurd (omega arith)
@@ -86,7 +86,7 @@ walk_ends (suc k) (Both l r) nodes at place rest low small is =
 -- where it finds an end, a plan is spelled there
 pub record IsFound (nodes : List Node) (k at place : ℕ) (e : Ends) : Type 0 where
   pub plan : Plan
-  pub low : height plan ≤ k
+  pub low : height_of plan ≤ k
   pub small : AreSmall plan
   pub nodes_are : drop at nodes ≡ spell at place plan ++ drop e.node nodes
   pub node_is : e.node ≡ at + size plan

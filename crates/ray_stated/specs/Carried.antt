@@ -13,7 +13,8 @@ use Rattle.ray_stated.specs.declared.stored.StoredNode.{StoredNode}
 use Rattle.ray_stated.specs.declared.walk.Ends.{Ends}
 use Rattle.ray_stated.specs.declared.tree_fault.TreeFault.{TreeFault}
 use Rattle.ray_stated.specs.declared.tree_fault.TreeFault.TheVariants.{NotTree, NoMemory}
-use Rattle.ray_stated.specs.Stated.{no_box, leaf_box, stated_tree}
+use Rattle.ray_tree.specs.Trees.{no_box}
+use Rattle.ray_stated.specs.Stated.{leaf_box, stated_tree}
 use Rattle.ray_stated.specs.Stored.{stored_all, IsCarried}
 
 -- the node that is stored under a number

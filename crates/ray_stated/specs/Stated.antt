@@ -3,13 +3,9 @@ use Rattle.std.specs.Prelude.{◌+◌, ◌++◌, ℕ, pos, zero, suc, Option, Li
 use Rattle.ray_geom.specs.Vector.{vec3}
 use Rattle.ray_geom.specs.Boxes.{BoxValue, box_value}
 use Rattle.ray_geom.specs.LeastBoxes.{box_of_boxes, union_of}
-use Rattle.ray_tree.specs.Trees.{TreeValue, tree_value, boxes_in}
+use Rattle.ray_tree.specs.Trees.{TreeValue, tree_value, boxes_in, no_box}
 use Rattle.ray_tree.specs.Plans.{Plan, Few, Both, places_of, spell, halves}
 use Rattle.ray_stated.specs.Order.{stated_order}
-
--- what stands for a box where there is none
-abbrev pub no_box : BoxValue
-no_box = box_value (vec3 (pos 0) (pos 0) (pos 0)) (vec3 (pos 0) (pos 0) (pos 0))
 
 -- the least box of the items at the places of a leaf
 abbrev pub leaf_box : List (Option BoxValue) → List ℕ → ℕ → ℕ → BoxValue

@@ -5,7 +5,7 @@ use Rattle.ray_geom.specs.Boxes.{BoxValue}
 use Rattle.ray_tree.specs.declared.node.Node.{Node}
 use Rattle.ray_tree.specs.declared.node.Node.TheVariants.{Leaf, Inner}
 use Rattle.ray_tree.specs.Trees.{TreeValue, TreeOver}
-use Rattle.ray_tree.specs.Plans.{Plan, Few, Both, places_of, spell, AreSmall}
+use Rattle.ray_tree.specs.Plans.{Plan, Few, Both, places_of, spell, AreSmall, height_of}
 use Rattle.ray_stated.specs.declared.stored.StoredNode.{StoredNode}
 
 -- a node with its box as it is stored: of a leaf how many items it has and the place of the first one, of an inner
@@ -20,16 +20,11 @@ stored_all [] boxes = []
 stored_all (node ∷ nodes) [] = []
 stored_all (node ∷ nodes) (box ∷ boxes) = stored_of node box ∷ stored_all nodes boxes
 
--- how many nodes the longest way down has
-abbrev pub height : Plan → ℕ
-height (Few count) = 1
-height (Both left right) = max (height left) (height right) + 1
-
 -- nodes are in preorder, their leaves' places following each other: they spell a plan over so many places, of leaves
 -- of 1 to 4 and at most 96 levels (own)
 pub record IsSpelled (nodes : List Node) (places : ℕ) : Type 0 where
   pub plan : Plan
-  pub low : height plan ≤ 96
+  pub low : height_of plan ≤ 96
   pub small : AreSmall plan
   pub nodes_are : nodes ≡ spell 0 0 plan
   pub full : places_of plan ≡ places

@@ -16,3 +16,5 @@ pub mod Nested
 pub mod Tips
 pub mod OneItem
 pub mod Rooted
+pub mod LeastOver
+mod ActiveItems

@@ -2,13 +2,12 @@
 use Rattle.std.proofs.Common.{◌≡◌, ◌∙◌, ◌^◌, ◌≤◌, ℕ, zero, suc, List, [], length, replicate, sym, ap, subst, arith}
 use Rattle.std.proofs.lemmas.Bool.Decides.{nat_tests}
 use Rattle.std.proofs.lemmas.Simd.{length-replicate}
-use Rattle.std.specs.Prelude.{pos, is_some, Option}
+use Rattle.std.specs.Prelude.{is_some, Option}
 use Rattle.std.proofs.lemmas.List.Sums.{count_by-le-length}
-use Rattle.ray_geom.specs.Vector.{vec3}
-use Rattle.ray_geom.specs.Boxes.{BoxValue, box_value}
+use Rattle.ray_geom.specs.Boxes.{BoxValue}
 use Rattle.ray_tree.specs.declared.node.Node.{Node}
 use Rattle.ray_tree.specs.Shapes.{Gone, shape_in, inside, visits, holds, AreFew, levels, AreHalves}
-use Rattle.ray_tree.specs.Trees.{tree_value, times, active, IsShape}
+use Rattle.ray_tree.specs.Trees.{tree_value, times, active, IsShape, no_box}
 use Rattle.ray_tree.specs.Local.{AreFit}
 use Rattle.ray_tree.specs.Plans.{halves, median_nodes, AreRising}
 use Rattle.ray_tree.proofs.Under.{shape_zero}
@@ -56,10 +55,6 @@ median nodes (suc n) is le =
       even = subst AreHalves (sym e) (h.even 0 0);
       low = omega (arith, ap levels e, h.low 0 0);
     }
-
--- any box
-no_box : BoxValue
-no_box = box_value (vec3 (pos 0) (pos 0) (pos 0)) (vec3 (pos 0) (pos 0) (pos 0))
 
 -- what its nodes name is there
 pub median-fit : (nodes : List Node) (count : ℕ) (order : List ℕ) → IsMedian nodes count → length order ≡ count → ((q : ℕ) → times q order ≤ 1) → AreFit (length order) nodes

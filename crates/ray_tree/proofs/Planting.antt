@@ -29,7 +29,7 @@ set_middle (b ∷ before) x y after = ap (λ l. b ∷ l) (set_middle before x y 
 regrouped : (n0 : List Node) (x : Node) (ls rs : List Node) → ((n0 ++ (x ∷ [])) ++ ls) ++ rs ≡ n0 ++ (x ∷ (ls ++ rs))
 regrouped n0 x ls rs = simp append_assoc
 
-planted_both : (n0 n1 n2 n3 : List Node) (x : Node) (first half : ℕ) (l r : Plan)
+pub planted_both : (n0 n1 n2 n3 : List Node) (x : Node) (first half : ℕ) (l r : Plan)
     → n1 ≡ n0 ++ (x ∷ []) → n2 ≡ n1 ++ spell (length n1) first l → n3 ≡ n2 ++ spell (length n2) (first + half) r → places_of l ≡ half
     → set n3 (length n0) (Inner (length n0 + 1) (length n2)) ≡ n0 ++ spell (length n0) first (Both l r)
 planted_both n0 n1 n2 n3 x first half l r a b c full =

@@ -1,12 +1,12 @@
 -- What is from the root down of nodes that a plan spells.
-use Rattle.std.proofs.Common.{◌≡◌, ◌∙◌, ◌+◌, ◌<◌, ◌≤◌, ◌++◌, ℕ, zero, suc, List, [], ◌∷◌, length, get_or, refl, sym, ap, ap₂, subst, arith, append_assoc, append-nil, length-append}
+use Rattle.std.proofs.Common.{◌≡◌, ◌∙◌, ◌+◌, ◌<◌, ◌≤◌, ◌++◌, max, ℕ, zero, suc, List, [], ◌∷◌, length, get_or, refl, sym, ap, ap₂, subst, arith, append_assoc, append-nil, length-append}
 use Rattle.std.proofs.lemmas.Bool.Decides.{nat_tests}
 use Rattle.ray_geom.specs.Boxes.{BoxValue}
 use Rattle.ray_tree.specs.declared.node.Node.{Node}
 use Rattle.ray_tree.specs.declared.node.Node.TheVariants.{Leaf, Inner}
-use Rattle.ray_tree.specs.Shapes.{Fork, node_at, grow, shape_in, inside, gone, visits, holds, AreFew, places}
+use Rattle.ray_tree.specs.Shapes.{Fork, node_at, grow, levels, shape_in, inside, gone, visits, holds, AreFew, places}
 use Rattle.ray_tree.specs.Trees.{tree_value, IsShape, times}
-use Rattle.ray_tree.specs.Plans.{Plan, Few, Both, size, places_of, spell, label, AreSmall}
+use Rattle.ray_tree.specs.Plans.{Plan, Few, Both, size, places_of, height_of, spell, label, AreSmall}
 use Rattle.ray_tree.proofs.Under.{shape_suc}
 
 pub size-some : (p : Plan) → 0 < size p
@@ -104,3 +104,9 @@ shape_of_plan nodes boxes order p is full small boxed once =
       boxed = boxed;
       items_once = once;
     }
+
+-- no way down is longer than the plan is high
+pub levels-label : (at first : ℕ) (p : Plan) → levels (label at first p) ≡ height_of p
+levels-label at first (Few count) = refl
+levels-label at first (Both l r) =
+    ap₂ (λ (a b : ℕ). max a b + 1) (levels-label (at + 1) first l) (levels-label ((at + 1) + size l) (first + places_of l) r)

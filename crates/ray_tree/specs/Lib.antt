@@ -5,3 +5,4 @@ pub mod Plans
 pub mod Entries
 pub mod Nesting
 pub mod Waits
+pub mod NodeBoxes

@@ -1,6 +1,6 @@
 -- Trees without numbers, and how they are numbered: nodes one after the other, a left child right after its
 -- parent. The builders make their nodes so; no clause of a public call speaks of it. (Own.)
-use Rattle.std.specs.Prelude.{◌≡◌, ◌+◌, ◌-◌, ◌/◌, ◌<◌, ◌≤◌, ℕ, zero, suc, nat_le, if◌then◌else◌, List, [], ◌∷◌, ◌++◌, length}
+use Rattle.std.specs.Prelude.{◌≡◌, ◌+◌, ◌-◌, ◌/◌, ◌<◌, ◌≤◌, ℕ, zero, suc, nat_le, if◌then◌else◌, List, [], ◌∷◌, ◌++◌, length, max}
 use Rattle.ray_tree.specs.declared.node.Node.{Node}
 use Rattle.ray_tree.specs.declared.node.Node.TheVariants.{Leaf, Inner}
 use Rattle.ray_tree.specs.Shapes.{Shape, Tip, Fork, node_at}
@@ -19,6 +19,11 @@ size (Both left right) = 1 + (size left + size right)
 abbrev pub places_of : Plan → ℕ
 places_of (Few count) = count
 places_of (Both left right) = places_of left + places_of right
+
+-- how many levels of nodes it has
+abbrev pub height_of : Plan → ℕ
+height_of (Few count) = 1
+height_of (Both left right) = max (height_of left) (height_of right) + 1
 
 -- its nodes from number `at` on, over the places from `first` on
 abbrev pub spell : ℕ → ℕ → Plan → List Node

@@ -1,8 +1,9 @@
 -- Trees over items, some of them inactive: each active item stands in one leaf, and each box is the
 -- least box of the items below it. (Own.)
-use Rattle.std.specs.Prelude.{◌≡◌, ◌<◌, ◌≤◌, ◌==◌, ◌++◌, ℕ, if◌then◌else◌, Option, None, is_some, List, [], ◌∷◌, length, take, drop, slice_index_or, count_by}
+use Rattle.std.specs.Prelude.{pos, ◌≡◌, ◌<◌, ◌≤◌, ◌==◌, ◌++◌, ℕ, if◌then◌else◌, Option, None, is_some, List, [], ◌∷◌, length, take, drop, slice_index_or, count_by}
 use Rattle.std.specs.Option.{option_to_list}
-use Rattle.ray_geom.specs.Boxes.{BoxValue}
+use Rattle.ray_geom.specs.Boxes.{BoxValue, box_value}
+use Rattle.ray_geom.specs.Vector.{vec3}
 use Rattle.ray_geom.specs.LeastBoxes.{HoldsBoxes, IsLeast}
 use Rattle.ray_tree.specs.declared.node.Node.{Node}
 use Rattle.ray_tree.specs.Shapes.{Shape, Gone, Tip, Fork, shape_in, gone, visits, holds, inside, AreFew, tips}
@@ -29,6 +30,10 @@ leaves_of tree = tips (shape_at tree 0)
 abbrev pub item_at : TreeValue → ℕ → ℕ
 item_at tree at = slice_index_or tree.order at 0
 
+-- a box to stand for one that is missing
+abbrev pub no_box : BoxValue
+no_box = box_value (vec3 (pos 0) (pos 0) (pos 0)) (vec3 (pos 0) (pos 0) (pos 0))
+
 -- the box of a node, where d stands for one that is missing
 abbrev pub box_at : TreeValue → BoxValue → ℕ → BoxValue
 box_at tree d n = slice_index_or tree.boxes n d
@@ -48,6 +53,12 @@ active_of items = count_by is_some items
 -- how often a number stands in a list
 abbrev pub times : ℕ → List ℕ → ℕ
 times p numbers = count_by (λ q. q == p) numbers
+
+-- the items of the leaves from a node down, from the leftmost leaf on
+abbrev pub items_below : List ℕ → Shape → List ℕ
+items_below order Gone = []
+items_below order (Tip node first count) = take count (drop first order)
+items_below order (Fork node left right) = items_below order left ++ items_below order right
 
 -- the boxes of these items, in order
 abbrev pub boxes_of : List (Option BoxValue) → List ℕ → List BoxValue

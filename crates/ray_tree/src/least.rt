@@ -29,8 +29,8 @@ fn least_of(items: &[Option<Box3>], numbers: &[u32]) -> Box3
     least
 }
 
-// The least box of the items of a leaf.
-fn least_in(items: &[Option<Box3>], order: &[u32], first: usize, count: usize) -> Box3
+/// The least box of the items of a leaf, which are those of so many places from the first on. (Own.)
+pub fn least_in(items: &[Option<Box3>], order: &[u32], first: usize, count: usize) -> Box3
     requires some { 0 < count }
     requires within { first + count ≤ length order.now }
     requires active { All (IsActive items.now) order.now }

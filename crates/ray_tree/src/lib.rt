@@ -10,6 +10,9 @@
 //! - [`nesting_law`], [`leaf_law`], [`level_law`] and [`root_law`] say how its nodes stand to each
 //!   other and to the items.
 //!
+//! For other builders there are [`least_in`], the least box of a leaf, and [`has_items`] with
+//! [`count_active`], whether numbers are those of the active items.
+//!
 //! What hangs on the nodes alone is `IsShape`, which [`Tree::shape`] gives of every tree, and
 //! `shape_at` of `specs/Trees` is what is from a node down; `proofs/NodeLaws` has its laws at one
 //! node. Want of memory is the only error.
@@ -30,8 +33,10 @@ mod over;
 mod plant;
 mod tree;
 
+pub use crate::activity::{count_active, has_items};
 pub use crate::build::{build_median, build_over};
 pub use crate::laws::{leaf_law, level_law, nesting_law, root_law};
+pub use crate::least::least_in;
 pub use crate::node::Node;
 pub use crate::over::is_over;
 pub use crate::tree::Tree;

@@ -2,7 +2,7 @@
 ghost use Rattle.std.specs.Prelude.{◌↔◌, IsTrue};
 ghost use Rattle.ray_tree.specs.Trees.{IsShape, TreeOver, tree_value};
 
-use crate::activity::has_items;
+use crate::activity::{count_active, has_items};
 use crate::least::are_least;
 use crate::node::Node;
 use ray_geom::Box3;
@@ -13,7 +13,7 @@ pub fn is_over(nodes: &[Node], boxes: &[Box3], order: &[u32], items: &[Option<Bo
     requires { IsShape (tree_value nodes.now boxes.now order.now) }
     ensures { IsTrue result ↔ TreeOver (tree_value nodes.now boxes.now order.now) items.now }
 {
-    if !has_items(order, items) {
+    if !has_items(order, items, count_active(items)) {
         return false;
     }
     are_least(items, order, boxes, nodes)

@@ -7,7 +7,7 @@ use Rattle.std.proofs.lemmas.List.{get_or-map, length-map}
 use Rattle.std.proofs.lemmas.List.Sorted.{IsPermutation-trans, IsPermutation-sym, sum_by-IsPermutation, Contains-permutation}
 use Rattle.ray_tree.specs.declared.node.Node.{Node}
 use Rattle.ray_tree.specs.Trees.{shape_at, item_box}
-use Rattle.ray_morton.specs.KeyOrder.{items_below}
+use Rattle.ray_tree.specs.Trees.{items_below}
 use Rattle.ray_geometries.specs.Contents.{ContentsValue, bounds_of}
 use Rattle.ray_bottom.specs.Slots.{structure_at}
 use Rattle.ray_bottom.specs.Trees as bottoms
@@ -19,20 +19,22 @@ use Rattle.ray_query.specs.declared.decision.Decision.{Decision}
 use Rattle.ray_query.specs.Play.{play, start}
 use Rattle.ray_nearest.specs.Parts.{scene_of}
 use Rattle.ray_nearest.specs.Answer.{answer_in}
-use Rattle.ray_nearest.specs.KeyOrder.{AreApart, has_key, in_key_order}
+use Rattle.ray_query.specs.KeyOrder.{AreApart, has_key, in_key_order}
 use Rattle.ray_nearest.specs.Scene.{found_in as found_in_scene}
-use Rattle.ray_nearest.proofs.Members.{Member-from_Contains, Contains-from_Member}
-use Rattle.ray_nearest.proofs.Rising.{in_key_order-same}
-use Rattle.ray_walk.specs.Candidates.{active_instance, found_in, found_in_instance, joined, candidates, trace_answer}
-use Rattle.ray_walk.specs.Standing.{IsStanding, structures_in}
+use Rattle.ray_query.proofs.Members.{Member-from_Contains, Contains-from_Member}
+use Rattle.ray_query.proofs.Rising.{in_key_order-same}
+use Rattle.ray_candidates.specs.Candidates.{active_instance, found_in, found_in_instance, joined, candidates, trace_answer}
+use Rattle.ray_candidates.specs.Standing.{IsStanding, structures_in}
 use Rattle.ray_walk.specs.Sound.{IsWalkable}
-use Rattle.ray_walk.specs.Traced.{Traced, Placement, parts_of, traced_scene, placement_at, placement_of, ref, root_in, roots_by, top_ref}
-use Rattle.ray_walk.proofs.Apart.{AreApart-found}
-use Rattle.ray_walk.proofs.Placing.{All-at}
+use Rattle.ray_walk.specs.Traced.{Traced, parts_of, traced_scene, placement_at, placement_of, ref, root_in, roots_by, top_ref}
+use Rattle.ray_candidates.specs.Placements.{Placement}
+use Rattle.ray_candidates.proofs.Apart.{AreApart-found}
+use Rattle.ray_candidates.proofs.Placing.{All-at}
 use Rattle.ray_walk.proofs.WellPlaced.{is_placement}
-use Rattle.ray_walk.proofs.Spread.{joined-spread, joined-permuted}
+use Rattle.ray_candidates.proofs.Spread.{joined-spread, joined-permuted}
 use Rattle.ray_walk.proofs.Every.{all, of_instance, top-every}
-use Rattle.ray_walk.proofs.Everywhere.{instance-found, no-root, no_bounds, root-gives, tree-spread}
+use Rattle.ray_walk.proofs.Everywhere.{instance-found, no-root, no_bounds, root-gives}
+use Rattle.ray_candidates.proofs.StructureFound.{tree-spread}
 use Rattle.ray_walk.proofs.Walking.{are-parts}
 
 at-get : {X : Type 0} (xs : List X) (k : ℕ) (d : X) → k < length xs → slice_get xs k ≡ Some (get_or xs k d)

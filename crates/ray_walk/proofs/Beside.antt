@@ -15,23 +15,24 @@ use Rattle.ray_window.specs.Windows.{window_of}
 use Rattle.ray_window.proofs.Windows.{window-holds}
 use Rattle.ray_primitives.specs.Primitives.{TriangleValue, box_of_triangle}
 use Rattle.ray_geometries.specs.declared.geometry.Geometry.{Geometry}
-use Rattle.ray_bottom.specs.declared.leaf_item.ItemPoints.{ItemPoints}
-use Rattle.ray_bottom.specs.declared.leaf_item.ItemPoints.TheVariants.{Triangle, Aabb, Nothing}
-use Rattle.ray_bottom.specs.declared.prim_place.PrimPlace.{PrimPlace}
+use Rattle.ray_leaves.specs.declared.leaf_item.ItemPoints.{ItemPoints}
+use Rattle.ray_leaves.specs.declared.leaf_item.ItemPoints.TheVariants.{Triangle, Aabb, Nothing}
+use Rattle.ray_leaves.specs.declared.prim_place.PrimPlace.{PrimPlace}
 use Rattle.ray_geometries.specs.declared.shapes.Shapes.{Shapes}
 use Rattle.ray_geometries.specs.declared.shapes.Shapes.TheVariants.{Triangles, Boxes}
-use Rattle.ray_bottom.specs.LeafItems.{any_points, points_at, points_in, points_of_box, points_of_tri}
+use Rattle.ray_leaves.specs.LeafItems.{any_points, points_at, points_in, points_of_box, points_of_tri}
 use Rattle.ray_query.specs.declared.found.Found.{Found}
 use Rattle.ray_nearest.specs.declared.turn.Turn.{Turn}
 use Rattle.ray_nearest.specs.Adding.{Adds, AddsFound}
-use Rattle.ray_nearest.specs.Scene.{is_within}
-use Rattle.ray_nearest.proofs.Members.{Member}
-use Rattle.ray_nearest.proofs.Orders.{false-else}
+use Rattle.ray_query.specs.Limits.{is_within}
+use Rattle.ray_query.proofs.Members.{Member}
+use Rattle.ray_query.proofs.Orders.{false-else}
 use Rattle.ray_walk.specs.Aims.{MeetsPoints}
-use Rattle.ray_walk.specs.Sound.{IsWellPlaced, prim_box, shape_box}
-use Rattle.ray_walk.specs.Traced.{Placement, Traced, found_at_place}
+use Rattle.ray_candidates.specs.Placements.{IsWellPlaced, prim_box, shape_box}
+use Rattle.ray_candidates.specs.Placements.{Placement}
+use Rattle.ray_walk.specs.Traced.{Traced, found_at_place}
 use Rattle.ray_walk.proofs.BoxLimits.{prim-limits}
-use Rattle.ray_walk.proofs.FoundInside.{IsFoundIn, found_inside_at}
+use Rattle.ray_candidates.proofs.FoundInside.{IsFoundIn, found_inside_at}
 use Rattle.ray_walk.proofs.LeftOut.{up-to}
 
 -- ---- the box of a primitive is that of its points
@@ -87,7 +88,7 @@ beyond : (s : Traced) (i : ℕ) (p : Placement) (place : PrimPlace) (limit : Opt
     → (MeetsPoints (window_of (object_of s.ray p.instance.matrix) limit) (points_at p.bottom.geometries place) → ⊥)
     → Member f (found_at_place s i p place) → is_within limit (ratio_of f.t) ≡ false
 beyond s i p place limit f r w never m =
-    let here : IsFoundIn s.ray p place f = found_inside_at s i p place f r w m in
+    let here : IsFoundIn s.ray p place f = found_inside_at s.ray s.flags i p place f r w m in
     let object = object_of s.ray p.instance.matrix in
     let limits : IsBox here.box = subst (λ o. IfSome o IsBox) here.is_it (prim-limits p.bottom.geometries w.sound.limits.each place) in
     false-else (is_within limit (ratio_of f.t)) (λ within.

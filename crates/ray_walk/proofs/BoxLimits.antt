@@ -15,12 +15,12 @@ use Rattle.ray_contents.specs.Bounds.{KeepsBounds}
 use Rattle.ray_primitives.specs.Primitives.{IsAabb, IsTriangle, IsTriangleOf, TriangleValue, box_of_triangle}
 use Rattle.ray_tree.specs.Trees.{TreeOver, TreeValue, box_at, boxes_below, shape_at}
 use Rattle.ray_tree.proofs.LeastLists.{same_least}
-use Rattle.ray_climb.specs.Refits.{AreBoxes, box_over, refit_value}
-use Rattle.ray_climb.proofs.LeastOver.{is_box, least_at}
+use Rattle.ray_tree.specs.NodeBoxes.{AreBoxes, least_box}
+use Rattle.ray_tree.proofs.LeastOver.{is_box, least_at}
 use Rattle.ray_geometries.specs.declared.geometry.Geometry.{Geometry}
 use Rattle.ray_geometries.specs.declared.shapes.Shapes.{Shapes as Kept}
 use Rattle.ray_geometries.specs.declared.shapes.Shapes.TheVariants.{Triangles, Boxes}
-use Rattle.ray_bottom.specs.declared.prim_place.PrimPlace.{PrimPlace}
+use Rattle.ray_leaves.specs.declared.prim_place.PrimPlace.{PrimPlace}
 use Rattle.ray_geometries.specs.Contents.{IsGeometry, ShapesAreWithin}
 use Rattle.ray_bottom.specs.Slots.{IsSound}
 use Rattle.ray_bottom.specs.Trees as bottoms
@@ -29,10 +29,12 @@ use Rattle.ray_top.specs.Contents.{IsInstance}
 use Rattle.ray_top.specs.Instances.{InstanceValue}
 use Rattle.ray_top.specs.InstanceReading.{bounds_in}
 use Rattle.ray_top.specs.Trees as tops
-use Rattle.ray_walk.specs.Sound.{IsWalkable, prim_box, shape_box}
-use Rattle.ray_walk.specs.Traced.{Traced, no_box}
-use Rattle.ray_walk.proofs.InBounds.{item_holds}
-use Rattle.ray_walk.proofs.Placing.{All-at}
+use Rattle.ray_walk.specs.Sound.{IsWalkable}
+use Rattle.ray_candidates.specs.Placements.{prim_box, shape_box}
+use Rattle.ray_walk.specs.Traced.{Traced}
+use Rattle.ray_tree.specs.Trees.{no_box}
+use Rattle.ray_candidates.proofs.InBounds.{item_holds}
+use Rattle.ray_candidates.proofs.Placing.{All-at}
 
 -- ---- boxes
 
@@ -120,11 +122,10 @@ instance-limits used (Some i) is = by (bounds_in used i.id) is.limits.kept
 
 node-limits : (tree : TreeValue) (items : List (Option BoxValue)) → TreeOver tree items → AreBoxes items → (n : ℕ) → n < length tree.nodes → IsBox (box_at tree no_box n)
 node-limits tree items over are n small =
-    let r = refit_value tree items in
     subst IsBox
-    (same_least (boxes_below items tree.order (shape_at tree n)) (box_over r n) (box_at tree no_box n)
-    (least_at r over.shape (record { active_once = over.active_once }) n small) (over.least n no_box small))
-    (is_box r are n)
+    (same_least (boxes_below items tree.order (shape_at tree n)) (least_box items tree n) (box_at tree no_box n)
+    (least_at tree items over.shape (record { active_once = over.active_once }) n small) (over.least n no_box small))
+    (is_box tree items are n)
 
 pub bottom-limits : (b : bottoms.BottomWithTree) → IsSound b → (n : ℕ) → n < length b.tree.nodes → IsBox (box_at b.tree no_box n)
 bottom-limits b sound n small = node-limits b.tree (bottoms.items_of b.geometries) sound.over (bottom-items b sound) n small

@@ -19,12 +19,14 @@ use Rattle.ray_nearest.specs.declared.node.WalkNode.{WalkNode}
 use Rattle.ray_nearest.specs.declared.node.WalkNode.TheVariants.{Inner, TopInner}
 use Rattle.ray_nearest.specs.declared.turn.Turn.{Turn}
 use Rattle.ray_nearest.specs.Adding.{Adds, AddsNode, AddsNodes}
-use Rattle.ray_nearest.specs.Scene.{SceneValue, is_open}
+use Rattle.ray_nearest.specs.Scene.{SceneValue}
+use Rattle.ray_query.specs.Limits.{is_open}
 use Rattle.ray_nearest.proofs.Added.{each_itself, passed_by}
 use Rattle.ray_walk.specs.declared.level.Level.TheVariants.{World, Object}
 use Rattle.ray_walk.specs.declared.trees.Trees.{Trees}
 use Rattle.ray_walk.specs.Aims.{AddsThrough, AreLeftOut, AreMet, AreTrees, IsAlone, LeadsOn, LeadsTo, entry_by, entry_through}
-use Rattle.ray_walk.specs.Traced.{Placement, Traced, placement_at}
+use Rattle.ray_candidates.specs.Placements.{Placement}
+use Rattle.ray_walk.specs.Traced.{Traced, placement_at}
 use Rattle.ray_walk.specs.WideScene.{below_by, child, inner_at, wide_below, wide_entry, wide_scene}
 use Rattle.ray_walk.proofs.LeftOut.{child-out, is-child}
 use Rattle.ray_walk.proofs.Pushing.{Adds-as, object-entries, world-entries}

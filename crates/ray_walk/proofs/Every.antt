@@ -10,13 +10,14 @@ use Rattle.ray_tree.specs.Shapes.{node_at}
 use Rattle.ray_tree.specs.Trees.{IsShape, shape_at}
 use Rattle.ray_tree.specs.Waits.{weight}
 use Rattle.ray_tree.proofs.NodeLaws.{at_leaf, at_inner}
-use Rattle.ray_morton.specs.KeyOrder.{items_below}
+use Rattle.ray_tree.specs.Trees.{items_below}
 use Rattle.ray_query.specs.declared.found.Found.{Found}
 use Rattle.ray_nearest.specs.declared.node.WalkNode.{WalkNode}
 use Rattle.ray_nearest.specs.declared.node.WalkNode.TheVariants.{TopInner, TopLeaf, Inner, Leaf}
 use Rattle.ray_nearest.specs.Parts.{AreParts, scene_of}
 use Rattle.ray_nearest.proofs.Growing.{every}
-use Rattle.ray_walk.specs.Traced.{Traced, Placement, IsNode, placement_at, parts_of, ref, ref_by, top_ref, top_ref_by, roots_of, children, children_of, top_children, items_at, items_by, found_of_item, found_in_leaf}
+use Rattle.ray_walk.specs.Traced.{Traced, IsNode, placement_at, parts_of, ref, ref_by, top_ref, top_ref_by, roots_of, children, children_of, top_children, found_of_item, found_in_leaf}
+use Rattle.ray_candidates.specs.Placements.{Placement, items_at, items_by}
 
 -- two lists, one after the other
 pub two : {X Y : Type 0} (F : X → List Y) (a b : X) → flat_map F (a ∷ b ∷ []) ≡ F a ++ F b

@@ -1,6 +1,6 @@
 -- What a walk finds is what the ray finds, in another order.
 use Rattle.std.proofs.Common.{ℕ, zero, suc, ◌≡◌, ◌<◌, ◌≤◌, Bool, true, false, Option, Some, None, List, [], ◌∷◌, length, get_or, option_map, refl, sym, ap, subst, ◌∙◌, inl, inr, arith}
-use Rattle.std.specs.Prelude.{◌⊎◌, All, IsSome, slice_get, option_and_then, is_some, if◌then◌else◌}
+use Rattle.std.specs.Prelude.{All, IsSome, slice_get, option_and_then, is_some, if◌then◌else◌}
 use Rattle.std.specs.List.{flat_map}
 use Rattle.std.specs.List.Sorted.{IsPermutation}
 use Rattle.std.proofs.lemmas.List.{append-nil}
@@ -14,56 +14,29 @@ use Rattle.ray_prune.specs.Pruning.{box_of_images}
 use Rattle.ray_prune.proofs.Corners.{IsImageBox-fold}
 use Rattle.ray_tree.specs.declared.node.Node.{Node}
 use Rattle.ray_tree.specs.Shapes.{shape_in}
-use Rattle.ray_tree.specs.Trees.{TreeValue, TreeOver, shape_at, times, active, item_box}
+use Rattle.ray_tree.specs.Trees.{TreeValue, TreeOver, shape_at, item_box}
 use Rattle.ray_tree.specs.Local.{IsActive}
 use Rattle.ray_tree.proofs.Counting.{has_items, active-below}
 use Rattle.ray_tree.proofs.Rooted.{has_root}
 use Rattle.ray_tree.proofs.Under.{shape_zero}
-use Rattle.ray_morton.specs.KeyOrder.{items_below}
+use Rattle.ray_tree.specs.Trees.{items_below}
 use Rattle.ray_geometries.specs.declared.geometry.Geometry.{Geometry}
-use Rattle.ray_geometries.specs.Contents.{active_boxes, bounds_of, count_of}
+use Rattle.ray_geometries.specs.Contents.{active_boxes, bounds_of}
 use Rattle.ray_bottom.specs.Slots.{structure_at}
 use Rattle.ray_bottom.specs.Trees as bottoms
 use Rattle.ray_top.specs.Instances.{InstanceValue}
 use Rattle.ray_top.specs.Trees as tops
 use Rattle.ray_nearest.specs.Parts.{AreParts}
-use Rattle.ray_walk.specs.Candidates.{active_instance, found_in_geometry, found_in_instance, found_in_structure, is_seen, joined}
-use Rattle.ray_walk.specs.Standing.{structures_in}
+use Rattle.ray_candidates.specs.Candidates.{active_instance, found_in_instance, found_in_structure, is_seen}
+use Rattle.ray_candidates.specs.Standing.{structures_in}
 use Rattle.ray_walk.specs.Sound.{IsWalkable}
-use Rattle.ray_walk.specs.Traced.{Traced, Placement, IsNode, found_at_place, found_in_placed, found_of_item, parts_of, placement_at, placement_of, ref, root_in, roots_by}
+use Rattle.ray_walk.specs.Traced.{Traced, IsNode, found_of_item, parts_of, placement_at, placement_of, ref, root_in, roots_by}
+use Rattle.ray_candidates.specs.Placements.{Placement}
 use Rattle.ray_walk.proofs.WellPlaced.{is_placement}
-use Rattle.ray_walk.proofs.Spread.{IsSpread, joined-spread}
-use Rattle.ray_walk.proofs.Leaves.{items-once}
-use Rattle.ray_walk.proofs.Aligned.{item-aligned, joined-places}
-use Rattle.ray_walk.proofs.Missing.{inactive-none, prim-active}
+use Rattle.ray_candidates.proofs.StructureFound.{active-some, bottom-found}
+use Rattle.ray_candidates.proofs.Aligned.{item-aligned}
+use Rattle.ray_candidates.proofs.Bounded.{prim_held}
 use Rattle.ray_walk.proofs.Every.{all, of_instance, bottom-every}
-
--- ---- items
-
-get-past : {X : Type 0} (xs : List (Option X)) (k : ℕ) → length xs ≤ k → get_or xs k None ≡ None
-get-past [] k past = refl
-get-past (x ∷ xs) zero past = absurd (omega (arith, past))
-get-past (x ∷ xs) (suc k) past = get-past xs k (omega (arith, past))
-
-active-past : (items : List (Option BoxValue)) (q : ℕ) → length items ≤ q → active items q ≡ 0
-active-past items q past = ap (λ (o : Option BoxValue). if is_some o then 1 else 0) (get-past items q past)
-
-active-some : (items : List (Option BoxValue)) (q : ℕ) (o : Option BoxValue) → item_box items q ≡ o → active items q ≡ (if is_some o then 1 else 0)
-active-some items q o e = ap (λ (p : Option BoxValue). if is_some p then 1 else 0) e
-
--- each item of a tree stands in its leaves once where it is active, and else nothing may be given of it
-module _ {X : Type 0} (F : ℕ → List X) (tree : TreeValue) (items : List (Option BoxValue)) (over : TreeOver tree items)
-    (nothing : (q : ℕ) → q < length items → item_box items q ≡ None → F q ≡ []) where
-  spread-each : (q : ℕ) → q < length items → (o : Option BoxValue) → item_box items q ≡ o
-      → (times q (items_below tree.order (shape_at tree 0)) ≡ 1) ⊎ ((times q (items_below tree.order (shape_at tree 0)) ≡ 0) × (F q ≡ []))
-  spread-each q below None e = inr (items-once tree items over q ∙ active-some items q None e, nothing q below e)
-  spread-each q below (Some box) e = inl (items-once tree items over q ∙ active-some items q (Some box) e)
-
-  pub tree-spread : IsSpread F (length items) (items_below tree.order (shape_at tree 0))
-  tree-spread = record {
-    none = λ q from. items-once tree items over q ∙ active-past items q from;
-    each = λ q below. spread-each q below (item_box items q) refl;
-  }
 
 -- below the root of a tree, if it has one, is what its items give
 pub root-gives : {X Y : Type 0} (G : X → List Y) (F : ℕ → List Y) (tree : TreeValue) (root : X)
@@ -77,25 +50,6 @@ root-gives G F tree root gives = by tree.nodes refl
         sym (ap (λ t. flat_map F (items_below tree.order t)) (empty ∙ shape_zero tree.nodes 0))
     by (x ∷ xs) e =
         flat_map-cons G root [] ∙ (append-nil (G root) ∙ gives (let many = ap length e in omega (arith, many)))
-
--- ---- the structure of an instance
-
-module _ (s : Traced) (i : ℕ) (p : Placement) (over : TreeOver p.bottom.tree (bottoms.items_of p.bottom.geometries)) where
-  by_places : (k : ℕ) (g : Geometry) → slice_get p.bottom.geometries k ≡ Some g
-      → found_in_geometry s.ray s.flags p.bottom.geometries i p.instance k (Some g) ≡ joined (λ q. found_at_place s i p (bottoms.place_of k q)) (count_of g)
-  by_places k g at = λ j. joined (λ q. found_in_placed s i p (bottoms.place_of k q) (sym at j)) (count_of g)
-
-  pub bottom-found : IsPermutation (flat_map (found_of_item s i p) (items_below p.bottom.tree.order (shape_at p.bottom.tree 0)))
-      (found_in_structure s.ray s.flags i p.instance (Some (bottoms.without_tree p.bottom)))
-  bottom-found =
-      let gs = p.bottom.geometries in
-      let items = bottoms.items_of gs in
-      let F = found_of_item s i p in
-      let spread = tree-spread F p.bottom.tree items over
-      (λ q below e. inactive-none s i p (bottoms.place_at gs q) (sym (item-aligned gs q below) ∙ e)) in
-      subst (λ zs. IsPermutation (flat_map F (items_below p.bottom.tree.order (shape_at p.bottom.tree 0))) zs)
-      (joined-places (found_at_place s i p) (λ k o. found_in_geometry s.ray s.flags gs i p.instance k o) gs by_places)
-      (joined-spread F (length items) (items_below p.bottom.tree.order (shape_at p.bottom.tree 0)) spread)
 
 -- ---- a structure without bounds has no root
 
@@ -127,9 +81,9 @@ no-root tree gs over none some =
     let is : IsActive items q = has.each 0 0 (omega (arith, many, first)) in
     let at = is-active items q is in
     let empty : active_boxes gs ≡ [] = (IsLeastOf-boxes (active_boxes gs) (bounds_of gs) refl).1.0 none in
-    prim-active (λ b. ⊥) gs (bottoms.place_at gs q) at.0
-    (subst (λ bs. All (λ b. ⊥) bs) (sym empty) (All-nil (λ b. ⊥)))
+    prim_held (λ b. ⊥) gs (bottoms.place_at gs q) at.0
     (sym (item-aligned gs q (active-below items q is)) ∙ at.1)
+    (subst (λ bs. All (λ b. ⊥) bs) (sym empty) (All-nil (λ b. ⊥)))
 
 -- ---- an instance, and all of them
 
@@ -141,7 +95,7 @@ module _ (s : Traced) (well : IsWalkable s) (parts : AreParts (IsNode s) (parts_
       let same : of_instance s parts j ≡ flat_map (found_of_item s j p) (items_below p.bottom.tree.order (shape_at p.bottom.tree 0)) =
       ap (λ o. flat_map (all s parts) (roots_by j o)) is
       ∙ root-gives (all s parts) (found_of_item s j p) p.bottom.tree (ref j p.bottom.tree 0) (λ some. bottom-every s parts j p is over.shape 0 some) in
-      subst (λ zs. IsPermutation zs (found_in_structure s.ray s.flags j p.instance (Some (bottoms.without_tree p.bottom)))) (sym same) (bottom-found s j p over)
+      subst (λ zs. IsPermutation zs (found_in_structure s.ray s.flags j p.instance (Some (bottoms.without_tree p.bottom)))) (sym same) (bottom-found s.ray s.flags j p p.bottom.tree over)
 
   by_structure : (j : ℕ) (i : InstanceValue) (o : Option bottoms.BottomWithTree) → structure_at i.id s.bottoms ≡ o → is_seen s.mask i ≡ true
       → placement_at s j ≡ placement_of s.bottoms s.mask i

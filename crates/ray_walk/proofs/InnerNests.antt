@@ -12,9 +12,11 @@ use Rattle.ray_tree.proofs.Nested.{are_nested}
 use Rattle.ray_bottom.specs.Trees.{items_of as bottom_items}
 use Rattle.ray_top.specs.Trees.{without_tree, items_of}
 use Rattle.ray_nearest.specs.Parts.{Nests}
-use Rattle.ray_walk.specs.Traced.{Traced, Placement, placement_at, no_box, entry_in, top_entry, entry_of_placement, bottom_entry}
+use Rattle.ray_walk.specs.Traced.{Traced, placement_at, top_entry, entry_of_placement, bottom_entry}
+use Rattle.ray_candidates.specs.Placements.{Placement, entry_in}
+use Rattle.ray_tree.specs.Trees.{no_box}
 use Rattle.ray_bottom.specs.Slots.{IsSound}
-use Rattle.ray_walk.proofs.Opened.{nests_part}
+use Rattle.ray_walk.proofs.Nesting.{nests_part}
 
 -- in any tree, for any ray
 pub record AreNestedFor (object : ObjectRayValue) (tree : TreeValue) (n l r : ℕ) : Type 0 where

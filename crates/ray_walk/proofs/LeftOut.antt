@@ -23,16 +23,19 @@ use Rattle.ray_window.proofs.Windows.{Overlaps-met, window-holds}
 use Rattle.ray_bottom.specs.Slots.{IsSound}
 use Rattle.ray_bottom.specs.Trees.{BottomWithTree}
 use Rattle.ray_nearest.specs.declared.node.WalkNode.{WalkNode}
-use Rattle.ray_nearest.specs.Scene.{is_open, is_within}
-use Rattle.ray_nearest.proofs.Orders.{false-else}
+use Rattle.ray_query.specs.Limits.{is_open}
+use Rattle.ray_query.specs.Limits.{is_within}
+use Rattle.ray_query.proofs.Orders.{false-else}
 use Rattle.ray_walk.specs.declared.level.Level.{Level}
 use Rattle.ray_walk.specs.declared.level.Level.TheVariants.{World, Object}
 use Rattle.ray_walk.specs.Aims.{AreTrees, HasBox, HasLane, IsSameLimit, entry_by}
 use Rattle.ray_walk.specs.Sound.{IsWalkable}
-use Rattle.ray_walk.specs.Traced.{Traced, entry_in, no_box}
+use Rattle.ray_walk.specs.Traced.{Traced}
+use Rattle.ray_candidates.specs.Placements.{entry_in}
+use Rattle.ray_tree.specs.Trees.{no_box}
 use Rattle.ray_walk.specs.WideScene.{child, inner_at, leaf_at}
 use Rattle.ray_walk.proofs.BoxLimits.{bottom-limits, top-limits}
-use Rattle.ray_walk.proofs.Opened.{le_told}
+use Rattle.ray_candidates.proofs.Opened.{le_told}
 use Rattle.ray_walk.proofs.WideParts.{lane-is}
 
 -- ---- windows

@@ -9,13 +9,16 @@ use Rattle.ray_tree.specs.Trees.{TreeValue}
 use Rattle.ray_nearest.specs.declared.node.WalkNode.{WalkNode}
 use Rattle.ray_nearest.specs.declared.node.WalkNode.TheVariants.{TopInner, TopLeaf, Inner, Leaf}
 use Rattle.ray_nearest.specs.Parts.{Nests}
-use Rattle.ray_nearest.specs.Scene.{Holds, IsInOrder}
-use Rattle.ray_walk.specs.Traced.{Traced, Placement, placement_at, top_ref_by, top_ref, ref_by, ref, root_in, roots_by, roots_of, top_children, children, children_of, items_at, below, finds, entry, top_entry, bottom_entry, IsNode, IsTopNode, IsBottomNode}
-use Rattle.ray_walk.specs.Sound.{IsWellPlaced, IsWalkable}
-use Rattle.ray_nearest.proofs.Members.{Member, Each-from_members, All-from_Each}
+use Rattle.ray_query.specs.Limits.{Holds}
+use Rattle.ray_query.specs.Limits.{IsInOrder}
+use Rattle.ray_walk.specs.Traced.{Traced, placement_at, top_ref_by, top_ref, ref_by, ref, root_in, roots_by, roots_of, top_children, children, children_of, below, finds, entry, top_entry, bottom_entry, IsNode, IsTopNode, IsBottomNode}
+use Rattle.ray_candidates.specs.Placements.{Placement, items_at}
+use Rattle.ray_candidates.specs.Placements.{IsWellPlaced}
+use Rattle.ray_walk.specs.Sound.{IsWalkable}
+use Rattle.ray_query.proofs.Members.{Member, Each-from_members, All-from_Each}
 use Rattle.ray_walk.proofs.WellPlaced.{well_placed}
-use Rattle.ray_walk.proofs.Aligned.{are_aligned}
-use Rattle.ray_walk.proofs.LeafItems.{IsFrom, Member-flat_map}
+use Rattle.ray_candidates.proofs.Aligned.{are_aligned}
+use Rattle.ray_candidates.proofs.LeafItems.{IsFrom, Member-flat_map}
 use Rattle.ray_walk.proofs.LeafHolds.{ArePlaced, holds_leaf, in_order_leaf}
 use Rattle.ray_walk.proofs.Seam.{nests_root}
 use Rattle.ray_walk.proofs.InnerNests.{AreNestedTop, AreNestedBottom, nests_top, nests_bottom}

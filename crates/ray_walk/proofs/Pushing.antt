@@ -25,7 +25,7 @@ use Rattle.ray_nearest.specs.declared.node.WalkNode.{WalkNode}
 use Rattle.ray_nearest.specs.declared.node.WalkNode.TheVariants.{TopInner, TopLeaf, Inner, Leaf}
 use Rattle.ray_nearest.specs.declared.turn.Turn.{Turn}
 use Rattle.ray_nearest.specs.Adding.{Adds, AddsFound, AddsNode, AddsNodes, AddsOne, HasValue, IsOpened}
-use Rattle.ray_nearest.specs.Scene.{is_open}
+use Rattle.ray_query.specs.Limits.{is_open}
 use Rattle.ray_nearest.proofs.Added.{Adds-append, IsOpened-inner, IsOpened-leaf, each_itself, passed_by}
 use Rattle.ray_walk.specs.declared.level.Level.{Level}
 use Rattle.ray_walk.specs.declared.level.Level.TheVariants.{World, Object}
@@ -34,7 +34,9 @@ use Rattle.ray_walk.specs.Aims.{AddsThrough, AreLeftOut, entry_by, entry_through
 use Rattle.ray_walk.specs.Scenes.{AddsFoundAt, AddsWide}
 use Rattle.ray_walk.specs.WideScene.{child, inner_at, leaf_at, narrow, subtree_of, wide_below, wide_entry, wide_scene}
 use Rattle.ray_walk.proofs.LeftOut.{entry-inner, entry-leaf}
-use Rattle.ray_walk.specs.Traced.{Traced, Placement, entry, entry_in, entry_of_placement, finds, found_at_place, found_in_leaf, items_at, items_by, no_box, placement_at, tests, tests_in_leaf}
+use Rattle.ray_walk.specs.Traced.{Traced, entry, entry_of_placement, finds, found_at_place, found_in_leaf, placement_at, tests, tests_in_leaf}
+use Rattle.ray_candidates.specs.Placements.{Placement, entry_in, items_at, items_by}
+use Rattle.ray_tree.specs.Trees.{no_box}
 
 -- ---- entries
 

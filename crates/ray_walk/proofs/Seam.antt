@@ -14,13 +14,16 @@ use Rattle.ray_top.specs.Instances.{InstanceValue}
 use Rattle.ray_top.specs.InstanceReading.{bounds_in}
 use Rattle.ray_top.specs.Trees.{without_tree, world_box, item_of, items_of}
 use Rattle.ray_nearest.specs.Parts.{Nests}
-use Rattle.ray_walk.specs.Traced.{Traced, Placement, placement_at, no_box, top_entry, entry_of_placement, bottom_entry, items_at}
-use Rattle.ray_walk.specs.Sound.{IsWellPlaced, IsWalkable}
-use Rattle.ray_nearest.proofs.Members.{Member}
-use Rattle.ray_walk.proofs.Opened.{Carries, nests_carried}
+use Rattle.ray_walk.specs.Traced.{Traced, placement_at, top_entry, entry_of_placement, bottom_entry}
+use Rattle.ray_candidates.specs.Placements.{Placement, items_at}
+use Rattle.ray_tree.specs.Trees.{no_box}
+use Rattle.ray_candidates.specs.Placements.{IsWellPlaced}
+use Rattle.ray_walk.specs.Sound.{IsWalkable}
+use Rattle.ray_query.proofs.Members.{Member}
+use Rattle.ray_walk.proofs.Nesting.{Carries, nests_carried}
 use Rattle.ray_walk.proofs.WellPlaced.{IsPlacement, is_placement, bounds_stand, well_placed}
-use Rattle.ray_walk.proofs.LeafItems.{IsItem, item_at_node, box_at_node}
-use Rattle.ray_walk.proofs.InBounds.{node_in_bounds}
+use Rattle.ray_candidates.proofs.LeafItems.{IsItem, item_at_node, box_at_node}
+use Rattle.ray_candidates.proofs.InBounds.{node_in_bounds}
 
 -- the box in the world of bounds holds the images of their corners
 world_holds : (m : MatrixValue) (bounds world : BoxValue) → world_box m bounds ≡ Some world → HoldsImages m bounds world

@@ -18,7 +18,8 @@ use Rattle.ray_nearest.specs.declared.node.WalkNode.{WalkNode}
 use Rattle.ray_nearest.specs.declared.node.WalkNode.TheVariants.{TopInner, TopLeaf, Inner, Leaf}
 use Rattle.ray_nearest.specs.Parts.{AreParts, IsBelow, Nests}
 use Rattle.ray_walk.specs.Sound.{IsWalkable}
-use Rattle.ray_walk.specs.Traced.{Traced, Placement, IsNode, below, children, children_of, entry, items_at, parts_of, placement_at, rank, rank_of_placement, ref, ref_by, root_in, roots_by, roots_of, top_children, top_ref, top_ref_by}
+use Rattle.ray_walk.specs.Traced.{Traced, IsNode, below, children, children_of, entry, parts_of, placement_at, rank, rank_of_placement, ref, ref_by, root_in, roots_by, roots_of, top_children, top_ref, top_ref_by}
+use Rattle.ray_candidates.specs.Placements.{Placement, items_at}
 use Rattle.ray_walk.proofs.WellPlaced.{is_placement}
 use Rattle.ray_walk.proofs.NodesHold.{holds_at, in_order_at, nests_below}
 

@@ -9,11 +9,12 @@ use Rattle.ray_top.specs.Instances.{InstanceValue}
 use Rattle.ray_top.specs.InstanceReading.{bounds_in}
 use Rattle.ray_top.specs.Contents.{IsTop, IsActive, IsInstance}
 use Rattle.ray_top.specs.Trees.{without_tree}
-use Rattle.ray_walk.specs.Candidates.{is_seen}
-use Rattle.ray_walk.specs.Standing.{IsStanding, AreStanding, structures_in}
-use Rattle.ray_walk.specs.Traced.{Traced, Placement, placement_of, placement_at}
-use Rattle.ray_walk.specs.Sound.{IsWellPlaced}
-use Rattle.ray_walk.proofs.Placing.{All-at}
+use Rattle.ray_candidates.specs.Candidates.{is_seen}
+use Rattle.ray_candidates.specs.Standing.{IsStanding, AreStanding, structures_in}
+use Rattle.ray_walk.specs.Traced.{Traced, placement_of, placement_at}
+use Rattle.ray_candidates.specs.Placements.{Placement}
+use Rattle.ray_candidates.specs.Placements.{IsWellPlaced}
+use Rattle.ray_candidates.proofs.Placing.{All-at}
 
 -- what a placement is
 pub record IsPlacement (s : Traced) (i : ℕ) (p : Placement) : Type 0 where

@@ -13,12 +13,13 @@ use Rattle.ray_query.specs.declared.decision.Decision.{Decision}
 use Rattle.ray_query.specs.Play.{play, start}
 use Rattle.ray_nearest.specs.declared.node.WalkNode.{WalkNode}
 use Rattle.ray_nearest.specs.Answer.{answer_in}
-use Rattle.ray_nearest.specs.KeyOrder.{AreApart, in_key_order}
+use Rattle.ray_query.specs.KeyOrder.{AreApart, in_key_order}
 use Rattle.ray_nearest.specs.Parts.{AreParts, SceneParts, all_from, scene_of, tested_at}
-use Rattle.ray_nearest.specs.Scene.{IsScene, distance_of, found_in, opened_in}
+use Rattle.ray_nearest.specs.Scene.{IsScene, found_in, opened_in}
+use Rattle.ray_query.specs.Limits.{distance_of}
 use Rattle.ray_nearest.proofs.Growing.{IsScene-scene_of, every-each, opened-each}
-use Rattle.ray_walk.specs.Candidates.{trace_answer}
-use Rattle.ray_walk.specs.Standing.{structures_in}
+use Rattle.ray_candidates.specs.Candidates.{trace_answer}
+use Rattle.ray_candidates.specs.Standing.{structures_in}
 use Rattle.ray_walk.specs.Sound.{IsWalkable}
 use Rattle.ray_walk.specs.Traced.{IsNode, Traced, finds, parts_of, traced_scene}
 use Rattle.ray_walk.specs.WideScene.{IsWideNode, narrow, wide_parts, wide_scene}

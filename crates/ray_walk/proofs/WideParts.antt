@@ -22,13 +22,15 @@ use Rattle.ray_top.specs.Trees as tops
 use Rattle.ray_nearest.specs.declared.node.WalkNode.{WalkNode}
 use Rattle.ray_nearest.specs.declared.node.WalkNode.TheVariants.{TopInner, TopLeaf, Inner, Leaf}
 use Rattle.ray_nearest.specs.Parts.{AreParts, IsBelow, Nests}
-use Rattle.ray_nearest.proofs.Members.{Member}
+use Rattle.ray_query.proofs.Members.{Member}
 use Rattle.ray_walk.specs.declared.level.Level.TheVariants.{World, Object}
 use Rattle.ray_walk.specs.Sound.{IsWalkable}
-use Rattle.ray_walk.specs.Traced.{IsNode, Traced, Placement, bottom_entry, entry_in, entry_of_placement, items_at, no_box, placement_at, top_entry}
+use Rattle.ray_walk.specs.Traced.{IsNode, Traced, bottom_entry, entry_of_placement, placement_at, top_entry}
+use Rattle.ray_candidates.specs.Placements.{Placement, entry_in, items_at}
+use Rattle.ray_tree.specs.Trees.{no_box}
 use Rattle.ray_walk.specs.WideScene.{IsWideNode, below_by, child, narrow, rank_by, root_by, subtree_of, wide_below, wide_entry, wide_parts, wide_roots}
 use Rattle.ray_walk.proofs.NodesHold.{holds_at, in_order_at}
-use Rattle.ray_walk.proofs.Opened.{nests_part}
+use Rattle.ray_walk.proofs.Nesting.{nests_part}
 use Rattle.ray_walk.proofs.Seam.{nests_root}
 use Rattle.ray_walk.proofs.Walking.{All-append}
 use Rattle.ray_walk.proofs.WellPlaced.{is_placement}

@@ -17,7 +17,8 @@ use Rattle.ray_nearest.specs.Parts.{AreParts, SceneParts, all_from}
 use Rattle.ray_nearest.proofs.Growing as growing
 use Rattle.ray_walk.specs.declared.level.Level.TheVariants.{World, Object}
 use Rattle.ray_walk.specs.Sound.{IsWalkable}
-use Rattle.ray_walk.specs.Traced.{IsNode, Traced, Placement, children, children_of, items_at, parts_of, placement_at, ref, ref_by, root_in, roots_by, roots_of, top_children, top_ref, top_ref_by}
+use Rattle.ray_walk.specs.Traced.{IsNode, Traced, children, children_of, parts_of, placement_at, ref, ref_by, root_in, roots_by, roots_of, top_children, top_ref, top_ref_by}
+use Rattle.ray_candidates.specs.Placements.{Placement, items_at}
 use Rattle.ray_walk.specs.WideScene.{IsWideNode, below_by, child, root_by, wide_parts, wide_roots}
 use Rattle.ray_walk.proofs.Every.{flat-flat, two}
 use Rattle.ray_walk.proofs.WellPlaced.{is_placement}

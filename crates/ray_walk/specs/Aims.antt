@@ -15,17 +15,18 @@ use Rattle.ray_lanes.specs.declared.lanes.Window.{Window}
 use Rattle.ray_lanes.specs.Overlap.{HasBit, Overlaps}
 use Rattle.ray_window.specs.Meets.{Meets}
 use Rattle.ray_window.specs.Windows.{window_of}
-use Rattle.ray_bottom.specs.declared.leaf_item.ItemPoints.{ItemPoints}
-use Rattle.ray_bottom.specs.declared.leaf_item.ItemPoints.TheVariants.{Triangle, Aabb, Nothing}
+use Rattle.ray_leaves.specs.declared.leaf_item.ItemPoints.{ItemPoints}
+use Rattle.ray_leaves.specs.declared.leaf_item.ItemPoints.TheVariants.{Triangle, Aabb, Nothing}
 use Rattle.ray_nearest.specs.declared.node.WalkNode.{WalkNode}
 use Rattle.ray_nearest.specs.declared.node.WalkNode.TheVariants.{TopInner, TopLeaf, Inner, Leaf}
 use Rattle.ray_nearest.specs.declared.turn.Turn.{Turn}
 use Rattle.ray_nearest.specs.Adding.{Adds, AddsNode}
-use Rattle.ray_nearest.specs.Scene.{is_open}
+use Rattle.ray_query.specs.Limits.{is_open}
 use Rattle.ray_walk.specs.declared.aim.Aim.{Aim}
 use Rattle.ray_walk.specs.declared.aim.Seen.{Seen}
 use Rattle.ray_walk.specs.declared.trees.Trees.{Trees}
-use Rattle.ray_walk.specs.Traced.{entry_in, no_box}
+use Rattle.ray_candidates.specs.Placements.{entry_in}
+use Rattle.ray_tree.specs.Trees.{no_box}
 use Rattle.ray_walk.specs.WideScene.{child}
 
 -- ---- a ray with its window

@@ -1,7 +1,3 @@
-pub mod Candidates
-pub mod Laws
-pub mod Standing
-pub mod Telling
 pub mod Traced
 pub mod WideScene
 pub mod Sound

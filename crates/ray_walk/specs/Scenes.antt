@@ -8,7 +8,7 @@ use Rattle.ray_geom.specs.Transform.{identity_value}
 use Rattle.ray_flags.specs.Admission.{AsksBoth}
 use Rattle.ray_flags.specs.declared.ray_flags.RayFlags.{RayFlags}
 use Rattle.ray_geometries.specs.declared.geometry.Geometry.{Geometry}
-use Rattle.ray_bottom.specs.declared.prim_place.PrimPlace.{PrimPlace}
+use Rattle.ray_leaves.specs.declared.prim_place.PrimPlace.{PrimPlace}
 use Rattle.ray_bottom.specs.Meeting.{MeetValue}
 use Rattle.ray_geom.specs.declared.ratio.Ratio.{Ratio}
 use Rattle.ray_query.specs.declared.found.Found.{Found}
@@ -16,7 +16,7 @@ use Rattle.ray_nearest.specs.declared.node.WalkNode.{WalkNode}
 use Rattle.ray_nearest.specs.declared.turn.Turn.{Turn}
 use Rattle.ray_nearest.specs.Adding.{Adds, AddsFound, AddsNode}
 use Rattle.ray_wide.specs.Subtrees.{IsWideLeaf}
-use Rattle.ray_walk.specs.Candidates.{admitted, found_at, placed}
+use Rattle.ray_candidates.specs.Candidates.{admitted, found_at, placed}
 use Rattle.ray_walk.specs.declared.aim.Aim.{Aim}
 use Rattle.ray_walk.specs.declared.held.Held.{Held}
 use Rattle.ray_walk.specs.declared.held.Looked.{Looked}
@@ -24,29 +24,13 @@ use Rattle.ray_walk.specs.Aims.{IsAimed}
 use Rattle.ray_walk.specs.WideScene.{wide_entry}
 use Rattle.ray_top.specs.Instances.{instance_value}
 use Rattle.ray_walk.specs.Sound.{IsWalkable}
-use Rattle.ray_walk.specs.Traced.{Placement, Traced, found_at_place, placement_at}
+use Rattle.ray_candidates.specs.Placements.{Placement}
+use Rattle.ray_walk.specs.Traced.{Traced, found_at_place, placement_at}
 
 -- what is known of what a ray is traced through: all of it is sound, and the flags agree
 pub record IsAtHand (s : Traced) : Type 0 where
   pub walkable : IsWalkable s
   pub agree : AsksBoth s.flags → ⊥
-
--- what is found at a place, by the ray and its flags
-abbrev pub found_by : RayValue → RayFlags → ℕ → Placement → PrimPlace → Option Geometry → List Found
-found_by ray flags i p place None = []
-found_by ray flags i p place (Some geometry) =
-    found_at ray flags p.bottom.geometries (placed flags i p.instance place.geometry geometry) place.primitive
-
-abbrev pub found_by_place : RayValue → RayFlags → ℕ → Placement → PrimPlace → List Found
-found_by_place ray flags i p place = found_by ray flags i p place (slice_get p.bottom.geometries place.geometry)
-
--- what is found at a place where this is met there
-abbrev pub met_in : RayFlags → ℕ → Placement → PrimPlace → Option MeetValue → Option Geometry → List Found
-met_in flags i p place meet None = []
-met_in flags i p place meet (Some geometry) = admitted flags (placed flags i p.instance place.geometry geometry) place.primitive meet
-
-abbrev pub met_at_place : RayFlags → ℕ → Placement → PrimPlace → Option MeetValue → List Found
-met_at_place flags i p place meet = met_in flags i p place meet (slice_get p.bottom.geometries place.geometry)
 
 -- an instance that is looked at, with its structure
 abbrev pub placement_value : Looked → Placement

@@ -10,32 +10,15 @@ use Rattle.ray_wide.specs.Wides.{WideOver}
 use Rattle.ray_geometries.specs.declared.geometry.Geometry.{Geometry}
 use Rattle.ray_geometries.specs.declared.shapes.Shapes.{Shapes}
 use Rattle.ray_geometries.specs.declared.shapes.Shapes.TheVariants.{Triangles, Boxes}
-use Rattle.ray_bottom.specs.declared.prim_place.PrimPlace.{PrimPlace}
+use Rattle.ray_leaves.specs.declared.prim_place.PrimPlace.{PrimPlace}
 use Rattle.ray_geometries.specs.Contents.{bounds_of}
 use Rattle.ray_bottom.specs.Slots.{AreSound, IsSound}
 use Rattle.ray_bottom.specs.Trees.{items_of, place_at}
 use Rattle.ray_top.specs.Contents.{IsTop}
 use Rattle.ray_top.specs.Trees.{without_tree as top_without_tree, items_of as top_items}
-use Rattle.ray_walk.specs.Standing.{AreStanding, structures_in}
-use Rattle.ray_walk.specs.Traced.{Traced, Placement}
-
--- the box of the primitive of a number, and of that at a place; none where none stands there, and where it is inactive
-abbrev pub shape_box : ℕ → Shapes → Option BoxValue
-shape_box i (Triangles format index_size triangles) = option_and_then box_of_triangle (slice_get triangles i)
-shape_box i (Boxes boxes) = option_and_then (λ box. box) (slice_get boxes i)
-
-abbrev pub prim_box : List Geometry → PrimPlace → Option BoxValue
-prim_box geometries place = option_and_then (λ (g : Geometry). shape_box place.primitive g.shapes) (slice_get geometries place.geometry)
-
--- the box of an active item is that of the primitive at its place
-pub record AreAligned (geometries : List Geometry) : Type 0 where
-  pub each : (item : ℕ) (box : BoxValue) → item_box (items_of geometries) item ≡ Some box → prim_box geometries (place_at geometries item) ≡ Some box
-
--- an instance with its structure: its transform is within the limits, and keeps the bounds of the structure
-pub record IsWellPlaced (p : Placement) : Type 0 where
-  pub matrix : IsMatrix p.instance.matrix
-  pub kept : KeepsBounds p.instance.matrix (bounds_of p.bottom.geometries)
-  pub sound : IsSound p.bottom
+use Rattle.ray_candidates.specs.Standing.{AreStanding, structures_in}
+use Rattle.ray_walk.specs.Traced.{Traced}
+use Rattle.ray_candidates.specs.Placements.{Placement}
 
 -- what is known of all that a walk looks at
 pub record IsWalkable (s : Traced) : Type 0 where

@@ -15,10 +15,10 @@ use Rattle.ray_flags.specs.declared.ray_flags.RayFlags.{RayFlags}
 use Rattle.ray_tree.specs.declared.node.Node.{Node}
 use Rattle.ray_tree.specs.declared.node.Node.TheVariants as nodes
 use Rattle.ray_tree.specs.Shapes.{node_at}
-use Rattle.ray_tree.specs.Trees.{TreeValue, shape_at, box_at}
+use Rattle.ray_tree.specs.Trees.{TreeValue, shape_at, box_at, no_box}
 use Rattle.ray_tree.specs.Waits.{weight}
 use Rattle.ray_geometries.specs.declared.geometry.Geometry.{Geometry}
-use Rattle.ray_bottom.specs.declared.prim_place.PrimPlace.{PrimPlace}
+use Rattle.ray_leaves.specs.declared.prim_place.PrimPlace.{PrimPlace}
 use Rattle.ray_bottom.specs.Trees.{BottomWithTree, place_at}
 use Rattle.ray_bottom.specs.Slots.{Slots, structure_at}
 use Rattle.ray_top.specs.Instances.{InstanceValue}
@@ -28,7 +28,8 @@ use Rattle.ray_nearest.specs.declared.node.WalkNode.{WalkNode}
 use Rattle.ray_nearest.specs.declared.node.WalkNode.TheVariants.{TopInner, TopLeaf, Inner, Leaf}
 use Rattle.ray_nearest.specs.Parts.{SceneParts, scene_of}
 use Rattle.ray_nearest.specs.Scene.{SceneValue}
-use Rattle.ray_walk.specs.Candidates.{active_instance, is_seen, found_at, placed}
+use Rattle.ray_candidates.specs.Candidates.{active_instance, is_seen}
+use Rattle.ray_candidates.specs.Placements.{Placement, entry_in, found_by_item, found_by_place, items_at}
 
 -- what a ray is traced through: the top structure and the bottom structures with their trees, the ray, its flags and its cull
 -- mask
@@ -43,11 +44,6 @@ pub record Traced : Type 0 where
 abbrev pub traced_by : TopWithTree → Slots → RayValue → RayFlags → ℕ → Traced
 traced_by top bottoms ray flags mask = record { top = top; bottoms = bottoms; ray = ray; flags = flags; mask = mask }
 
--- an instance with the bottom structure that it places in the world
-pub record Placement : Type 0 where
-  pub instance : InstanceValue
-  pub bottom : BottomWithTree
-
 -- the placement of an instance, where its mask is seen and its structure stands there
 abbrev pub placement_of : Slots → ℕ → InstanceValue → Option Placement
 placement_of bottoms mask i =
@@ -59,15 +55,7 @@ placement_at s number = option_and_then (placement_of s.bottoms s.mask) (active_
 
 -- ---- boxes
 
--- a box to stand for one that is missing
-abbrev pub no_box : BoxValue
-no_box = box_value (vec3 (pos 0) (pos 0) (pos 0)) (vec3 (pos 0) (pos 0) (pos 0))
-
--- from where a ray is in a box, where it meets it
-abbrev pub entry_in : ObjectRayValue → BoxValue → Option Ratio
-entry_in object box = option_map (λ (r : Reach). r.entry) (reach_of object box)
-
--- from where it is in the box of a node of the top structure, in the world
+-- from where the ray is in the box of a node of the top structure, in the world
 abbrev pub top_entry : Traced → ℕ → Option Ratio
 top_entry s n = entry_in (object_of s.ray identity_value) (box_at s.top.tree no_box n)
 
@@ -125,14 +113,6 @@ abbrev pub children_of : ℕ → ℕ → Option Placement → List WalkNode
 children_of i n None = []
 children_of i n (Some p) = children i p.bottom.tree (node_at p.bottom.tree.nodes n)
 
--- the items of a leaf, by their numbers
-abbrev pub items_by : List ℕ → Node → List ℕ
-items_by order (nodes.Leaf first count) = take count (drop first order)
-items_by order (nodes.Inner left right) = []
-
-abbrev pub items_at : TreeValue → ℕ → List ℕ
-items_at tree n = items_by tree.order (node_at tree.nodes n)
-
 -- the nodes right below a node
 abbrev pub below : Traced → WalkNode → List WalkNode
 below s (TopInner n) = top_children s.top.tree (node_at s.top.tree.nodes n)
@@ -142,18 +122,13 @@ below s (Leaf i n) = []
 
 -- ---- what is found
 
--- what is found of the primitive at a place, of a geometry that is there
-abbrev pub found_in_placed : Traced → ℕ → Placement → PrimPlace → Option Geometry → List Found
-found_in_placed s i p place None = []
-found_in_placed s i p place (Some geometry) =
-    found_at s.ray s.flags p.bottom.geometries (placed s.flags i p.instance place.geometry geometry) place.primitive
-
+-- what is found of the primitive at a place
 abbrev pub found_at_place : Traced → ℕ → Placement → PrimPlace → List Found
-found_at_place s i p place = found_in_placed s i p place (slice_get p.bottom.geometries place.geometry)
+found_at_place s = found_by_place s.ray s.flags
 
 -- what is found of an item of the structure of an instance
 abbrev pub found_of_item : Traced → ℕ → Placement → ℕ → List Found
-found_of_item s i p item = found_at_place s i p (place_at p.bottom.geometries item)
+found_of_item s = found_by_item s.ray s.flags
 
 -- and of all items of a leaf
 abbrev pub found_in_leaf : Traced → ℕ → ℕ → Option Placement → List Found

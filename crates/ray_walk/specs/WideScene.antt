@@ -15,7 +15,8 @@ use Rattle.ray_nearest.specs.Parts.{SceneParts, scene_of}
 use Rattle.ray_nearest.specs.Scene.{SceneValue}
 use Rattle.ray_walk.specs.declared.level.Level.{Level}
 use Rattle.ray_walk.specs.declared.level.Level.TheVariants.{World, Object}
-use Rattle.ray_walk.specs.Traced.{Traced, Placement, IsBottomNode, IsTopNode, entry, finds, items_at, placement_at, tests}
+use Rattle.ray_walk.specs.Traced.{Traced, IsBottomNode, IsTopNode, entry, finds, placement_at, tests}
+use Rattle.ray_candidates.specs.Placements.{Placement, items_at}
 
 -- ---- the nodes of binary trees for whose subtrees wide ones stand
 

@@ -10,7 +10,8 @@ ghost use Rattle.ray_wide.specs.Subtrees.{IsWideLeaf};
 ghost use Rattle.ray_wide.specs.Wides.{children_in, lane_box, lanes_in};
 ghost use Rattle.ray_window.specs.Windows.{window_of};
 ghost use Rattle.ray_walk.specs.Aims.{AddsThrough, AreMet, AreTrees, HasBox, HasLane};
-ghost use Rattle.ray_walk.specs.Traced.{entry_in, no_box};
+ghost use Rattle.ray_candidates.specs.Placements.{entry_in};
+ghost use Rattle.ray_tree.specs.Trees.{no_box};
 ghost use Rattle.ray_walk.specs.WideScene.{child, inner_at, leaf_at};
 
 use crate::level::Level;

@@ -1,9 +1,10 @@
 ghost use Rattle.std.specs.Prelude.{◌≡◌, ◌≤◌, ◌+◌, IfOk};
 ghost use Rattle.ray_flags.specs.Admission.{AsksBoth};
-ghost use Rattle.ray_nearest.specs.Scene.{distance_of, opened_in};
+ghost use Rattle.ray_query.specs.Limits.{distance_of};
+ghost use Rattle.ray_nearest.specs.Scene.{opened_in};
 ghost use Rattle.ray_top.specs.Trees.{without_tree};
-ghost use Rattle.ray_walk.specs.Candidates.{trace_answer};
-ghost use Rattle.ray_walk.specs.Standing.{AreStanding, structures_in};
+ghost use Rattle.ray_candidates.specs.Candidates.{trace_answer};
+ghost use Rattle.ray_candidates.specs.Standing.{AreStanding, structures_in};
 ghost use Rattle.ray_walk.specs.Traced.{traced_by, traced_scene};
 
 use crate::ray_scene::RayScene;
@@ -24,7 +25,8 @@ use std::sync::ledger::Ledger;
 /// opaque and that nothing does. `number` is the ray's in its trace. A step is taken for each
 /// primitive that is tested: no more than the primitives of the opened leaves, those whose boxes,
 /// and those above them, are met up to the committed distance. Turns that wait in `turns` are
-/// dropped, and memory is taken for turns alone; that of the heap is kept from ray to ray.
+/// dropped, and memory is taken for turns alone; that of the heap is kept from ray to ray. After any
+/// answer, want of memory too, `turns` may hold what waited last.
 /// (Vulkan, "Ray Traversal"; own: the order, and the bound.)
 pub fn trace_ray<C: Client, L: Ledger>(
     top: &Top,

@@ -2,7 +2,7 @@ ghost use Rattle.std.specs.Prelude.{◌≡◌};
 ghost use Rattle.ray_flags.specs.Admission.{AsksBoth};
 ghost use Rattle.ray_top.specs.Trees.{without_tree};
 ghost use Rattle.ray_walk.specs.Sound.{IsWalkable};
-ghost use Rattle.ray_walk.specs.Standing.{AreStanding, structures_in};
+ghost use Rattle.ray_candidates.specs.Standing.{AreStanding, structures_in};
 ghost use Rattle.ray_walk.specs.Traced.{traced_by};
 
 use ray_bottom::Bottoms;

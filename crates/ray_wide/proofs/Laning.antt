@@ -14,7 +14,8 @@ use Rattle.ray_wide.specs.declared.node.WideNode.{WideNode}
 use Rattle.ray_wide.specs.declared.fill.Lane.{Lane}
 use Rattle.ray_wide.specs.Subtrees.{IsInnerNode}
 use Rattle.ray_wide.specs.Wides.{wide_value, child_at, children_in, lanes_in, top_at, lane_box, IsChild, IsNodeOver, IsLane, IsCollapsed, WideOver, IsSameButLanes}
-use Rattle.ray_wide.specs.Lanes.{no_box, padded_lane, lane_of, lane_at, lane_for, lanes_for, lanes_by, filled}
+use Rattle.ray_tree.specs.Trees.{no_box}
+use Rattle.ray_wide.specs.Lanes.{padded_lane, lane_of, lane_at, lane_for, lanes_for, lanes_by, filled}
 
 -- a lane of several beside each other
 abbrev box_of_lane : Lane → BoxValue

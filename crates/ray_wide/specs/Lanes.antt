@@ -3,16 +3,12 @@ use Rattle.std.specs.Prelude.{◌^◌, ◌-◌, ℕ, pos, negsuc, nat_lt, if◌t
 use Rattle.ray_geom.specs.Boxes.{BoxValue, box_value}
 use Rattle.ray_geom.specs.Vector.{vec3}
 use Rattle.ray_lanes.specs.declared.lanes.Lanes8.{Lanes8}
-use Rattle.ray_tree.specs.Trees.{TreeValue, box_at}
+use Rattle.ray_tree.specs.Trees.{TreeValue, box_at, no_box}
 use Rattle.ray_wide.specs.declared.node.WideRef.{WideRef}
 use Rattle.ray_wide.specs.declared.node.WideRef.TheVariants.{Leaf, Inner, Empty}
 use Rattle.ray_wide.specs.declared.node.WideNode.{WideNode}
 use Rattle.ray_wide.specs.declared.fill.Lane.{Lane}
 use Rattle.ray_wide.specs.Wides.{top_at}
-
--- a box to stand for one that is missing
-abbrev pub no_box : BoxValue
-no_box = box_value (vec3 (pos 0) (pos 0) (pos 0)) (vec3 (pos 0) (pos 0) (pos 0))
 
 -- the lane without a box
 abbrev pub padded_lane : Lane

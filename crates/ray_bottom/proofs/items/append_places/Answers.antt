@@ -1,7 +1,7 @@
 use Rattle.std.proofs.Common.{◌++◌, ◌∷◌, [], sym, ap, ◌∙◌, arith, map, append_assoc}
 use Rattle.std.specs.List.{range_with_len}
 use Rattle.std.proofs.lemmas.List.FromFn.{map-range_with_len_more}
-use Rattle.ray_bottom.specs.Trees.{place_of}
+use Rattle.ray_leaves.specs.Places.{place_of}
 use Rattle.ray_bottom.proofs.items.append_places.Goals as goal
 
 pub loop-primitive-preserved : goal.loop-primitive-preserved

@@ -1,6 +1,6 @@
 use Rattle.std.proofs.Common.{◌≡◌, ◌++◌, map}
 use Rattle.std.specs.List.{range_with_len}
-use Rattle.ray_bottom.specs.Trees.{place_of}
+use Rattle.ray_leaves.specs.Places.{place_of}
 use Rattle.ray_bottom.proofs.items.append_places.Given as goal
 
 -- the primitives so far

@@ -1,5 +1,5 @@
 use Rattle.std.proofs.Common.{rules, ◌∙◌, sym, ap, inr}
-use Rattle.ray_nearest.specs.Scene.{distance_of, is_within}
+use Rattle.ray_query.specs.Limits.{distance_of, is_within}
 use Rattle.ray_nearest.specs.TurnLaws.{turn_of}
 use Rattle.ray_nearest.specs.Turns.{turn_at}
 use Rattle.ray_nearest.proofs.Popping.{all_beyond}

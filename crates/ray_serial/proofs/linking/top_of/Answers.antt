@@ -4,8 +4,8 @@ use Rattle.ray_bytes.specs.declared.data_fault.DataFault.{DataFault}
 use Rattle.ray_flags.specs.declared.build_flags.BuildFlags.{BuildFlags}
 use Rattle.ray_top.specs.Trees.{GivesTop}
 use Rattle.ray_top.specs.Contents.{TopValue, has_both_fast, top_built}
-use Rattle.ray_serial.specs.InstanceBytes.{instance_parts}
-use Rattle.ray_serial.specs.Form.{instances_of_payload, flags_of_payload}
+use Rattle.ray_form.specs.InstanceBytes.{instance_parts}
+use Rattle.ray_form.specs.Form.{instances_of_payload, flags_of_payload}
 use Rattle.ray_serial.specs.TopMeaning.{put_parts}
 use Rattle.ray_serial.proofs.TopForms.{top_says, top_same}
 use Rattle.ray_serial.proofs.Links.{top_in-rule}

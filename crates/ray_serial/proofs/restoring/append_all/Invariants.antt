@@ -1,6 +1,6 @@
 use Rattle.std.proofs.Common.{◌-◌}
 use Rattle.ray_bottom.specs.Builders.{bare}
-use Rattle.ray_serial.specs.Rows.{geometries_in}
+use Rattle.ray_form.specs.Rows.{geometries_in}
 use Rattle.ray_serial.proofs.Restore.{IsRestoring}
 use Rattle.ray_serial.proofs.restoring.append_all.Given as goal
 

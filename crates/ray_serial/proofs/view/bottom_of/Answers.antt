@@ -3,8 +3,8 @@ use Rattle.std.specs.Prelude.{slice_index}
 use Rattle.ray_flags.specs.declared.build_flags.BuildFlags.{BuildFlags}
 use Rattle.ray_geometries.specs.Contents.{has_both_fast}
 use Rattle.ray_bottom.specs.Trees.{without_tree}
-use Rattle.ray_serial.specs.Rows.{geometries_in}
-use Rattle.ray_serial.specs.Form.{payload_in, flags_of_payload, geometry_count, row_of}
+use Rattle.ray_form.specs.Rows.{geometries_in}
+use Rattle.ray_form.specs.Form.{payload_in, flags_of_payload, geometry_count, row_of}
 use Rattle.ray_serial.specs.Meaning.{with_flags, CanRestore, bottom_in}
 use Rattle.ray_serial.specs.Written.{bottom_form}
 use Rattle.ray_serial.proofs.Words.{AreBytes}

@@ -5,7 +5,7 @@ use Rattle.ray_wide.specs.declared.node.WideRef.{WideRef}
 use Rattle.ray_wide.specs.Wides.{top_at}
 use Rattle.ray_nearest.specs.Adding.{AddsNode, AddsOne}
 use Rattle.ray_walk.specs.Aims.{AddsThrough, HasLane}
-use Rattle.ray_walk.specs.Traced.{entry_in}
+use Rattle.ray_candidates.specs.Placements.{entry_in}
 use Rattle.ray_walk.specs.WideScene.{child}
 use Rattle.ray_walk.proofs.Pushing.{pushed-inner, pushed-leaf}
 use Rattle.ray_walk.proofs.children.push_below.Goals as goal

@@ -12,7 +12,7 @@ use Rattle.ray_wide.specs.Subtrees.{wide_leaf}
 use Rattle.ray_wide.specs.Wides.{child_at, children_in, lanes_in}
 use Rattle.ray_window.specs.Windows.{window_of}
 use Rattle.ray_nearest.specs.Adding.{AddsNode}
-use Rattle.ray_nearest.specs.Scene.{is_open}
+use Rattle.ray_query.specs.Limits.{is_open}
 use Rattle.ray_walk.specs.Aims.{AddsThrough, AreLeftOut, AreMet, AreTrees, HasLane, entry_through}
 use Rattle.ray_geom.specs.declared.ratio.Ratio.{Ratio}
 use Rattle.ray_geom.specs.ObjectRay.{IsObjectRay}

@@ -2,7 +2,7 @@ use Rattle.std.proofs.Common.{subst}
 use Rattle.std.proofs.lemmas.Result.{on_ok_weaker}
 use Rattle.ray_geom.specs.Boxes.{BoxValue}
 use Rattle.ray_nearest.specs.Adding.{AddsNode, AddsOne}
-use Rattle.ray_walk.specs.Traced.{entry_in}
+use Rattle.ray_candidates.specs.Placements.{entry_in}
 use Rattle.ray_walk.proofs.children.push_lane.Goals as goal
 
 pub returns : goal.returns

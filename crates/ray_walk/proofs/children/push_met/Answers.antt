@@ -2,7 +2,7 @@ use Rattle.std.proofs.Common.{subst}
 use Rattle.std.proofs.lemmas.Result.{on_ok_weaker}
 use Rattle.ray_prune.specs.BoxReach.{IsSameReach, reach_of}
 use Rattle.ray_nearest.proofs.Added.{pushed_node}
-use Rattle.ray_walk.specs.Traced.{entry_in}
+use Rattle.ray_candidates.specs.Placements.{entry_in}
 use Rattle.ray_walk.proofs.Pushing.{same-entry}
 use Rattle.ray_walk.proofs.children.push_met.Goals as goal
 

@@ -1,16 +1,16 @@
 use Rattle.std.proofs.Common.{ap, rules, sym, subst, ◌∙◌}
 use Rattle.ray_geom.specs.ObjectRay.{object_of}
 use Rattle.ray_window.specs.Windows.{window_of}
-use Rattle.ray_bottom.specs.declared.leaf_item.LeafItem.{LeafItem}
-use Rattle.ray_bottom.specs.Lists.{item_in}
+use Rattle.ray_leaves.specs.declared.leaf_item.LeafItem.{LeafItem}
+use Rattle.ray_leaves.specs.Lists.{item_in}
 use Rattle.ray_walk.specs.Aims.{MeetsPoints}
 use Rattle.ray_walk.specs.Scenes.{placement_value}
 use Rattle.ray_walk.proofs.Beside.{adds_nothing}
 use Rattle.ray_walk.proofs.WellPlaced.{well_placed}
 use Rattle.ray_walk.proofs.leaf.add_item.Goals as goal
 
-pub returns-then-not-meets_points-clause-added : goal.returns-then-not-meets_points-clause-added
-returns-then-not-meets_points-clause-added g c =
+pub returns-then-not-meets_points : goal.returns-then-not-meets_points
+returns-then-not-meets_points c =
     let w = c.known.ensures in
     let s = c.args.view.now in
     let p = placement_value c.args.looked.now in

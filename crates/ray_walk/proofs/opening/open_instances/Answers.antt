@@ -2,7 +2,7 @@ use Rattle.std.proofs.Common.{◌≡◌, List, ℕ, subst, rules}
 use Rattle.std.specs.List.{flat_map}
 use Rattle.std.proofs.lemmas.Result.{on_ok_weaker}
 use Rattle.ray_walk.specs.Scenes.{AddsWide}
-use Rattle.ray_walk.specs.Traced.{items_at}
+use Rattle.ray_candidates.specs.Placements.{items_at}
 use Rattle.ray_walk.specs.WideScene.{wide_roots}
 use Rattle.ray_walk.proofs.Pushing.{below-itself}
 use Rattle.ray_walk.proofs.opening.open_instances.Goals as goal

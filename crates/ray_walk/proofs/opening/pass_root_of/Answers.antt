@@ -6,7 +6,7 @@ use Rattle.ray_nearest.specs.declared.node.WalkNode.TheVariants.{Inner}
 use Rattle.ray_nearest.specs.Adding.{AddsNodes}
 use Rattle.ray_walk.specs.declared.level.Level.TheVariants.{Object}
 use Rattle.ray_walk.specs.Scenes.{placement_value}
-use Rattle.ray_walk.specs.Traced.{Placement}
+use Rattle.ray_candidates.specs.Placements.{Placement}
 use Rattle.ray_walk.specs.WideScene.{child, root_by, wide_roots, wide_scene}
 use Rattle.ray_walk.proofs.Pushing.{below-itself, passed-alone}
 use Rattle.ray_walk.proofs.opening.pass_root_of.Goals as goal

@@ -6,7 +6,7 @@ use Rattle.ray_wide.specs.Wides.{WideValue}
 use Rattle.ray_walk.specs.declared.level.Level.TheVariants.{Object}
 use Rattle.ray_walk.specs.Aims.{HasBox}
 use Rattle.ray_walk.specs.Scenes.{AddsWide, placement_value}
-use Rattle.ray_walk.specs.Traced.{Placement}
+use Rattle.ray_candidates.specs.Placements.{Placement}
 use Rattle.ray_walk.specs.WideScene.{child, root_by}
 use Rattle.ray_walk.proofs.LeftOut.{root-box}
 use Rattle.ray_walk.proofs.Pushing.{object-entries, through-object}

@@ -1,7 +1,0 @@
-use Rattle.std.proofs.Common.{◌≡◌, take, map}
-use Rattle.ray_bottom.specs.LeafItems.{item_of_triangles}
-use Rattle.ray_bottom.proofs.leaf_items.packed_triangles.Given as goal
-
--- the places so far
-abbrev pub invariant-loop-place : goal.invariant-loop-place
-invariant-loop-place l = l.items.items ≡ map (item_of_triangles l.triangles) (take l.place-index l.places)

@@ -1,0 +1,5 @@
+pub mod Candidates
+pub mod Laws
+pub mod Standing
+pub mod Telling
+pub mod Placements

@@ -1,5 +1,0 @@
-use Rattle.ray_climb.specs.Ready.{AreBoxesBelow}
-use Rattle.ray_climb.proofs.least.check_boxes.Given as goal
-
-abbrev pub invariant-loop-i : goal.invariant-loop-i
-invariant-loop-i l = AreBoxesBelow l.items l.i

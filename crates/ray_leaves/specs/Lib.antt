@@ -1,0 +1,4 @@
+pub mod Places
+pub mod LeafItems
+pub mod Packed
+pub mod Lists

@@ -1,7 +1,0 @@
-use Rattle.std.proofs.Common.{◌≡◌, ◌-◌}
-use Rattle.std.specs.Prelude.{is_some}
-use Rattle.ray_serial.specs.Rows.{geometries_in}
-use Rattle.ray_serial.proofs.rows.are_sound.Given as goal
-
-abbrev pub invariant-loop-i : goal.invariant-loop-i
-invariant-loop-i l = is_some (geometries_in (l.n - l.i) l.rest) ≡ is_some (geometries_in l.n l.bytes)

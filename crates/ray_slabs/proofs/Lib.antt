@@ -1,0 +1,10 @@
+mod Products
+mod Crossings
+mod Ways
+mod Axes
+mod Making
+mod Sides
+mod Standing
+mod Rising
+mod Whole
+mod Joining

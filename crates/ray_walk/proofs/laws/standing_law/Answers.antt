@@ -1,6 +1,0 @@
-use Rattle.ray_top.specs.Trees.{without_tree}
-use Rattle.ray_walk.proofs.Placing.{AreStanding-here}
-use Rattle.ray_walk.proofs.laws.standing_law.Goals as goal
-
-pub returns : goal.returns
-returns c = AreStanding-here (without_tree c.args.top.now) _ c.len-limits.ensures.limits c.requires
