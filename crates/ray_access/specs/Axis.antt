@@ -7,7 +7,8 @@ use Rattle.ray_rules.specs.declared.access_type.AccessType.{AccessType}
 use Rattle.ray_rules.specs.declared.reach.Reach.{Reach}
 use Rattle.ray_rules.specs.declared.reach.Reach.TheVariants.{Bytes, Structure, Scratch}
 use Rattle.ray_rules.specs.declared.touch.Touch.{Touch}
-use Rattle.ray_rules.specs.Hazards.{maker_of_buffer, maker_of_structure, shares}
+use Rattle.ray_rules.specs.Hazards.{shares}
+use Rattle.ray_rules.specs.Makers.{buffer_of, maker_of_buffer, maker_of_structure}
 use Rattle.ray_rules.specs.Status.{Status}
 use Rattle.ray_status.specs.Limits.{Fits}
 use Rattle.ray_access.specs.declared.axis.Memory.{Memory}
@@ -48,9 +49,9 @@ ReachFits (Scratch r) = Fits r
 abbrev pub TouchFits : Touch → Type 0
 TouchFits t = ReachFits t.reach
 
--- a touch, with its numbers
+-- a touch, with its numbers and its buffer
 abbrev pub touched : Status → Touch → Touched
-touched z t = record { access = t.access; range = extent_of z t.reach }
+touched z t = record { access = t.access; range = extent_of z t.reach; buffer = buffer_of z t.reach }
 
 -- the law: what is reached where one status stands shares something with what is reached where another
 -- does exactly where their numbers meet

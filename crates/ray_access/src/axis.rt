@@ -1,4 +1,5 @@
 ghost use Rattle.std.specs.Prelude.{◌≡◌, ◌+◌, ◌≤◌, ◌^◌};
+ghost use Rattle.ray_rules.specs.Makers.{buffer_of};
 ghost use Rattle.ray_access.specs.Axis.{ReachFits, TouchFits, extent_of, memory_number, stretch, stretch_from, touched};
 
 use crate::touched::Touched;
@@ -80,7 +81,18 @@ fn extent_of(status: &Status, reach: Reach) -> Range
     }
 }
 
-// A touch, with its numbers.
+// The buffer in which something is reached where a status stands, by the command that made it.
+fn buffer_of(status: &Status, reach: Reach) -> Option<u32>
+    ensures { result ≡ buffer_of status.now reach }
+{
+    match reach {
+        Reach::Bytes(r) => status.maker_of_buffer(r.buffer),
+        Reach::Structure(_) => None,
+        Reach::Scratch(r) => status.maker_of_buffer(r.buffer),
+    }
+}
+
+// A touch, with its numbers and its buffer.
 pub(crate) fn touched(status: &Status, touch: Touch) -> Touched
     requires { TouchFits touch }
     ensures { result ≡ touched status.now touch }
@@ -88,5 +100,6 @@ pub(crate) fn touched(status: &Status, touch: Touch) -> Touched
     Touched {
         access: touch.access,
         range: extent_of(status, touch.reach),
+        buffer: buffer_of(status, touch.reach),
     }
 }

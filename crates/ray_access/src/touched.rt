@@ -8,4 +8,7 @@ pub struct Touched {
     pub access: AccessType,
     /// The numbers of what it reaches: none where that isn't live.
     pub range: Range,
+    /// The number of the command that made the buffer in which it reaches them: none where it
+    /// reaches a structure, or the buffer isn't live.
+    pub buffer: Option<u32>,
 }

@@ -8,6 +8,7 @@ use Rattle.ray_cmd.specs.declared.place.Place.{Place}
 use Rattle.ray_cmd.specs.declared.refusal.Refusal.{Refusal}
 use Rattle.ray_rules.specs.Hazards.{after_if, status_at}
 use Rattle.ray_rules.specs.Phases.{v28_at_end}
+use Rattle.ray_rules.specs.Order.{barriers}
 use Rattle.ray_rules.specs.Refusals.{refused, or_after, static_refusal_from, static_refusal_of}
 use Rattle.ray_rules.specs.Status.{Status, after, at_first}
 use Rattle.ray_rules.specs.Verdict.{rule_refusal_from, rule_refusal_of}
@@ -89,14 +90,14 @@ static-among rec (c ∷ cs) i z r e =
     (λ q d. subst (λ n. IsAmong (i + 1) n q) more (static-among rec cs (i + 1) (after i c z) q d)) r e
 
 pub rule-among :
-    (rec : List Command) (cs : List Command) (i : ℕ) (z : Status) (r : Refusal) → rule_refusal_from rec i z cs ≡ Some r
+    (rec : List Command) (cs : List Command) (i : ℕ) (z : Status) (r : Refusal) → rule_refusal_from (barriers rec) rec i z cs ≡ Some r
     → IsAmong i (i + length cs) r
 rule-among rec [] i z r e =
     let same = end-at i (v28_at_end z) r e in
     record { least = omega arith; most = omega arith }
 rule-among rec (c ∷ cs) i z r e =
     let more : (i + 1) + length cs ≡ i + length (c ∷ cs) = omega arith in
-    among-after i (i + length (c ∷ cs)) (rule_refusal_of rec i z c) (rule_refusal_from rec (i + 1) (after i c z) cs)
+    among-after i (i + length (c ∷ cs)) (rule_refusal_of (barriers rec) rec i z c) (rule_refusal_from (barriers rec) rec (i + 1) (after i c z) cs)
     (omega arith) (command-joined rec i z c).rule_at
     (λ q d. subst (λ n. IsAmong (i + 1) n q) more (rule-among rec cs (i + 1) (after i c z) q d)) r e
 

@@ -13,6 +13,7 @@ use Rattle.ray_rules.specs.FlagRules.{v22, v23, v24}
 use Rattle.ray_rules.specs.Hazards.{v25, v26, v27, v32}
 use Rattle.ray_rules.specs.Names.{v1}
 use Rattle.ray_rules.specs.Phases.{v28, v29}
+use Rattle.ray_rules.specs.Order.{barriers}
 use Rattle.ray_rules.specs.Refusals.{Row, AreKept, refused, least_broken, or_after, static_refusal_of}
 use Rattle.ray_rules.specs.Shapes.{v7, v8, v9, v10}
 use Rattle.ray_rules.specs.Sources.{v13, v14, v15, v17, v18, v20, v21}
@@ -195,14 +196,14 @@ late_table z c = (28, v28 z c) ∷ (29, v29 z c) ∷ (30, v30 z c) ∷ (31, v31 
 
 -- the rules 25 to 27, and 32
 abbrev pub met_table : List Command → ℕ → List Row
-met_table rec i = (25, v25 rec i) ∷ (26, v26 rec i) ∷ (27, v27 rec i) ∷ []
+met_table rec i = (25, v25 (barriers rec) rec i) ∷ (26, v26 (barriers rec) rec i) ∷ (27, v27 (barriers rec) rec i) ∷ []
 
 abbrev pub read_table : List Command → ℕ → List Row
-read_table rec i = (32, v32 rec i) ∷ []
+read_table rec i = (32, v32 (barriers rec) rec i) ∷ []
 
 pub command-joined :
     (rec : List Command) (i : ℕ) (z : Status) (c : Command)
-    → IsJoined i (static_refusal_of rec i z c) (hazard_of rec i) (rule_refusal_of rec i z c)
+    → IsJoined i (static_refusal_of rec i z c) (hazard_of (barriers rec) rec i) (rule_refusal_of (barriers rec) rec i z c)
 unfolding static_refusal_of hazard_of rule_refusal_of
 command-joined rec i z c = joined i (early_table rec z c) (met_table rec i) (late_table z c) (read_table rec i) refl refl refl refl
 

@@ -8,6 +8,7 @@ use Rattle.ray_cmd.specs.declared.command.Command.{Command}
 use Rattle.ray_cmd.specs.declared.refusal.Refusal.{Refusal}
 use Rattle.ray_rules.specs.Hazards.{status_at}
 use Rattle.ray_rules.specs.Phases.{v28_at_end}
+use Rattle.ray_rules.specs.Order.{barriers}
 use Rattle.ray_rules.specs.Refusals.{or_after, refusal_at_end, static_refusal, static_refusal_from, static_refusal_of}
 use Rattle.ray_rules.specs.Status.{Status, after, at_first}
 use Rattle.ray_rules.specs.Verdict.{GoOn, first_hazard, hazard_of, rule_refusal, rule_refusal_from, rule_refusal_of}
@@ -17,19 +18,19 @@ use Rattle.ray_check.proofs.Going.{IsLeft, end-at, left-first, left-here, left-n
 
 -- the first hazard of fewer commands is that of more
 pub hazard-stays :
-    (rec : List Command) (n m : ℕ) (h : Refusal) → first_hazard rec n ≡ Some h → n ≤ m → first_hazard rec m ≡ Some h
-hazard-stays rec n zero h e w = let same : zero ≡ n = omega arith in ap (first_hazard rec) same ∙ e
+    (rec : List Command) (n m : ℕ) (h : Refusal) → first_hazard (barriers rec) rec n ≡ Some h → n ≤ m → first_hazard (barriers rec) rec m ≡ Some h
+hazard-stays rec n zero h e w = let same : zero ≡ n = omega arith in ap (first_hazard (barriers rec) rec) same ∙ e
 hazard-stays rec n (suc m) h e w =
     elim (cases_lt m n) [
-      | inl l ↦ let same : suc m ≡ n = omega arith in ap (first_hazard rec) same ∙ e
-      | inr g ↦ ap (λ o. or_after o (hazard_of rec m)) (hazard-stays rec n m h e g)
+      | inl l ↦ let same : suc m ≡ n = omega arith in ap (first_hazard (barriers rec) rec) same ∙ e
+      | inr g ↦ ap (λ o. or_after o (hazard_of (barriers rec) rec m)) (hazard-stays rec n m h e g)
     ]
 
 pub hazard-next :
-    (rec : List Command) (i : ℕ) → first_hazard rec i ≡ None → first_hazard rec (i + 1) ≡ hazard_of rec i
+    (rec : List Command) (i : ℕ) → first_hazard (barriers rec) rec i ≡ None → first_hazard (barriers rec) rec (i + 1) ≡ hazard_of (barriers rec) rec i
 hazard-next rec i e =
     let more : i + 1 ≡ suc i = omega arith in
-    ap (first_hazard rec) more ∙ ap (λ o. or_after o (hazard_of rec i)) e
+    ap (first_hazard (barriers rec) rec) more ∙ ap (λ o. or_after o (hazard_of (barriers rec) rec i)) e
 
 -- the hazard of an earlier command is the first
 pub earlier-first :
@@ -55,35 +56,35 @@ first-there r (Some q) later = choice-there (is_before q r) q r later
 -- at the end there is no hazard
 pub join-end :
     (rec : List Command) (i n : ℕ) (o : Option Refusal) → ((r : Refusal) → o ≡ Some r → r.command ≡ i) → n ≡ i
-    → first_hazard rec i ≡ None → o ≡ first_of_two o (first_hazard rec (looked_at n o))
-join-end rec i n None at e none = sym (ap (first_hazard rec) e ∙ none)
+    → first_hazard (barriers rec) rec i ≡ None → o ≡ first_of_two o (first_hazard (barriers rec) rec (looked_at n o))
+join-end rec i n None at e none = sym (ap (first_hazard (barriers rec) rec) e ∙ none)
 join-end rec i n (Some r) at e none =
     let here = at r refl in
     sym
-    (ap (λ m. first_of_two (Some r) (first_hazard rec m)) (looked-end n r (omega arith) ∙ here)
+    (ap (λ m. first_of_two (Some r) (first_hazard (barriers rec) rec m)) (looked-end n r (omega arith) ∙ here)
     ∙ ap (first_of_two (Some r)) none)
 
 -- from a command to the next
 pub join-step :
     (rec : List Command) (i n : ℕ) (static hazard rule later all : Option Refusal) → i < n
-    → IsJoined i static hazard rule → first_hazard rec i ≡ None → first_hazard rec (i + 1) ≡ hazard
+    → IsJoined i static hazard rule → first_hazard (barriers rec) rec i ≡ None → first_hazard (barriers rec) rec (i + 1) ≡ hazard
     → ((r : Refusal) → later ≡ Some r → i < r.command)
-    → (first_hazard rec (i + 1) ≡ None → all ≡ first_of_two later (first_hazard rec (looked_at n later)))
+    → (first_hazard (barriers rec) rec (i + 1) ≡ None → all ≡ first_of_two later (first_hazard (barriers rec) rec (looked_at n later)))
     → or_after rule all
-    ≡ first_of_two (or_after static later) (first_hazard rec (looked_at n (or_after static later)))
+    ≡ first_of_two (or_after static later) (first_hazard (barriers rec) rec (looked_at n (or_after static later)))
 join-step rec i n (Some r) hazard rule later all below j none next above goes =
     let here = j.static_at r refl in
     elim (cases_Bool (is_early r.rule)) [
       | inl e ↦
           ap (λ o. or_after o all) (j.joined ∙ j.early r refl e)
           ∙ sym
-          (ap (λ m. first_of_two (Some r) (first_hazard rec m)) (looked-early n r e ∙ here)
+          (ap (λ m. first_of_two (Some r) (first_hazard (barriers rec) rec m)) (looked-early n r e ∙ here)
           ∙ ap (first_of_two (Some r)) none)
       | inr e ↦
           ap (λ o. or_after o all) j.joined
           ∙ (first-there r hazard all
           ∙ sym
-          (ap (λ m. first_of_two (Some r) (first_hazard rec m))
+          (ap (λ m. first_of_two (Some r) (first_hazard (barriers rec) rec m))
           (looked-late n r (omega arith) e ∙ ap (λ m. m + 1) here)
           ∙ ap (first_of_two (Some r)) next))
     ]
@@ -98,17 +99,17 @@ join-step rec i n None (Some h) rule later all below j none next above goes =
     ∙ earlier-first later h (λ r e. let u = above r e in omega arith))
 
 pub join-from :
-    (rec : List Command) (cs : List Command) (i : ℕ) (z : Status) → IsLeft rec i z cs → first_hazard rec i ≡ None
-    → rule_refusal_from rec i z cs
+    (rec : List Command) (cs : List Command) (i : ℕ) (z : Status) → IsLeft rec i z cs → first_hazard (barriers rec) rec i ≡ None
+    → rule_refusal_from (barriers rec) rec i z cs
     ≡ first_of_two (static_refusal_from rec i z cs)
-    (first_hazard rec (looked_at (length rec) (static_refusal_from rec i z cs)))
+    (first_hazard (barriers rec) rec (looked_at (length rec) (static_refusal_from rec i z cs)))
 join-from rec [] i z l none =
     let many = l.many in
     join-end rec i (length rec) (refusal_at_end i z) (end-at i (v28_at_end z)) (omega arith) none
 join-from rec (c ∷ cs) i z l none =
     let many = l.many in
-    join-step rec i (length rec) (static_refusal_of rec i z c) (hazard_of rec i) (rule_refusal_of rec i z c)
-    (static_refusal_from rec (i + 1) (after i c z) cs) (rule_refusal_from rec (i + 1) (after i c z) cs) (omega arith)
+    join-step rec i (length rec) (static_refusal_of rec i z c) (hazard_of (barriers rec) rec i) (rule_refusal_of (barriers rec) rec i z c)
+    (static_refusal_from rec (i + 1) (after i c z) cs) (rule_refusal_from (barriers rec) rec (i + 1) (after i c z) cs) (omega arith)
     (command-joined rec i z c) none (hazard-next rec i none)
     (λ r e. let m = (static-among rec cs (i + 1) (after i c z) r e).least in omega arith)
     (λ e. join-from rec cs (i + 1) (after i c z) (left-next rec i z c cs l) e)
@@ -116,11 +117,11 @@ join-from rec (c ∷ cs) i z l none =
 -- the whole recording
 pub joins :
     (rec : List Command) (st hz : Option Refusal) → st ≡ static_refusal rec
-    → hz ≡ first_hazard rec (looked_at (length rec) st) → first_of_two st hz ≡ rule_refusal rec
+    → hz ≡ first_hazard (barriers rec) rec (looked_at (length rec) st) → first_of_two st hz ≡ rule_refusal (barriers rec) rec
 unfolding static_refusal rule_refusal
 joins rec st hz e f =
     ap (first_of_two st) f
-    ∙ (ap (λ o. first_of_two o (first_hazard rec (looked_at (length rec) o))) e
+    ∙ (ap (λ o. first_of_two o (first_hazard (barriers rec) rec (looked_at (length rec) o))) e
     ∙ sym (join-from rec rec 0 at_first (left-first rec) refl))
 
 -- how many commands are looked at, by what is known of the order
@@ -131,7 +132,7 @@ looked-is rec st n until many e f g = e ∙ (f ∙ ap (λ m. looked_at m st) g)
 
 -- which is of a command, or of the end
 pub within :
-    (rec : List Command) (o : Option Refusal) → o ≡ rule_refusal rec → IfSome o (λ r. r.command ≤ length rec)
+    (rec : List Command) (o : Option Refusal) → o ≡ rule_refusal (barriers rec) rec → IfSome o (λ r. r.command ≤ length rec)
 unfolding rule_refusal
 within rec None e = tt
 within rec (Some r) e = let m = (rule-among rec rec 0 at_first r (sym e)).most in omega arith

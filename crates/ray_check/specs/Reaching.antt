@@ -1,26 +1,21 @@
 -- That a command which breaks no rule reads and writes bytes that are there. (Own.)
-use Rattle.std.specs.Prelude.{ℕ, ◌+◌, ◌≤◌, ◌<◌, ◌≡◌, List, [], ◌∷◌, None}
+use Rattle.std.specs.Prelude.{◌≡◌, List, [], ◌∷◌, None}
 use Rattle.ray_cmd.specs.declared.command.Command.{Command}
-use Rattle.ray_rules.specs.declared.byte_range.ByteRange.{ByteRange}
 use Rattle.ray_rules.specs.declared.live_buffer.LiveBuffer.{LiveBuffer}
 use Rattle.ray_rules.specs.declared.reach.Reach.{Reach}
 use Rattle.ray_rules.specs.declared.reach.Reach.TheVariants.{Bytes, Structure, Scratch}
 use Rattle.ray_rules.specs.declared.touch.Touch.{Touch}
 use Rattle.ray_rules.specs.Access.{accesses_of, host_reads}
 use Rattle.ray_rules.specs.Ids.{Ids}
-use Rattle.ray_rules.specs.Ranges.{size_at}
 use Rattle.ray_rules.specs.Spans.{v4, v12}
 use Rattle.ray_rules.specs.Status.{Status}
-
--- each byte of a range is in its buffer
-abbrev pub IsThere : Ids LiveBuffer → ByteRange → Type 0
-IsThere buffers r = (b : ℕ) → r.from ≤ b → b < r.from + r.size → b < size_at buffers r.buffer
+use Rattle.ray_rules.specs.Within.{IsInBuffer}
 
 -- each byte that is reached is in its buffer; of a structure nothing is asked
 abbrev pub ReachesThere : Ids LiveBuffer → Reach → Type 0
-ReachesThere buffers (Bytes r) = IsThere buffers r
+ReachesThere buffers (Bytes r) = IsInBuffer buffers r
 ReachesThere buffers (Structure id) = Unit {0}
-ReachesThere buffers (Scratch r) = IsThere buffers r
+ReachesThere buffers (Scratch r) = IsInBuffer buffers r
 
 -- each of these touches does so
 abbrev pub TouchThere : Ids LiveBuffer → List Touch → Type 0

@@ -1,4 +1,5 @@
 ghost use Rattle.std.specs.Prelude.{◌≡◌, ◌≤◌, IfOk, IfSome, length};
+ghost use Rattle.ray_rules.specs.Order.{barriers};
 ghost use Rattle.ray_rules.specs.Verdict.{rule_refusal};
 
 use crate::joining::{first_of_two, looked_at};
@@ -15,7 +16,7 @@ use std::alloc::{AllocError as NoMemory, Global};
 ///
 /// For want of memory alone.
 pub fn check_rules(alloc: Global, rec: &Recording) -> Result<Option<Refusal>, NoMemory>
-    ensures value { IfOk result (λ refusal. refusal ≡ rule_refusal rec.now) }
+    ensures value { IfOk result (λ refusal. refusal ≡ rule_refusal (barriers rec.now) rec.now) }
     ensures within { IfOk result (λ refusal. IfSome refusal (λ r. r.command ≤ length rec.now)) }
 {
     let refusal = check_static(alloc, rec)?;

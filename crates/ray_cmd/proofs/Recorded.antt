@@ -31,7 +31,7 @@ less_none taken left h = choose (nat_le taken left) refl h
 abbrev step : Bool → Option Command → Option ℕ → ℕ → (ℕ → Reading) → Reading
 step full o q i next =
     if full then Err (BadShape most_commands)
-    else or_bad i o >>= λ command. or_bad i q >>= λ rest. next rest >>= λ commands. Ok (command ∷ commands)
+    else or_bad i q >>= λ rest. or_bad i o >>= λ command. next rest >>= λ commands. Ok (command ∷ commands)
 
 -- the first command and the rest of them
 record Begins (full : Bool) (o : Option Command) (q : Option ℕ) (next : ℕ → Reading) (cs : List Command) : Type 0 where
@@ -52,8 +52,8 @@ begun c rest next (Err fault) cs e h = absurd (cc)
 begins : (full : Bool) (o : Option Command) (q : Option ℕ) (i : ℕ) (next : ℕ → Reading) (cs : List Command)
     → step full o q i next ≡ Ok cs → Begins full o q next cs
 begins true o q i next cs h = absurd (cc)
-begins false None q i next cs h = absurd (cc)
-begins false (Some c) None i next cs h = absurd (cc)
+begins false o None i next cs h = absurd (cc)
+begins false None (Some rest) i next cs h = absurd (cc)
 begins false (Some c) (Some rest) i next cs h = begun c rest next (next rest) cs refl h
 
 -- what the commands are of the items from a number on
@@ -110,8 +110,8 @@ failed c rest next (Err fault) i k e h = inr (inr (record { first = c; rest = re
 ends : (full : Bool) (o : Option Command) (q : Option ℕ) (i k : ℕ) (next : ℕ → Reading)
     → step full o q i next ≡ Err (BadShape k) → Ends full o q next i k
 ends true o q i k next h = inl (refl, cc)
-ends false None q i k next h = inr (inl (refl, cc, inl refl))
-ends false (Some c) None i k next h = inr (inl (refl, cc, inr refl))
+ends false o None i k next h = inr (inl (refl, cc, inr refl))
+ends false None (Some rest) i k next h = inr (inl (refl, cc, inl refl))
 ends false (Some c) (Some rest) i k next h = failed c rest next (next rest) i k refl h
 
 -- item number j of items from a number on is the first that is bad
@@ -188,7 +188,7 @@ found i left (item d ds) k within h =
     (ends (nat_le most_commands i) (command_of d) (less (listed_in d) left) i k (λ rest. commands_from (i + 1) rest ds) h)
 
 -- the whole array
-recording_is : (ds : Items) (cs : List Command) → commands_from 0 most_members ds ≡ Ok cs → IsRecordingOf ds cs
+pub recording_is : (ds : Items) (cs : List Command) → commands_from 0 most_members ds ≡ Ok cs → IsRecordingOf ds cs
 recording_is ds cs h =
     let r = is_read 0 most_members ds cs (omega arith) h in
     record { few = let t = r.few in omega arith; all = r.all; each = r.each; members = r.members }

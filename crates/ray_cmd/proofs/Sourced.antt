@@ -158,11 +158,12 @@ by-passes ops.Property d =
     after-any have_their_sources (at (list_of u32_of) (codes "structures") d) _ (λ structures.
     after-any have_their_sources (at spot_of (codes "dst") d) _ (λ dst. refl))))
 by-passes ops.Barrier d =
-    after-any have_their_sources (only (codes "op" ∷ codes "src_stages" ∷ codes "src_access" ∷ codes "dst_stages" ∷ codes "dst_access" ∷ []) d) _ (λ u.
+    after-any have_their_sources (only (codes "op" ∷ codes "src_stages" ∷ codes "src_access" ∷ codes "dst_stages" ∷ codes "dst_access" ∷ codes "buffers" ∷ []) d) _ (λ u.
     after-any have_their_sources (at stages_of (codes "src_stages") d) _ (λ src_stages.
     after-any have_their_sources (at access_of (codes "src_access") d) _ (λ src_access.
     after-any have_their_sources (at stages_of (codes "dst_stages") d) _ (λ dst_stages.
-    after-any have_their_sources (at access_of (codes "dst_access") d) _ (λ dst_access. refl)))))
+    after-any have_their_sources (at access_of (codes "dst_access") d) _ (λ dst_access.
+    after-any have_their_sources (optional_at (list_of u32_of) (codes "buffers") d) _ (λ buffers. refl))))))
 by-passes ops.Trace d =
     after-any have_their_sources (only (codes "op" ∷ codes "top" ∷ codes "rays" ∷ codes "count" ∷ codes "hits" ∷ codes "flags" ∷ codes "mask" ∷ codes "script" ∷ []) d) _ (λ u.
     after-any have_their_sources (at u32_of (codes "top") d) _ (λ top.
@@ -183,8 +184,12 @@ spelled-passes : (found : Option Data) (c : Command) → option_and_then command
 spelled-passes None c e = absurd cc
 spelled-passes (Some d) c e = passed have_their_sources (command_of d) c (command-passes d) e
 
--- so it is of all that are read
+-- so it is of the commands of all items
+pub items_sourced : (ds : Items) (cs : List Command) → IsRecordingOf ds cs → AreSourced cs
+items_sourced ds cs is = record { each = λ i c there. spelled-passes (get_item i ds) c (is.each i c there) }
+
+-- and of all that are read
 pub are_sourced : (found : Option Data) (read : Result (List Command) RecordingFault)
     → IfOk read (λ cs. (ds : Items) × (found ≡ Some (array ds)) × IsRecordingOf ds cs) → IfOk read AreSourced
-are_sourced found (Ok cs) is = record { each = λ i c there. spelled-passes (get_item i is.0) c (is.2.each i c there) }
+are_sourced found (Ok cs) is = items_sourced is.0 cs is.2
 are_sourced found (Err fault) is = tt

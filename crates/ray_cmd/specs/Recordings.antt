@@ -36,8 +36,8 @@ unfoldable pub commands_from : ℕ → ℕ → Items → Reading
 commands_from i left no_items = Ok []
 commands_from i left (item d ds) =
     if nat_le most_commands i then Err (BadShape most_commands)
-    else or_bad i (command_of d) >>= λ command.
-    or_bad i (less (listed_in d) left) >>= λ rest.
+    else or_bad i (less (listed_in d) left) >>= λ rest.
+    or_bad i (command_of d) >>= λ command.
     commands_from (i + 1) rest ds >>= λ commands.
     Ok (command ∷ commands)
 

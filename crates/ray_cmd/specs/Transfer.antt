@@ -1,7 +1,7 @@
 -- The commands on bytes of buffers, and barriers. (Own: the JSON; each command is named in `Command`.)
 use Rattle.std.specs.Prelude.{[], ◌∷◌, Option, Some, codes}
 use Rattle.serde_json.specs.Data.{Data}
-use Rattle.ray_json.specs.Fields.{◌>>=◌, only, at, u64_of, u32_of, hex_of, list_of}
+use Rattle.ray_json.specs.Fields.{◌>>=◌, only, at, optional_at, u64_of, u32_of, hex_of, list_of}
 use Rattle.ray_cmd.specs.Words.{stages_of, access_of}
 use Rattle.ray_cmd.specs.Places.{region_of}
 use Rattle.ray_cmd.specs.declared.command.Command.{Command}
@@ -35,12 +35,13 @@ copy_of d = do
   regions ← at (list_of region_of) (codes "regions") d
   Some (commands.Copy src dst regions)
 
--- the command `barrier`: a barrier
+-- the command `barrier`: a barrier, limited to buffers where these are named
 unfoldable pub barrier_of : Data → Option Command
 barrier_of d = do
-  _ ← only (codes "op" ∷ codes "src_stages" ∷ codes "src_access" ∷ codes "dst_stages" ∷ codes "dst_access" ∷ []) d
+  _ ← only (codes "op" ∷ codes "src_stages" ∷ codes "src_access" ∷ codes "dst_stages" ∷ codes "dst_access" ∷ codes "buffers" ∷ []) d
   src_stages ← at stages_of (codes "src_stages") d
   src_access ← at access_of (codes "src_access") d
   dst_stages ← at stages_of (codes "dst_stages") d
   dst_access ← at access_of (codes "dst_access") d
-  Some (commands.Barrier src_stages src_access dst_stages dst_access)
+  buffers ← optional_at (list_of u32_of) (codes "buffers") d
+  Some (commands.Barrier src_stages src_access dst_stages dst_access buffers)

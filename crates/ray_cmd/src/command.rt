@@ -104,12 +104,13 @@ pub enum Command {
         dst: Spot,
     },
     /// Orders what comes before it and what comes after (vkCmdPipelineBarrier with a memory
-    /// barrier).
+    /// barrier, or with a buffer memory barrier for each of these buffers where they are named).
     Barrier {
         src_stages: Stages,
         src_access: Access,
         dst_stages: Stages,
         dst_access: Access,
+        buffers: Option<Listed<u32>>,
     },
     /// Traces so many rays through a top structure, each by a ray query (OpRayQueryInitializeKHR),
     /// with the script as the client that decides on candidates.

@@ -6,7 +6,6 @@ ghost use Rattle.ray_cmd.specs.Counting.{listed_in, less};
 ghost use Rattle.ray_cmd.specs.Grammar.{command_of};
 ghost use Rattle.ray_cmd.specs.Recordings.{most_members, or_bad, commands_from, recording_of, Answers};
 ghost use Rattle.ray_cmd.specs.Recorded.{IsRecordingOf, IsFirstBad};
-ghost use Rattle.ray_cmd.specs.Sources.{AreSourced};
 
 use crate::command::Command;
 use crate::counting::left_after;
@@ -34,7 +33,6 @@ pub fn read_recording(alloc: Global, bytes: &[u8]) -> Result<Recording, Recordin
     ensures ok { IfOk result (λ cs. (ds : Items) × (json_of bytes.now ≡ Some (array ds)) × IsRecordingOf ds cs) }
     ensures bad_shape { (i : ℕ) (ds : Items) → result ≡ Err (RecordingFault.BadShape i)
         → json_of bytes.now ≡ Some (array ds) → IsFirstBad ds i }
-    ensures sources { IfOk result AreSourced }
 {
     reading(alloc, bytes)
 }
@@ -79,8 +77,8 @@ fn recording(alloc: Global, values: &[Value]) -> Result<Recording, RecordingFaul
         if MOST_COMMANDS <= i {
             return Err(RecordingFault::BadShape(MOST_COMMANDS as u32));
         }
-        let command = command(alloc, i as u32, value)?;
         left = left_in(i as u32, value, left)?;
+        let command = command(alloc, i as u32, value)?;
         commands.push(command)?;
     }
     Ok(Recording::new(commands))

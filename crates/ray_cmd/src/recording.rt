@@ -1,4 +1,5 @@
 ghost use Rattle.std.specs.Prelude.{◌≡◌, ◌<◌, ◌≤◌, length, slice_get, Some};
+ghost use Rattle.ray_cmd.specs.Sources.{AreSourced};
 
 use crate::command::Command;
 use ray_json::Listed;
@@ -7,7 +8,8 @@ use std::marker::Model;
 // The greatest number of commands.
 pub(crate) const MOST_COMMANDS: usize = 65536;
 
-/// The commands of a recording, numbered from 0. Contracts see them as a list.
+/// The commands of a recording, numbered from 0, at most 65,536; each info of a build has a source
+/// exactly where it is an update. Contracts see them as a list.
 #[derive(Drop)]
 pub struct Recording {
     commands: Listed<Command>,
@@ -16,17 +18,19 @@ pub struct Recording {
 impl Model for Recording {
     ghost use Rattle.std.specs.Prelude.{List, length, ◌≤◌};
     ghost use Rattle.ray_cmd.specs.declared.command.Command.{Command};
+    ghost use Rattle.ray_cmd.specs.Sources.{AreSourced};
 
     ghost Value = { List Command };
 
     ghost view = { λ r. r.commands };
 
-    ghost invariant = { λ r. length r.commands ≤ 65536 };
+    ghost invariant = { λ r. (length r.commands ≤ 65536) × AreSourced r.commands };
 }
 
 impl Recording {
     pub(crate) fn new(commands: Listed<Command>) -> Self
-        requires { length commands ≤ 65536 }
+        requires few { length commands ≤ 65536 }
+        requires sourced { AreSourced commands }
         ensures { result ≡ commands }
     {
         Recording { commands }
@@ -45,5 +49,12 @@ impl Recording {
         ensures { slice_get self.now i ≡ Some result.now }
     {
         &self.commands.as_slice()[i as usize]
+    }
+
+    /// A law: each info of a build has a source exactly where it is an update. It does nothing.
+    pub fn sources_law(&self)
+        ensures { AreSourced self.now }
+    {
+        let _ = &self.commands;
     }
 }

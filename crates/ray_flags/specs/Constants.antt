@@ -49,6 +49,7 @@ abbrev pub stage_constants : List Row
 stage_constants =
     (codes "transfer", stage.TRANSFER.0)
     ∷ (codes "build", stage.BUILD.0)
+    ∷ (codes "structure_copy", stage.STRUCTURE_COPY.0)
     ∷ (codes "compute", stage.COMPUTE.0)
     ∷ (codes "host", stage.HOST.0)
     ∷ (codes "all", stage.ALL.0)

@@ -104,10 +104,11 @@ abbrev pub instance_has : InstanceFlags → InstanceFlag → Bool
 instance_has instance flag = has_bits instance.0 (instance_bits flag)
 
 -- the stages of a barrier (VkPipelineStageFlagBits; the bits are own); `all` is
--- transfer, build and compute together, and not the host
+-- transfer, build, structure_copy and compute together, and not the host
 pub data Stage : Type 0 where
   Transfer : Stage
   Build : Stage
+  StructureCopy : Stage
   Compute : Stage
   Host : Stage
   AllStages : Stage
@@ -118,7 +119,8 @@ stage_bits Transfer = 1
 stage_bits Build = 2
 stage_bits Compute = 4
 stage_bits Host = 8
-stage_bits AllStages = 7
+stage_bits StructureCopy = 16
+stage_bits AllStages = 23
 
 -- whether a set of stages has a stage
 abbrev pub stages_have : Stages → Stage → Bool

@@ -4,7 +4,7 @@ use Rattle.std.specs.Prelude.{[], ◌&&◌, ◌∷◌, ◌==◌, Bool, List, ℕ
 use Rattle.std.specs.List.{list_all}
 use Rattle.std.specs.Str.{bytes_eq}
 use Rattle.bitflags.specs.Sets.{Row}
-use Rattle.ray_flags.specs.Flags.{usage_bits, Input, Storage, TransferSrc, TransferDst, Scratch, Structure, build_bits, AllowUpdate, AllowCompaction, PreferFastTrace, PreferFastBuild, LowMemory, ray_bits, Opaque, NoOpaque, TerminateOnFirstHit, SkipClosestHitShader, CullBackFacing, CullFrontFacing, CullOpaque, CullNoOpaque, SkipTriangles, SkipAabbs, instance_bits, TriangleFacingCullDisable, TriangleFlipFacing, ForceOpaque, ForceNoOpaque, stage_bits, Transfer, Build, Compute, Host, AllStages, access_bits, TransferRead, TransferWrite, ShaderRead, ShaderWrite, StructureRead, StructureWrite, HostRead, HostWrite, MemoryRead, MemoryWrite}
+use Rattle.ray_flags.specs.Flags.{usage_bits, Input, Storage, TransferSrc, TransferDst, Scratch, Structure, build_bits, AllowUpdate, AllowCompaction, PreferFastTrace, PreferFastBuild, LowMemory, ray_bits, Opaque, NoOpaque, TerminateOnFirstHit, SkipClosestHitShader, CullBackFacing, CullFrontFacing, CullOpaque, CullNoOpaque, SkipTriangles, SkipAabbs, instance_bits, TriangleFacingCullDisable, TriangleFlipFacing, ForceOpaque, ForceNoOpaque, stage_bits, Transfer, Build, StructureCopy, Compute, Host, AllStages, access_bits, TransferRead, TransferWrite, ShaderRead, ShaderWrite, StructureRead, StructureWrite, HostRead, HostWrite, MemoryRead, MemoryWrite}
 
 -- whether no row has this word (own)
 abbrev pub is_new : List ℕ → List Row → Bool
@@ -65,6 +65,7 @@ abbrev pub stage_words : List Row
 stage_words =
     (codes "transfer", stage_bits Transfer)
     ∷ (codes "build", stage_bits Build)
+    ∷ (codes "structure_copy", stage_bits StructureCopy)
     ∷ (codes "compute", stage_bits Compute)
     ∷ (codes "host", stage_bits Host)
     ∷ (codes "all", stage_bits AllStages)

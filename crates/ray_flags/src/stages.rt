@@ -14,7 +14,7 @@ impl Stages {
     /// Updates, fills and copies of buffers. (VK_PIPELINE_STAGE_TRANSFER_BIT.)
     pub const TRANSFER: Stages = Stages(1);
 
-    /// Builds, copies, serializations and properties of structures.
+    /// Builds, updates and properties of structures.
     /// (VK_PIPELINE_STAGE_ACCELERATION_STRUCTURE_BUILD_BIT_KHR.)
     pub const BUILD: Stages = Stages(2);
 
@@ -24,9 +24,13 @@ impl Stages {
     /// Accesses of the host. (VK_PIPELINE_STAGE_HOST_BIT.)
     pub const HOST: Stages = Stages(8);
 
-    /// Transfer, build and compute together, and not the host.
+    /// Copies, serializations and deserializations of structures.
+    /// (VK_PIPELINE_STAGE_2_ACCELERATION_STRUCTURE_COPY_BIT_KHR.)
+    pub const STRUCTURE_COPY: Stages = Stages(16);
+
+    /// Transfer, build, structure_copy and compute together, and not the host.
     /// (VK_PIPELINE_STAGE_ALL_COMMANDS_BIT.) `Flags::all` has the host too.
-    pub const ALL: Stages = Stages(7);
+    pub const ALL: Stages = Stages(23);
 
     /// The stages of this word. None exactly where `stage_words` of `specs/Words` lacks it.
     pub fn from_word(word: &str) -> Option<Stages>
@@ -54,6 +58,7 @@ impl Flags for Stages {
         flag_list![
             "transfer" => Stages::TRANSFER,
             "build" => Stages::BUILD,
+            "structure_copy" => Stages::STRUCTURE_COPY,
             "compute" => Stages::COMPUTE,
             "host" => Stages::HOST,
             "all" => Stages::ALL,

@@ -1,6 +1,6 @@
 -- What each command and each of its pieces reads and writes: at which stage, with which access, and
 -- what it reaches. (Vulkan: synchronization scopes of the commands; own: the ranges.)
-use Rattle.std.specs.Prelude.{ℕ, ◌+◌, ◌-◌, ◌*◌, ◌++◌, List, [], ◌∷◌, Option, Some, None, length, map, min, slice_get}
+use Rattle.std.specs.Prelude.{ℕ, ◌+◌, ◌-◌, ◌*◌, ◌++◌, List, [], ◌∷◌, Option, length, map, min, slice_get}
 use Rattle.std.specs.List.{flat_map}
 use Rattle.std.specs.Option.{option_map_or, option_to_list}
 use Rattle.ray_cmd.specs.declared.command.Command.{Command}
@@ -16,9 +16,9 @@ use Rattle.ray_rules.specs.declared.byte_range.ByteRange.{ByteRange}
 use Rattle.ray_rules.specs.declared.live_buffer.LiveBuffer.{LiveBuffer}
 use Rattle.ray_rules.specs.declared.reach.Reach.TheVariants.{Bytes, Structure, Scratch}
 use Rattle.ray_rules.specs.declared.stage.Stage.{Stage}
-use Rattle.ray_rules.specs.declared.stage.Stage.TheVariants.{Transfer, Build, Compute}
 use Rattle.ray_rules.specs.declared.touch.Touch.{Touch}
 use Rattle.ray_rules.specs.Ids.{Ids}
+use Rattle.ray_rules.specs.Kinds.{kind_of, stage_in}
 use Rattle.ray_rules.specs.Origins.{uses_of}
 use Rattle.ray_rules.specs.Ranges.{range, inputs_read, scratch_range}
 use Rattle.ray_rules.specs.Status.{Status, built_at}
@@ -44,16 +44,7 @@ at_scratch access r = record { access = access; reach = Scratch r }
 
 -- the stage of a device command: none of a barrier, which has no access, and of a host command
 unfoldable pub stage_of : Command → Option Stage
-stage_of (commands.Update buffer offset content) = Some Transfer
-stage_of (commands.Fill buffer offset size value) = Some Transfer
-stage_of (commands.Copy src dst regions) = Some Transfer
-stage_of (commands.Build infos) = Some Build
-stage_of (commands.CopyStructure mode src dst) = Some Build
-stage_of (commands.Serialize src dst) = Some Build
-stage_of (commands.Deserialize src dst uses) = Some Build
-stage_of (commands.Property what structures dst) = Some Build
-stage_of (commands.Trace top rays count hits flags mask script) = Some Compute
-stage_of _ = None
+stage_of c = stage_in (kind_of c)
 
 -- what a region reads and writes
 abbrev pub region_accesses : ℕ → ℕ → Region → Accesses

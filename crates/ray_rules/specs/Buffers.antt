@@ -97,7 +97,7 @@ v3 z (commands.CopyStructure mode src dst) = None
 v3 z (commands.Serialize src dst) = whole (lacks_usage z TransferDst dst.buffer)
 v3 z (commands.Deserialize src dst uses) = whole (lacks_usage z TransferSrc src.buffer)
 v3 z (commands.Property what structures dst) = whole (lacks_usage z TransferDst dst.buffer)
-v3 z (commands.Barrier src_stages src_access dst_stages dst_access) = None
+v3 z (commands.Barrier src_stages src_access dst_stages dst_access buffers) = None
 v3 z (commands.Trace top rays count hits flags mask script) =
     whole (lacks_usage z Storage rays.buffer || lacks_usage z Storage hits.buffer)
 

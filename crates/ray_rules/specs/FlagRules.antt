@@ -7,7 +7,7 @@ use Rattle.ray_cmd.specs.declared.command.Command.TheVariants as commands
 use Rattle.ray_cmd.specs.declared.place.Place.{Place}
 use Rattle.ray_cmd.specs.declared.place.Place.TheVariants.{Part}
 use Rattle.ray_flags.specs.Flags.{ray_has, CullBackFacing, CullFrontFacing, CullNoOpaque, CullOpaque, NoOpaque, Opaque, SkipAabbs, SkipTriangles}
-use Rattle.ray_flags.specs.Flags.{Stage, stages_have, Build, Compute, Host, Transfer}
+use Rattle.ray_flags.specs.Flags.{Stage, stages_have, Build, Compute, Host, StructureCopy, Transfer}
 use Rattle.ray_flags.specs.Flags.{AccessFlag, access_has, HostRead, HostWrite, MemoryRead, MemoryWrite, ShaderRead, ShaderWrite, StructureRead, StructureWrite, TransferRead, TransferWrite}
 use Rattle.ray_flags.specs.declared.access.Access.{Access}
 use Rattle.ray_flags.specs.declared.ray_flags.RayFlags.{RayFlags}
@@ -45,18 +45,18 @@ lacks_stage access flag stages support = access_has access flag && not (list_any
 -- `memory_write`
 unfoldable pub is_unsupported : Stages → Access → Bool
 is_unsupported stages access =
-    (lacks_stage access TransferRead stages (Transfer ∷ Build ∷ [])
-    || lacks_stage access TransferWrite stages (Transfer ∷ Build ∷ []))
+    (lacks_stage access TransferRead stages (Transfer ∷ Build ∷ StructureCopy ∷ [])
+    || lacks_stage access TransferWrite stages (Transfer ∷ Build ∷ StructureCopy ∷ []))
     || ((lacks_stage access ShaderRead stages (Build ∷ Compute ∷ [])
     || lacks_stage access ShaderWrite stages (Compute ∷ []))
-    || ((lacks_stage access StructureRead stages (Build ∷ Compute ∷ [])
-    || lacks_stage access StructureWrite stages (Build ∷ []))
+    || ((lacks_stage access StructureRead stages (Build ∷ StructureCopy ∷ Compute ∷ [])
+    || lacks_stage access StructureWrite stages (Build ∷ StructureCopy ∷ []))
     || ((lacks_stage access HostRead stages (Host ∷ [])
     || lacks_stage access HostWrite stages (Host ∷ []))
     || ((access_has access MemoryRead || access_has access MemoryWrite) && stages.0 == 0))))
 
 -- V24: an access that no named stage of its side supports
 unfoldable pub v24 : Command → Option Place
-v24 (commands.Barrier src_stages src_access dst_stages dst_access) =
+v24 (commands.Barrier src_stages src_access dst_stages dst_access buffers) =
     whole (is_unsupported src_stages src_access || is_unsupported dst_stages dst_access)
 v24 _ = None

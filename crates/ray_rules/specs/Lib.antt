@@ -5,6 +5,8 @@ pub mod Conflicts
 pub mod FlagRules
 pub mod Hazards
 pub mod Ids
+pub mod Kinds
+pub mod Makers
 pub mod Names
 pub mod Order
 pub mod Origins
@@ -18,3 +20,4 @@ pub mod Spans
 pub mod Status
 pub mod Structures
 pub mod Verdict
+pub mod Within

@@ -1,5 +1,5 @@
 -- Rules on names. (Own; after the validity of handles in Vulkan's fundamentals.)
-use Rattle.std.specs.Prelude.{ℕ, Option, None, Bool, false, ◌||◌, not}
+use Rattle.std.specs.Prelude.{ℕ, List, Option, None, Bool, false, ◌||◌, not}
 use Rattle.std.specs.List.{list_any}
 use Rattle.std.specs.Option.{option_map_or}
 use Rattle.ray_cmd.specs.declared.command.Command.{Command}
@@ -55,6 +55,10 @@ lacks_named z info =
     || (lacks_source z info.src
     || (list_any (lacks_input z) info.geometries || list_any (lacks_structure z) info.uses)))
 
+-- whether a buffer to which a barrier is limited, where it is limited, isn't live
+abbrev pub lacks_limit : Status → Option (List ℕ) → Bool
+lacks_limit z buffers = option_map_or (list_any (lacks_buffer z)) buffers false
+
 -- V1: a named buffer or structure isn't live, or a created one already is
 unfoldable pub v1 : Status → Command → Option Place
 v1 z (commands.Buffer id size usage content) = whole (is_live z.buffers id)
@@ -76,6 +80,6 @@ v1 z (commands.Deserialize src dst uses) =
     whole (lacks_buffer z src.buffer || (lacks_structure z dst || list_any (lacks_structure z) uses))
 v1 z (commands.Property what structures dst) =
     whole (list_any (lacks_structure z) structures || lacks_buffer z dst.buffer)
-v1 z (commands.Barrier src_stages src_access dst_stages dst_access) = None
+v1 z (commands.Barrier src_stages src_access dst_stages dst_access buffers) = whole (lacks_limit z buffers)
 v1 z (commands.Trace top rays count hits flags mask script) =
     whole (lacks_structure z top || (lacks_buffer z rays.buffer || lacks_buffer z hits.buffer))

@@ -28,7 +28,7 @@ phase_needed (commands.CopyStructure mode src dst) = Recording
 phase_needed (commands.Serialize src dst) = Recording
 phase_needed (commands.Deserialize src dst uses) = Recording
 phase_needed (commands.Property what structures dst) = Recording
-phase_needed (commands.Barrier src_stages src_access dst_stages dst_access) = Recording
+phase_needed (commands.Barrier src_stages src_access dst_stages dst_access buffers) = Recording
 phase_needed (commands.Trace top rays count hits flags mask script) = Recording
 
 -- whether two states are the same

@@ -78,10 +78,15 @@ abbrev pub cut : Ids LiveBuffer → ByteRange → ByteRange
 cut buffers r = record r { size = min r.size (size_at buffers r.buffer - r.from) }
 
 -- the vertices that indices may name: from number `first_vertex` to the end of number
--- `first_vertex + max_vertex`, cut at the end of the buffer
+-- `first_vertex + max_vertex`
+abbrev pub named_range : Spot → ℕ → Format → ℕ → ℕ → ByteRange
+named_range vertex stride format first_vertex max_vertex =
+    range vertex.buffer (vertex.offset + first_vertex * stride) (max_vertex * stride + vertex_size format)
+
+-- the same, cut at the end of the buffer
 abbrev pub indexed_range : Ids LiveBuffer → Spot → ℕ → Format → ℕ → ℕ → ByteRange
 indexed_range buffers vertex stride format first_vertex max_vertex =
-    cut buffers (range vertex.buffer (vertex.offset + first_vertex * stride) (max_vertex * stride + vertex_size format))
+    cut buffers (named_range vertex stride format first_vertex max_vertex)
 
 -- the boxes of a geometry: from the first byte of the first to the last byte of the last
 abbrev pub boxes_range : Spot → ℕ → ℕ → ℕ → ByteRange
@@ -108,32 +113,33 @@ vertices_needed vertex stride format max_vertex None count primitive_offset firs
 vertices_needed vertex stride format max_vertex (Some index) count primitive_offset first_vertex =
     vertex_range vertex stride format max_vertex
 
--- what a geometry reads: vertices, boxes or instances; indices; the transform. A geometry of no
--- primitives reads nothing
-unfoldable pub inputs_read : Ids LiveBuffer → Geometry → List (Option ByteRange)
-inputs_read buffers (geometries.Triangles opaque format vertex stride max_vertex index transform count primitive_offset first_vertex transform_offset) =
+-- the vertices of a geometry, by a word on triangles: none of one of boxes or instances
+abbrev pub vertices_by : (Spot → ℕ → Format → ℕ → Option Index → ℕ → ℕ → ℕ → ByteRange) → Geometry → Option ByteRange
+vertices_by of_triangles (geometries.Triangles opaque format vertex stride max_vertex index transform count primitive_offset first_vertex transform_offset) =
+    Some (of_triangles vertex stride format max_vertex index count primitive_offset first_vertex)
+vertices_by of_triangles _ = None
+
+-- the bytes of a geometry, given its vertices: vertices, boxes or instances; indices; the transform. A geometry
+-- of no primitives has none
+unfoldable pub inputs_with : Option ByteRange → Geometry → List (Option ByteRange)
+inputs_with vertices (geometries.Triangles opaque format vertex stride max_vertex index transform count primitive_offset first_vertex transform_offset) =
     if count == 0 then None ∷ None ∷ None ∷ [] else
-    Some (vertices_read buffers vertex stride format max_vertex index count primitive_offset first_vertex)
+    vertices
     ∷ option_map (λ x. index_range x primitive_offset count) index
     ∷ option_map (transform_range transform_offset) transform
     ∷ []
-inputs_read buffers (geometries.Boxes opaque content stride count primitive_offset) =
+inputs_with vertices (geometries.Boxes opaque content stride count primitive_offset) =
     (if count == 0 then None else Some (boxes_range content stride count primitive_offset)) ∷ None ∷ None ∷ []
-inputs_read buffers (geometries.Instances content count primitive_offset) =
+inputs_with vertices (geometries.Instances content count primitive_offset) =
     (if count == 0 then None else Some (instances_range content count primitive_offset)) ∷ None ∷ None ∷ []
+
+-- what a geometry reads
+unfoldable pub inputs_read : Ids LiveBuffer → Geometry → List (Option ByteRange)
+inputs_read buffers g = inputs_with (vertices_by (vertices_read buffers) g) g
 
 -- what has to be there of what a geometry reads
 unfoldable pub inputs_needed : Geometry → List (Option ByteRange)
-inputs_needed (geometries.Triangles opaque format vertex stride max_vertex index transform count primitive_offset first_vertex transform_offset) =
-    if count == 0 then None ∷ None ∷ None ∷ [] else
-    Some (vertices_needed vertex stride format max_vertex index count primitive_offset first_vertex)
-    ∷ option_map (λ x. index_range x primitive_offset count) index
-    ∷ option_map (transform_range transform_offset) transform
-    ∷ []
-inputs_needed (geometries.Boxes opaque content stride count primitive_offset) =
-    (if count == 0 then None else Some (boxes_range content stride count primitive_offset)) ∷ None ∷ None ∷ []
-inputs_needed (geometries.Instances content count primitive_offset) =
-    (if count == 0 then None else Some (instances_range content count primitive_offset)) ∷ None ∷ None ∷ []
+inputs_needed g = inputs_with (vertices_by vertices_needed g) g
 
 -- the scratch memory that a build or an update of so many primitives takes
 abbrev pub scratch_size : BuildMode → ℕ → ℕ

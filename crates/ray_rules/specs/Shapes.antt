@@ -116,7 +116,7 @@ is_too_large z info =
     || nat_lt 4096 (length info.uses)
 
 -- V10: geometries above 256, primitives above 2^20, instances above 2^16, rays above 2^20, live
--- structures above 4,096, `infos`, `uses` or `structures` longer than 4,096
+-- structures above 4,096, `infos`, `uses`, `structures` or `buffers` longer than 4,096
 unfoldable pub v10 : Status → Command → Option Place
 v10 z (commands.Structure id kind buffer offset size) = whole (nat_le 4096 (length z.structures))
 v10 z (commands.Sizes kind counts) = whole (are_too_many (is_top kind) (length counts) (sum counts))
@@ -124,5 +124,7 @@ v10 z (commands.Build infos) =
     option_or (first_part (is_too_large z) infos) (part_at 4096 (nat_lt 4096 (length infos)))
 v10 z (commands.Deserialize src dst uses) = whole (nat_lt 4096 (length uses))
 v10 z (commands.Property what structures dst) = whole (nat_lt 4096 (length structures))
+v10 z (commands.Barrier src_stages src_access dst_stages dst_access buffers) =
+    whole (option_map_or (λ ids. nat_lt 4096 (length ids)) buffers false)
 v10 z (commands.Trace top rays count hits flags mask script) = whole (nat_lt 1048576 count)
 v10 z _ = None

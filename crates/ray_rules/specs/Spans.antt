@@ -56,7 +56,7 @@ v4 z (commands.CopyStructure mode src dst) = None
 v4 z (commands.Serialize src dst) = whole (reaches_out z dst.buffer dst.offset dst.size)
 v4 z (commands.Deserialize src dst uses) = whole (reaches_out z src.buffer src.offset src.size)
 v4 z (commands.Property what structures dst) = whole (reaches_out z dst.buffer dst.offset (8 * length structures))
-v4 z (commands.Barrier src_stages src_access dst_stages dst_access) = None
+v4 z (commands.Barrier src_stages src_access dst_stages dst_access buffers) = None
 v4 z (commands.Trace top rays count hits flags mask script) =
     whole (reaches_out z rays.buffer rays.offset (40 * count) || reaches_out z hits.buffer hits.offset (80 * count))
 

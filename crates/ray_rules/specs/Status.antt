@@ -1,7 +1,7 @@
 -- The status: what the commands before a command leave, as far as rules speak of it, and what each
 -- command changes. (Own; after the lifetimes of VkBuffer and VkAccelerationStructureKHR and the
 -- command buffer lifecycle of Vulkan.)
-use Rattle.std.specs.Prelude.{ℕ, ◌+◌, List, [], ◌∷◌, Option, Some, None, Bool, true, false, option_map}
+use Rattle.std.specs.Prelude.{ℕ, zero, suc, ◌+◌, List, [], ◌∷◌, Option, Some, None, Bool, true, false, option_map, slice_get}
 use Rattle.std.specs.List.{sum_by}
 use Rattle.std.specs.Map.{values_of}
 use Rattle.std.specs.Option.{option_and_then}
@@ -111,10 +111,20 @@ after i (commands.CopyStructure mode src dst) z = fill_in dst (copied_by i (buil
 after i (commands.Serialize src dst) z = z
 after i (commands.Deserialize src dst uses) z = fill_in dst (built_by i 0) z
 after i (commands.Property what structures dst) z = z
-after i (commands.Barrier src_stages src_access dst_stages dst_access) z = z
+after i (commands.Barrier src_stages src_access dst_stages dst_access buffers) z = z
 after i (commands.Trace top rays count hits flags mask script) z = z
 
 -- the status after these commands, the first of which has number i
 abbrev pub after_all : ℕ → List Command → Status → Status
 after_all i [] z = z
 after_all i (c ∷ cs) z = after_all (i + 1) cs (after i c z)
+
+-- the status after one more command, where there is one
+abbrev pub after_if : ℕ → Option Command → Status → Status
+after_if i None z = z
+after_if i (Some c) z = after i c z
+
+-- the status where command number n stands
+abbrev pub status_at : List Command → ℕ → Status
+status_at rec zero = at_first
+status_at rec (suc n) = after_if n (slice_get rec n) (status_at rec n)

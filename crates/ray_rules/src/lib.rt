@@ -5,7 +5,7 @@
 //!
 //! The layers above cite them: ray_status keeps the status in code, ray_infos and ray_valid decide
 //! the rules, so that 'accepted' means one thing everywhere. Of code the crate has the data alone
-//! that the definitions speak of.
+//! that the definitions speak of, and [`kind_of`], the one table of what a command is.
 //!
 //! It stands on ray_cmd (the commands), ray_flags and ray_bytes (flags, formats and sizes) and
 //! ray_script (the rules of a script).
@@ -14,6 +14,7 @@
 mod access_type;
 mod built;
 mod byte_range;
+mod kind;
 mod laws;
 mod live_buffer;
 mod live_structure;
@@ -25,6 +26,7 @@ mod touch;
 pub use crate::access_type::AccessType;
 pub use crate::built::Built;
 pub use crate::byte_range::ByteRange;
+pub use crate::kind::{Kind, kind_of};
 pub use crate::laws::pieces_are_of_commands;
 pub use crate::live_buffer::LiveBuffer;
 pub use crate::live_structure::LiveStructure;

@@ -1,5 +1,9 @@
 ghost use Rattle.std.specs.Prelude.{◌≡◌, ◌<◌, ◌≤◌, ◌*◌, ◌^◌, ◌==◌, None, Some, if◌then◌else◌, length, option_map, All};
-ghost use Rattle.ray_rules.specs.Ranges.{boxes_range, count_of, cut, index_range, indexed_range, inputs_needed, inputs_read, instances_range, primitives, range, transform_range, vertices_needed, vertices_range, vertices_read};
+ghost use Rattle.ray_rules.specs.Ranges.{boxes_range, count_of, cut, index_range, inputs_needed};
+ghost use Rattle.ray_rules.specs.Ranges.{inputs_read, inputs_with, instances_range, named_range};
+ghost use Rattle.ray_rules.specs.Ranges.{primitives, range, transform_range, vertex_range};
+ghost use Rattle.ray_rules.specs.Ranges.{vertices_by, vertices_needed, vertices_range};
+ghost use Rattle.ray_rules.specs.Ranges.{vertices_read};
 ghost use Rattle.ray_status.specs.Limits.{Fits, FitsIf};
 
 use crate::status::Status;
@@ -48,51 +52,7 @@ pub fn primitives(geometries: &[Geometry]) -> u128
 pub fn inputs_needed(geometry: &Geometry) -> [Option<ByteRange>; 3]
     ensures { result ≡ inputs_needed geometry.now }
 {
-    match *geometry {
-        Geometry::Triangles {
-            format,
-            vertex,
-            stride,
-            max_vertex,
-            index,
-            transform,
-            count,
-            primitive_offset,
-            first_vertex,
-            transform_offset,
-            ..
-        } => {
-            if count == 0 {
-                return [None, None, None];
-            }
-            [
-                Some(vertices_needed(
-                    vertex,
-                    stride,
-                    format,
-                    max_vertex,
-                    index,
-                    count,
-                    primitive_offset,
-                    first_vertex,
-                )),
-                indices(index, primitive_offset, count),
-                transform_of(transform, transform_offset),
-            ]
-        }
-        Geometry::Boxes {
-            content,
-            stride,
-            count,
-            primitive_offset,
-            ..
-        } => [boxes(content, stride, count, primitive_offset), None, None],
-        Geometry::Instances {
-            content,
-            count,
-            primitive_offset,
-        } => [instances(content, count, primitive_offset), None, None],
-    }
+    inputs_with(geometry, vertices_needed(geometry))
 }
 
 /// What a geometry reads: vertices, boxes or instances; indices; the transform. A geometry of no
@@ -102,17 +62,23 @@ pub fn inputs_read(status: &Status, geometry: &Geometry) -> [Option<ByteRange>; 
     ensures value { result ≡ inputs_read status.now.buffers geometry.now }
     ensures fits { All FitsIf result }
 {
+    inputs_with(geometry, vertices_read(status, geometry))
+}
+
+/// The bytes of a geometry, given its vertices: vertices, boxes or instances; indices; the
+/// transform. A geometry of no primitives has none.
+/// (VkAccelerationStructureBuildRangeInfoKHR)
+#[tactic(auto, unfolding(ray_rules::specs::Ranges::inputs_with))]
+pub fn inputs_with(geometry: &Geometry, vertices: Option<ByteRange>) -> [Option<ByteRange>; 3]
+    ensures value { result ≡ inputs_with vertices geometry.now }
+    ensures fits { FitsIf vertices → All FitsIf result }
+{
     match *geometry {
         Geometry::Triangles {
-            format,
-            vertex,
-            stride,
-            max_vertex,
             index,
             transform,
             count,
             primitive_offset,
-            first_vertex,
             transform_offset,
             ..
         } => {
@@ -120,17 +86,7 @@ pub fn inputs_read(status: &Status, geometry: &Geometry) -> [Option<ByteRange>; 
                 return [None, None, None];
             }
             [
-                Some(vertices_read(
-                    status,
-                    vertex,
-                    stride,
-                    format,
-                    max_vertex,
-                    index,
-                    count,
-                    primitive_offset,
-                    first_vertex,
-                )),
+                vertices,
                 indices(index, primitive_offset, count),
                 transform_of(transform, transform_offset),
             ]
@@ -210,38 +166,38 @@ fn transform_of(transform: Option<Spot>, transform_offset: u32) -> Option<ByteRa
     }
 }
 
-// The vertices that have to be there.
-fn vertices_needed(
-    vertex: Spot,
-    stride: u32,
-    format: Format,
-    max_vertex: u32,
-    index: Option<Index>,
-    count: u32,
-    primitive_offset: u32,
-    first_vertex: u32,
-) -> ByteRange
-    ensures { result ≡ vertices_needed vertex stride format max_vertex index count primitive_offset first_vertex }
+// The vertices of a geometry that have to be there.
+fn vertices_needed(geometry: &Geometry) -> Option<ByteRange>
+    ensures { result ≡ vertices_by vertices_needed geometry.now }
 {
-    match index {
-        Some(_) => ByteRange {
-            buffer: vertex.buffer,
-            from: u128::from(vertex.offset) + u128::from(max_vertex) * u128::from(stride),
-            size: u128::from(format.size()),
-        },
-        None => vertices(
+    match *geometry {
+        Geometry::Triangles {
+            format,
             vertex,
             stride,
-            format,
+            max_vertex,
+            index,
+            count,
             primitive_offset,
             first_vertex,
-            count,
-        ),
+            ..
+        } => match index {
+            Some(_) => Some(vertex_at(vertex, stride, format, max_vertex)),
+            None => Some(vertices(
+                vertex,
+                stride,
+                format,
+                primitive_offset,
+                first_vertex,
+                count,
+            )),
+        },
+        Geometry::Boxes { .. } | Geometry::Instances { .. } => None,
     }
 }
 
-// The vertices of so many triangles without indices.
-fn vertices(
+/// The vertices of so many triangles without indices.
+pub fn vertices(
     vertex: Spot,
     stride: u32,
     format: Format,
@@ -262,55 +218,68 @@ fn vertices(
     }
 }
 
-// The vertices that triangles read, with or without indices.
-fn vertices_read(
-    status: &Status,
-    vertex: Spot,
-    stride: u32,
-    format: Format,
-    max_vertex: u32,
-    index: Option<Index>,
-    count: u32,
-    primitive_offset: u32,
-    first_vertex: u32,
-) -> ByteRange
-    ensures value { result ≡ vertices_read status.now.buffers vertex stride format max_vertex index count primitive_offset first_vertex }
-    ensures fits { Fits result }
+// The vertices that a geometry reads, with or without indices.
+fn vertices_read(status: &Status, geometry: &Geometry) -> Option<ByteRange>
+    ensures value { result ≡ vertices_by (vertices_read status.now.buffers) geometry.now }
+    ensures fits { FitsIf result }
 {
-    match index {
-        Some(_) => indexed(status, vertex, stride, format, first_vertex, max_vertex),
-        None => vertices(
+    match *geometry {
+        Geometry::Triangles {
+            format,
             vertex,
             stride,
-            format,
+            max_vertex,
+            index,
+            count,
             primitive_offset,
             first_vertex,
-            count,
-        ),
+            ..
+        } => match index {
+            Some(_) => Some(cut(
+                status,
+                named_vertices(vertex, stride, format, first_vertex, max_vertex),
+            )),
+            None => Some(vertices(
+                vertex,
+                stride,
+                format,
+                primitive_offset,
+                first_vertex,
+                count,
+            )),
+        },
+        Geometry::Boxes { .. } | Geometry::Instances { .. } => None,
     }
 }
 
-// The vertices that indices may name, cut at the end of the buffer.
-fn indexed(
-    status: &Status,
+// One vertex.
+fn vertex_at(vertex: Spot, stride: u32, format: Format, number: u32) -> ByteRange
+    ensures { result ≡ vertex_range vertex stride format number }
+{
+    ByteRange {
+        buffer: vertex.buffer,
+        from: u128::from(vertex.offset) + u128::from(number) * u128::from(stride),
+        size: u128::from(format.size()),
+    }
+}
+
+/// The vertices that indices may name.
+pub fn named_vertices(
     vertex: Spot,
     stride: u32,
     format: Format,
     first_vertex: u32,
     max_vertex: u32,
 ) -> ByteRange
-    ensures value { result ≡ indexed_range status.now.buffers vertex stride format first_vertex max_vertex }
+    ensures value { result ≡ named_range vertex stride format first_vertex max_vertex }
     ensures fits { Fits result }
 {
     let stride = u128::from(stride);
-    cut(
-        status,
-        ByteRange {
-            buffer: vertex.buffer,
-            from: u128::from(vertex.offset) + u128::from(first_vertex) * stride,
-            size: u128::from(max_vertex) * stride + u128::from(format.size()),
-        },
-    )
+    ByteRange {
+        buffer: vertex.buffer,
+        from: u128::from(vertex.offset) + u128::from(first_vertex) * stride,
+        size: u128::from(max_vertex) * stride + u128::from(format.size()),
+    }
 }
 
 // A range, cut at the end of its buffer.

@@ -24,7 +24,9 @@ pub use crate::facts::{
     is_smaller, is_top, is_top_at, is_unbuilt, lacks_a_structure, lacks_buffer, lacks_structure,
     made_size, misses, uses_wrongly,
 };
-pub use crate::inputs::{count_of, inputs_needed, inputs_read, primitives, range};
+pub use crate::inputs::{
+    count_of, inputs_needed, inputs_read, inputs_with, named_vertices, primitives, range, vertices,
+};
 pub use crate::origins::{info_of, is_deserialized, uses_of};
 pub use crate::ranges::{meets, structure_range};
 pub use crate::sizes::{scratch_range, structure_size};

@@ -16,6 +16,7 @@ use Rattle.ray_rules.specs.declared.stage.Stage.{Stage}
 use Rattle.ray_rules.specs.declared.stage.Stage.TheVariants.{Host}
 use Rattle.ray_rules.specs.declared.touch.Touch.{Touch}
 use Rattle.ray_rules.specs.Hazards.{accesses_at, greatest_with, read_unordered, stage_at, status_at, v25, v26, v27, v32, wrote_uncovered}
+use Rattle.ray_rules.specs.Order.{barriers}
 use Rattle.ray_rules.specs.Refusals.{or_after, or_later}
 use Rattle.ray_rules.specs.Verdict.{first_hazard, hazard_of}
 use Rattle.ray_sync.specs.Cells.{cell_of}
@@ -58,17 +59,17 @@ pub uncovered-last :
     (law : SharingIsMeeting) (rec : List Command) (starts : List ℕ) (n : ℕ) (to : Stage) (ts : List Touch)
     (touches : List Touched) (r : ℕ) → AreTouched (status_at rec n) ts touches → ArePlaced rec starts n ts
     → HaveStarts rec starts n
-    → IsLast (λ i. AnyOf (λ (t : Touched). AnyUncovered rec starts n to t.access (cell_of starts t.range.from) (cell_of starts t.range.end) i) touches) n r
-    → option_map Earlier (last_number r) ≡ greatest_with (wrote_uncovered rec n to) ts n
+    → IsLast (λ i. AnyOf (λ (t : Touched). AnyUncovered rec starts t.buffer n to t.access (cell_of starts t.range.from) (cell_of starts t.range.end) i) touches) n r
+    → option_map Earlier (last_number r) ≡ greatest_with (wrote_uncovered (barriers rec) rec n to) ts n
 uncovered-last law rec starts n to ts touches r are placed have last =
-    ap (option_map Earlier) (sym (last-greatest _ (λ i. list_any (λ t. wrote_uncovered rec n to t i) ts) n r
+    ap (option_map Earlier) (sym (last-greatest _ (λ i. list_any (λ t. wrote_uncovered (barriers rec) rec n to t i) ts) n r
     (λ i l any.
-    of-to (touched (status_at rec n)) _ (λ t. wrote_uncovered rec n to t i) (IsPlaced (status_at rec n) starts) ts
+    of-to (touched (status_at rec n)) _ (λ t. wrote_uncovered (barriers rec) rec n to t i) (IsPlaced (status_at rec n) starts) ts
     (each-placed rec starts n ts placed) (λ t one p. uncovered-to law rec starts n i to t one (have.writes i l) p)
-    (subst (λ us. AnyOf (λ (t : Touched). AnyUncovered rec starts n to t.access (cell_of starts t.range.from) (cell_of starts t.range.end) i) us) are.are any))
+    (subst (λ us. AnyOf (λ (t : Touched). AnyUncovered rec starts t.buffer n to t.access (cell_of starts t.range.from) (cell_of starts t.range.end) i) us) are.are any))
     (λ i l found.
-    subst (λ us. AnyOf (λ (t : Touched). AnyUncovered rec starts n to t.access (cell_of starts t.range.from) (cell_of starts t.range.end) i) us) (sym are.are)
-    (of-from (touched (status_at rec n)) _ (λ t. wrote_uncovered rec n to t i) (IsPlaced (status_at rec n) starts) ts
+    subst (λ us. AnyOf (λ (t : Touched). AnyUncovered rec starts t.buffer n to t.access (cell_of starts t.range.from) (cell_of starts t.range.end) i) us) (sym are.are)
+    (of-from (touched (status_at rec n)) _ (λ t. wrote_uncovered (barriers rec) rec n to t i) (IsPlaced (status_at rec n) starts) ts
     (each-placed rec starts n ts placed) (λ t one e. uncovered-from law rec starts n i to t one (have.writes i l) e) found))
     last))
 
@@ -78,70 +79,70 @@ pub unordered-last :
     (touches : List Touched) (r : ℕ) → AreTouched (status_at rec n) ts touches → ArePlaced rec starts n ts
     → HaveStarts rec starts n
     → IsLast (λ i. AnyOf (λ (t : Touched). AnyUnordered rec starts n to (cell_of starts t.range.from) (cell_of starts t.range.end) i) touches) n r
-    → option_map Earlier (last_number r) ≡ greatest_with (read_unordered rec n to) ts n
+    → option_map Earlier (last_number r) ≡ greatest_with (read_unordered (barriers rec) rec n to) ts n
 unordered-last law rec starts n to ts touches r are placed have last =
-    ap (option_map Earlier) (sym (last-greatest _ (λ i. list_any (λ t. read_unordered rec n to t i) ts) n r
+    ap (option_map Earlier) (sym (last-greatest _ (λ i. list_any (λ t. read_unordered (barriers rec) rec n to t i) ts) n r
     (λ i l any.
-    of-to (touched (status_at rec n)) _ (λ t. read_unordered rec n to t i) (IsPlaced (status_at rec n) starts) ts
+    of-to (touched (status_at rec n)) _ (λ t. read_unordered (barriers rec) rec n to t i) (IsPlaced (status_at rec n) starts) ts
     (each-placed rec starts n ts placed) (λ t one p. unordered-to law rec starts n i to t one (have.reads i l) p)
     (subst (λ us. AnyOf (λ (t : Touched). AnyUnordered rec starts n to (cell_of starts t.range.from) (cell_of starts t.range.end) i) us) are.are any))
     (λ i l found.
     subst (λ us. AnyOf (λ (t : Touched). AnyUnordered rec starts n to (cell_of starts t.range.from) (cell_of starts t.range.end) i) us) (sym are.are)
-    (of-from (touched (status_at rec n)) _ (λ t. read_unordered rec n to t i) (IsPlaced (status_at rec n) starts) ts
+    (of-from (touched (status_at rec n)) _ (λ t. read_unordered (barriers rec) rec n to t i) (IsPlaced (status_at rec n) starts) ts
     (each-placed rec starts n ts placed) (λ t one e. unordered-from law rec starts n i to t one (have.reads i l) e) found))
     last))
 
 -- the rules, told by the stage
 pub v25-is :
     (rec : List Command) (n : ℕ) (stage : Option Stage) (r : Option Place) → stage ≡ stage_at rec n
-    → r ≡ option_map_or (λ to. greatest_with (wrote_uncovered rec n to) (accesses_at rec n).reads n) stage None → r ≡ v25 rec n
+    → r ≡ option_map_or (λ to. greatest_with (wrote_uncovered (barriers rec) rec n to) (accesses_at rec n).reads n) stage None → r ≡ v25 (barriers rec) rec n
 unfolding v25
 v25-is rec n stage r at e =
-    e ∙ ap (λ o. option_map_or (λ to. greatest_with (wrote_uncovered rec n to) (accesses_at rec n).reads n) o None) at
+    e ∙ ap (λ o. option_map_or (λ to. greatest_with (wrote_uncovered (barriers rec) rec n to) (accesses_at rec n).reads n) o None) at
 
 pub v26-is :
     (rec : List Command) (n : ℕ) (stage : Option Stage) (r : Option Place) → stage ≡ stage_at rec n
-    → r ≡ option_map_or (λ to. greatest_with (wrote_uncovered rec n to) (accesses_at rec n).writes n) stage None → r ≡ v26 rec n
+    → r ≡ option_map_or (λ to. greatest_with (wrote_uncovered (barriers rec) rec n to) (accesses_at rec n).writes n) stage None → r ≡ v26 (barriers rec) rec n
 unfolding v26
 v26-is rec n stage r at e =
-    e ∙ ap (λ o. option_map_or (λ to. greatest_with (wrote_uncovered rec n to) (accesses_at rec n).writes n) o None) at
+    e ∙ ap (λ o. option_map_or (λ to. greatest_with (wrote_uncovered (barriers rec) rec n to) (accesses_at rec n).writes n) o None) at
 
 pub v27-is :
     (rec : List Command) (n : ℕ) (stage : Option Stage) (r : Option Place) → stage ≡ stage_at rec n
-    → r ≡ option_map_or (λ to. greatest_with (read_unordered rec n to) (accesses_at rec n).writes n) stage None → r ≡ v27 rec n
+    → r ≡ option_map_or (λ to. greatest_with (read_unordered (barriers rec) rec n to) (accesses_at rec n).writes n) stage None → r ≡ v27 (barriers rec) rec n
 unfolding v27
 v27-is rec n stage r at e =
-    e ∙ ap (λ o. option_map_or (λ to. greatest_with (read_unordered rec n to) (accesses_at rec n).writes n) o None) at
+    e ∙ ap (λ o. option_map_or (λ to. greatest_with (read_unordered (barriers rec) rec n to) (accesses_at rec n).writes n) o None) at
 
 pub v32-is :
-    (rec : List Command) (n : ℕ) (r : Option Place) → r ≡ greatest_with (wrote_uncovered rec n Host) (host_reads_at rec n) n
-    → r ≡ v32 rec n
+    (rec : List Command) (n : ℕ) (r : Option Place) → r ≡ greatest_with (wrote_uncovered (barriers rec) rec n Host) (host_reads_at rec n) n
+    → r ≡ v32 (barriers rec) rec n
 unfolding v32
 v32-is rec n r e = e
 
 -- the least that is broken
 pub hazard-is :
-    (rec : List Command) (n : ℕ) (a b c d : Option Place) → a ≡ v25 rec n → b ≡ v26 rec n → c ≡ v27 rec n → d ≡ v32 rec n
-    → or_later n 25 a (or_later n 26 b (or_later n 27 c (or_later n 32 d None))) ≡ hazard_of rec n
+    (rec : List Command) (n : ℕ) (a b c d : Option Place) → a ≡ v25 (barriers rec) rec n → b ≡ v26 (barriers rec) rec n → c ≡ v27 (barriers rec) rec n → d ≡ v32 (barriers rec) rec n
+    → or_later n 25 a (or_later n 26 b (or_later n 27 c (or_later n 32 d None))) ≡ hazard_of (barriers rec) rec n
 unfolding hazard_of
 hazard-is rec n a b c d ea eb ec ed = λ i. or_later n 25 (ea i) (or_later n 26 (eb i) (or_later n 27 (ec i) (or_later n 32 (ed i) None)))
 
 -- the first, once a command has one
 pub first-found :
-    (rec : List Command) (n until : ℕ) (r : Refusal) → first_hazard rec n ≡ None → hazard_of rec n ≡ Some r → n < until
-    → first_hazard rec until ≡ Some r
+    (rec : List Command) (n until : ℕ) (r : Refusal) → first_hazard (barriers rec) rec n ≡ None → hazard_of (barriers rec) rec n ≡ Some r → n < until
+    → first_hazard (barriers rec) rec until ≡ Some r
 first-found rec n zero r none found below = absurd (omega (arith, below))
 first-found rec n (suc until) r none found below =
     elim (cases_Bool (nat_lt n until)) [
       | inl t ↦
-          ap (λ o. or_after o (hazard_of rec until)) (first-found rec n until r none found (ltb-true n until t))
+          ap (λ o. or_after o (hazard_of (barriers rec) rec until)) (first-found rec n until r none found (ltb-true n until t))
       | inr f ↦
           let same : n ≡ until = grind (arith, nat_tests) in
-          subst (λ k. or_after (first_hazard rec k) (hazard_of rec k) ≡ Some r) same
-          (ap (λ o. or_after o (hazard_of rec n)) none ∙ found)
+          subst (λ k. or_after (first_hazard (barriers rec) rec k) (hazard_of (barriers rec) rec k) ≡ Some r) same
+          (ap (λ o. or_after o (hazard_of (barriers rec) rec n)) none ∙ found)
     ]
 
 -- none so far, and none by one more
 pub first-none :
-    (rec : List Command) (n : ℕ) → first_hazard rec n ≡ None → hazard_of rec n ≡ None → first_hazard rec (suc n) ≡ None
-first-none rec n none more = ap (λ o. or_after o (hazard_of rec n)) none ∙ more
+    (rec : List Command) (n : ℕ) → first_hazard (barriers rec) rec n ≡ None → hazard_of (barriers rec) rec n ≡ None → first_hazard (barriers rec) rec (suc n) ≡ None
+first-none rec n none more = ap (λ o. or_after o (hazard_of (barriers rec) rec n)) none ∙ more

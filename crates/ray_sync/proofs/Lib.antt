@@ -1,6 +1,7 @@
 pub mod Advance
-pub mod Coverage
-pub mod Covered
+pub mod Within
+pub mod Linked
+pub mod Carrying
 pub mod Limits
 pub mod Chains
 pub mod Steps
@@ -8,6 +9,7 @@ pub mod Lasts
 pub mod Cellular
 pub mod Laning
 pub mod Ways
+pub mod Finds
 pub mod Odds
 pub mod Starting
 pub mod Checking

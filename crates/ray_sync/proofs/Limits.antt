@@ -6,14 +6,16 @@ use Rattle.ray_cmd.specs.declared.command.Command.{Command}
 use Rattle.ray_cmd.specs.declared.command.Command.TheVariants as commands
 use Rattle.ray_rules.specs.declared.stage.Stage.{Stage}
 use Rattle.ray_rules.specs.declared.stage.Stage.TheVariants as stages
-use Rattle.ray_rules.specs.Order.{before, is_wait, kind_at, kind_before, kind_of, last_wait}
+use Rattle.ray_rules.specs.Order.{barriers, before, is_wait, kind_at, kind_before, last_wait}
 use Rattle.ray_rules.specs.Order as order
+use Rattle.ray_rules.specs.declared.kind.Kind.TheVariants as rules
+use Rattle.ray_rules.specs.Kinds.{kind_of}
 use Rattle.ray_sync.specs.declared.front.Front.{Front}
 use Rattle.ray_sync.specs.declared.fronts.Fronts.{Fronts}
 use Rattle.ray_sync.specs.declared.kind.Kind.{Kind}
-use Rattle.ray_sync.specs.declared.kind.Kind.TheVariants.{Transfer, Build, Compute, Barrier, Host}
+use Rattle.ray_sync.specs.declared.kind.Kind.TheVariants.{Transfer, Build, StructureCopy, Compute, Barrier, Host}
 use Rattle.ray_sync.specs.Fronts.{front_at, IsFront}
-use Rattle.ray_sync.specs.Kinds.{AreFronts, device_limits, fronts_after, kind_in, kind_number, limits_of, no_fronts, number_of, order_kind, source_of, waited_after}
+use Rattle.ray_sync.specs.Kinds.{AreFronts, device_limits, fronts_after, kind_in, kind_number, limits_of, no_fronts, number_of, order_kind, waited_after}
 use Rattle.ray_sync.proofs.Advance.{front-first, front-next}
 
 -- the kind of a command is that of the order
@@ -28,12 +30,12 @@ kind-is (commands.Serialize src dst) = refl
 kind-is (commands.Deserialize src dst uses) = refl
 kind-is (commands.Property what structures dst) = refl
 kind-is (commands.Trace top rays count hits flags mask script) = refl
-kind-is (commands.Barrier src_stages src_access dst_stages dst_access) = refl
+kind-is (commands.Barrier src_stages src_access dst_stages dst_access buffers) = refl
 kind-is _ = refl
 
 pub kind-is_if :
     (o : Option Command)
-    → option_map_or kind_of o order.HostCommand ≡ order_kind (option_map_or kind_in o Host)
+    → option_map_or kind_of o rules.HostCommand ≡ order_kind (option_map_or kind_in o Host)
 kind-is_if None = refl
 kind-is_if (Some c) = kind-is c
 
@@ -53,26 +55,28 @@ lt-false a i = grind (arith, nat_tests)
 -- what a front says of the commands of its stage
 pub lt-front :
     (stage : Stage) (rec : List Command) (i : ℕ) (front : Front) (a : ℕ) (to : Stage)
-    → IsFront (source_of stage) rec i front
+    → IsFront stage rec i front
     → (nat_lt a i && order.is_ordered_to rec a stage i to) ≡ nat_lt a (front_at front to)
 lt-front stage rec i front a to p =
     ap (λ b. nat_lt a i && b) (p.exact a to) ∙ lt-within a i (front_at front to) (p.within to)
 
 pub before-device :
     (rec : List Command) (i : ℕ) (fronts : Fronts) (a : ℕ) (to : Stage) (k : Kind) → AreFronts rec i fronts
-    → (nat_lt a i && kind_before rec a i (order_kind k) (order.Device to))
+    → (nat_lt a i && kind_before (barriers rec) rec a i (order_kind k) (rules.Device to))
     ≡ nat_lt a (number_of (device_limits fronts i to) k)
 before-device rec i fronts a to Transfer p = lt-front stages.Transfer rec i fronts.transfer a to p.transfer
 before-device rec i fronts a to Build p = lt-front stages.Build rec i fronts.build a to p.build
+before-device rec i fronts a to StructureCopy p = lt-front stages.StructureCopy rec i fronts.structure_copy a to p.structure_copy
 before-device rec i fronts a to Compute p = lt-front stages.Compute rec i fronts.compute a to p.compute
 before-device rec i fronts a to Barrier p = lt-false a i
 before-device rec i fronts a to Host p = lt-true a i
 
 pub before-barrier :
     (rec : List Command) (i : ℕ) (fronts : Fronts) (a : ℕ) (k : Kind)
-    → (nat_lt a i && kind_before rec a i (order_kind k) order.Barrier) ≡ nat_lt a (number_of (limits_of fronts i Barrier) k)
+    → (nat_lt a i && kind_before (barriers rec) rec a i (order_kind k) rules.Barrier) ≡ nat_lt a (number_of (limits_of fronts i Barrier) k)
 before-barrier rec i fronts a Transfer = lt-false a i
 before-barrier rec i fronts a Build = lt-false a i
+before-barrier rec i fronts a StructureCopy = lt-false a i
 before-barrier rec i fronts a Compute = lt-false a i
 before-barrier rec i fronts a Barrier = lt-false a i
 before-barrier rec i fronts a Host = lt-true a i
@@ -85,20 +89,22 @@ lt-waited rec i fronts a p =
 
 pub before-host :
     (rec : List Command) (i : ℕ) (fronts : Fronts) (a : ℕ) (k : Kind) → AreFronts rec i fronts
-    → (nat_lt a i && kind_before rec a i (order_kind k) order.HostCommand)
+    → (nat_lt a i && kind_before (barriers rec) rec a i (order_kind k) rules.HostCommand)
     ≡ nat_lt a (number_of (limits_of fronts i Host) k)
 before-host rec i fronts a Transfer p = lt-waited rec i fronts a p
 before-host rec i fronts a Build p = lt-waited rec i fronts a p
+before-host rec i fronts a StructureCopy p = lt-waited rec i fronts a p
 before-host rec i fronts a Compute p = lt-waited rec i fronts a p
 before-host rec i fronts a Barrier p = lt-waited rec i fronts a p
 before-host rec i fronts a Host p = lt-true a i
 
 pub before-kinds :
     (rec : List Command) (i : ℕ) (fronts : Fronts) (a : ℕ) (k kind : Kind) → AreFronts rec i fronts
-    → (nat_lt a i && kind_before rec a i (order_kind k) (order_kind kind))
+    → (nat_lt a i && kind_before (barriers rec) rec a i (order_kind k) (order_kind kind))
     ≡ nat_lt a (number_of (limits_of fronts i kind) k)
 before-kinds rec i fronts a k Transfer p = before-device rec i fronts a stages.Transfer k p
 before-kinds rec i fronts a k Build p = before-device rec i fronts a stages.Build k p
+before-kinds rec i fronts a k StructureCopy p = before-device rec i fronts a stages.StructureCopy k p
 before-kinds rec i fronts a k Compute p = before-device rec i fronts a stages.Compute k p
 before-kinds rec i fronts a k Barrier p = before-barrier rec i fronts a k
 before-kinds rec i fronts a k Host p = before-host rec i fronts a k p
@@ -106,9 +112,9 @@ before-kinds rec i fronts a k Host p = before-host rec i fronts a k p
 -- the commands that are ordered before command number i are those below the number of their kind
 pub before-limits :
     (rec : List Command) (i : ℕ) (fronts : Fronts) (kind : Kind) → kind ≡ kind_number rec i → AreFronts rec i fronts
-    → (a : ℕ) → before rec a i ≡ nat_lt a (number_of (limits_of fronts i kind) (kind_number rec a))
+    → (a : ℕ) → before (barriers rec) rec a i ≡ nat_lt a (number_of (limits_of fronts i kind) (kind_number rec a))
 before-limits rec i fronts kind e p a =
-    (λ j. nat_lt a i && kind_before rec a i (kind-is_at rec a j) ((kind-is_at rec i ∙ ap order_kind (sym e)) j))
+    (λ j. nat_lt a i && kind_before (barriers rec) rec a i (kind-is_at rec a j) ((kind-is_at rec i ∙ ap order_kind (sym e)) j))
     ∙ before-kinds rec i fronts a (kind_number rec a) kind p
 
 -- these numbers are at most i
@@ -117,6 +123,7 @@ pub device-within :
     → number_of (device_limits fronts i to) k ≤ i
 device-within rec i fronts to Transfer p = p.transfer.within to
 device-within rec i fronts to Build p = p.build.within to
+device-within rec i fronts to StructureCopy p = p.structure_copy.within to
 device-within rec i fronts to Compute p = p.compute.within to
 device-within rec i fronts to Barrier p = omega arith
 device-within rec i fronts to Host p = omega arith
@@ -124,6 +131,7 @@ device-within rec i fronts to Host p = omega arith
 pub barrier-within : (i : ℕ) (fronts : Fronts) (k : Kind) → number_of (limits_of fronts i Barrier) k ≤ i
 barrier-within i fronts Transfer = omega arith
 barrier-within i fronts Build = omega arith
+barrier-within i fronts StructureCopy = omega arith
 barrier-within i fronts Compute = omega arith
 barrier-within i fronts Barrier = omega arith
 barrier-within i fronts Host = omega arith
@@ -131,6 +139,7 @@ barrier-within i fronts Host = omega arith
 pub host-within : (i : ℕ) (fronts : Fronts) (k : Kind) → fronts.waited ≤ i → number_of (limits_of fronts i Host) k ≤ i
 host-within i fronts Transfer w = w
 host-within i fronts Build w = w
+host-within i fronts StructureCopy w = w
 host-within i fronts Compute w = w
 host-within i fronts Barrier w = w
 host-within i fronts Host w = omega arith
@@ -140,6 +149,7 @@ pub limits-within :
     → number_of (limits_of fronts i kind) k ≤ i
 limits-within rec i fronts Transfer k p = device-within rec i fronts stages.Transfer k p
 limits-within rec i fronts Build k p = device-within rec i fronts stages.Build k p
+limits-within rec i fronts StructureCopy k p = device-within rec i fronts stages.StructureCopy k p
 limits-within rec i fronts Compute k p = device-within rec i fronts stages.Compute k p
 limits-within rec i fronts Barrier k p = barrier-within i fronts k
 limits-within rec i fronts Host k p = host-within i fronts k p.within
@@ -158,9 +168,10 @@ pub fronts-next :
     (rec : List Command) (n : ℕ) (fronts : Fronts) (c : Command) → slice_get rec n ≡ Some c → AreFronts rec n fronts
     → AreFronts rec (suc n) (fronts_after n c fronts)
 fronts-next rec n fronts c e p = record {
-  transfer = front-next (source_of stages.Transfer) rec n fronts.transfer c e p.transfer;
-  build = front-next (source_of stages.Build) rec n fronts.build c e p.build;
-  compute = front-next (source_of stages.Compute) rec n fronts.compute c e p.compute;
+  transfer = front-next stages.Transfer rec n fronts.transfer c e p.transfer;
+  build = front-next stages.Build rec n fronts.build c e p.build;
+  structure_copy = front-next stages.StructureCopy rec n fronts.structure_copy c e p.structure_copy;
+  compute = front-next stages.Compute rec n fronts.compute c e p.compute;
   waited =
       ap (λ o. if is_wait o then n else last_wait rec n) e
       ∙ (waited-step c n (last_wait rec n) ∙ ap (waited_after n c) p.waited);
@@ -170,9 +181,10 @@ fronts-next rec n fronts c e p = record {
 -- where a recording begins
 pub fronts-first : (rec : List Command) → AreFronts rec 0 no_fronts
 fronts-first rec = record {
-  transfer = front-first (source_of stages.Transfer) rec;
-  build = front-first (source_of stages.Build) rec;
-  compute = front-first (source_of stages.Compute) rec;
+  transfer = front-first stages.Transfer rec;
+  build = front-first stages.Build rec;
+  structure_copy = front-first stages.StructureCopy rec;
+  compute = front-first stages.Compute rec;
   waited = refl;
   within = omega arith;
 }

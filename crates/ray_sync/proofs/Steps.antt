@@ -4,10 +4,10 @@ use Rattle.std.specs.Option.{option_map_or}
 use Rattle.std.proofs.lemmas.Bool.{cases_eq}
 use Rattle.std.proofs.lemmas.List.{get_or_append_left, get_or_push}
 use Rattle.ray_cmd.specs.declared.command.Command.{Command}
-use Rattle.ray_rules.specs.Order.{before, IsLongest}
+use Rattle.ray_rules.specs.Order.{barriers, before, IsLongest}
 use Rattle.ray_sync.specs.declared.fronts.Fronts.{Fronts}
 use Rattle.ray_sync.specs.declared.kind.Kind.{Kind}
-use Rattle.ray_sync.specs.declared.kind.Kind.TheVariants.{Transfer, Build, Compute, Barrier, Host}
+use Rattle.ray_sync.specs.declared.kind.Kind.TheVariants.{Transfer, Build, StructureCopy, Compute, Barrier, Host}
 use Rattle.ray_sync.specs.declared.order.Row.{Row}
 use Rattle.ray_sync.specs.declared.per_kind.PerKind.{PerKind}
 use Rattle.ray_sync.specs.Kinds.{AreFronts, kind_in, kind_number, limits_of, no_numbers, raised_at}
@@ -37,6 +37,7 @@ have-numbers rec n bests limits b l =
     record {
       transfer = let w = l.within Transfer in omega arith;
       build = let w = l.within Build in omega arith;
+      structure_copy = let w = l.within StructureCopy in omega arith;
       compute = let w = l.within Compute in omega arith;
       barrier = let w = l.within Barrier in omega arith;
       host = let w = l.within Host in omega arith;
@@ -81,7 +82,7 @@ rows-next rec n rows row many p r = record {
 
 -- the wave of command number n
 pub record IsWave (rec : List Command) (n : ℕ) (wave : ℕ) : Type 0 where
-  pub longest : IsLongest (before rec) n wave
+  pub longest : IsLongest (before (barriers rec) rec) n wave
   pub within : wave ≤ n
 
 pub wave-next :

@@ -7,17 +7,20 @@ use Rattle.ray_cmd.specs.declared.command.Command.TheVariants as commands
 use Rattle.ray_rules.specs.declared.access_type.AccessType.{AccessType}
 use Rattle.ray_rules.specs.declared.access_type.AccessType.TheVariants.{TransferWrite, StructureWrite, ShaderWrite}
 use Rattle.ray_rules.specs.declared.stage.Stage.{Stage}
-use Rattle.ray_rules.specs.declared.stage.Stage.TheVariants.{Transfer, Build, Compute}
+use Rattle.ray_rules.specs.declared.stage.Stage.TheVariants.{Transfer, Build, StructureCopy, Compute}
 use Rattle.ray_rules.specs.declared.touch.Touch.{Touch}
 use Rattle.ray_rules.specs.Access.{Accesses, accesses_of, all_accesses, info_accesses, region_accesses, stage_of}
 use Rattle.ray_rules.specs.Order.{is_device}
 use Rattle.ray_rules.specs.Status.{Status}
+use Rattle.ray_rules.specs.Kinds.{kind_of}
 
 -- whether commands of a stage write with an access
 abbrev pub is_way : Stage → AccessType → Bool
 is_way Transfer TransferWrite = true
 is_way Build StructureWrite = true
 is_way Build TransferWrite = true
+is_way StructureCopy StructureWrite = true
+is_way StructureCopy TransferWrite = true
 is_way Compute ShaderWrite = true
 is_way _ _ = false
 
@@ -45,13 +48,13 @@ ways-parts stage f (x ∷ xs) each = ways-both stage (f x).writes (all_accesses 
 pub ways :
     (rec : List Command) (z : Status) (c : Command)
     → option_map_or (λ stage. are_ways stage (accesses_of rec z c).writes) (stage_of c) true ≡ true
-unfolding stage_of accesses_of
+unfolding stage_of kind_of accesses_of
 ways rec z (commands.Copy src dst regions) = ways-parts Transfer (region_accesses src dst) regions (λ region. refl)
 ways rec z (commands.Build infos) = ways-parts Build (info_accesses z.buffers) infos (λ info. refl)
 ways rec z _ = refl
 
 -- each is at a stage of the device
 pub devices : (c : Command) → option_map_or is_device (stage_of c) true ≡ true
-unfolding stage_of
+unfolding stage_of kind_of
 devices (commands.Copy src dst regions) = refl
 devices _ = refl

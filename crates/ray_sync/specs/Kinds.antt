@@ -1,41 +1,43 @@
 -- The kinds of commands, and below which numbers commands of each are ordered before another. (Own; the
 -- kinds are those of the order.)
-use Rattle.std.specs.Prelude.{◌≡◌, ◌≤◌, ℕ, max, List, None, slice_get}
+use Rattle.std.specs.Prelude.{◌≡◌, ◌≤◌, ℕ, max, List, slice_get}
 use Rattle.std.specs.Option.{option_map_or}
 use Rattle.ray_cmd.specs.declared.command.Command.{Command}
 use Rattle.ray_cmd.specs.declared.command.Command.TheVariants as commands
+use Rattle.ray_rules.specs.declared.kind.Kind.{Kind as RulesKind}
+use Rattle.ray_rules.specs.declared.kind.Kind.TheVariants as rules
 use Rattle.ray_rules.specs.declared.stage.Stage.{Stage}
 use Rattle.ray_rules.specs.declared.stage.Stage.TheVariants as stages
+use Rattle.ray_rules.specs.Kinds.{kind_of}
 use Rattle.ray_rules.specs.Order.{last_wait}
-use Rattle.ray_rules.specs.Order as order
 use Rattle.ray_sync.specs.declared.fronts.Fronts.{Fronts}
 use Rattle.ray_sync.specs.declared.kind.Kind.{Kind}
-use Rattle.ray_sync.specs.declared.kind.Kind.TheVariants.{Transfer, Build, Compute, Barrier, Host}
+use Rattle.ray_sync.specs.declared.kind.Kind.TheVariants.{Transfer, Build, StructureCopy, Compute, Barrier, Host}
 use Rattle.ray_sync.specs.declared.per_kind.PerKind.{PerKind}
-use Rattle.ray_sync.specs.declared.source.Source.{Source}
 use Rattle.ray_sync.specs.Fronts.{front_after, front_at, no_front, IsFront}
 
--- a kind as the order has it
-abbrev pub order_kind : Kind → order.Kind
-order_kind Transfer = order.Device stages.Transfer
-order_kind Build = order.Device stages.Build
-order_kind Compute = order.Device stages.Compute
-order_kind Barrier = order.Barrier
-order_kind Host = order.HostCommand
+-- a kind as the rules have it
+abbrev pub order_kind : Kind → RulesKind
+order_kind Transfer = rules.Device stages.Transfer
+order_kind Build = rules.Device stages.Build
+order_kind StructureCopy = rules.Device stages.StructureCopy
+order_kind Compute = rules.Device stages.Compute
+order_kind Barrier = rules.Barrier
+order_kind Host = rules.HostCommand
+
+-- and one of the rules, where the device has no stage of the host
+abbrev pub kind_for : RulesKind → Kind
+kind_for (rules.Device stages.Transfer) = Transfer
+kind_for (rules.Device stages.Build) = Build
+kind_for (rules.Device stages.StructureCopy) = StructureCopy
+kind_for (rules.Device stages.Compute) = Compute
+kind_for (rules.Device stages.Host) = Host
+kind_for rules.Barrier = Barrier
+kind_for rules.HostCommand = Host
 
 -- the kind of a command
 abbrev pub kind_in : Command → Kind
-kind_in (commands.Update buffer offset content) = Transfer
-kind_in (commands.Fill buffer offset size value) = Transfer
-kind_in (commands.Copy src dst regions) = Transfer
-kind_in (commands.Build infos) = Build
-kind_in (commands.CopyStructure mode src dst) = Build
-kind_in (commands.Serialize src dst) = Build
-kind_in (commands.Deserialize src dst uses) = Build
-kind_in (commands.Property what structures dst) = Build
-kind_in (commands.Trace top rays count hits flags mask script) = Compute
-kind_in (commands.Barrier src_stages src_access dst_stages dst_access) = Barrier
-kind_in _ = Host
+kind_in c = kind_for (kind_of c)
 
 -- the kind of command number i: that of a host command where there is none
 abbrev pub kind_number : List Command → ℕ → Kind
@@ -43,12 +45,13 @@ kind_number rec i = option_map_or kind_in (slice_get rec i) Host
 
 -- no number is above 0
 abbrev pub no_numbers : PerKind
-no_numbers = record { transfer = 0; build = 0; compute = 0; barrier = 0; host = 0 }
+no_numbers = record { transfer = 0; build = 0; structure_copy = 0; compute = 0; barrier = 0; host = 0 }
 
 -- the number of a kind
 abbrev pub number_of : PerKind → Kind → ℕ
 number_of numbers Transfer = numbers.transfer
 number_of numbers Build = numbers.build
+number_of numbers StructureCopy = numbers.structure_copy
 number_of numbers Compute = numbers.compute
 number_of numbers Barrier = numbers.barrier
 number_of numbers Host = numbers.host
@@ -57,17 +60,14 @@ number_of numbers Host = numbers.host
 abbrev pub raised_at : PerKind → Kind → ℕ → PerKind
 raised_at numbers Transfer number = record numbers { transfer = max numbers.transfer number }
 raised_at numbers Build number = record numbers { build = max numbers.build number }
+raised_at numbers StructureCopy number = record numbers { structure_copy = max numbers.structure_copy number }
 raised_at numbers Compute number = record numbers { compute = max numbers.compute number }
 raised_at numbers Barrier number = record numbers { barrier = max numbers.barrier number }
 raised_at numbers Host number = record numbers { host = max numbers.host number }
 
--- what commands of a stage did
-abbrev pub source_of : Stage → Source
-source_of stage = record { stage = stage; access = None }
-
 -- nothing is handed on, and there was no `wait`
 abbrev pub no_fronts : Fronts
-no_fronts = record { transfer = no_front; build = no_front; compute = no_front; waited = 0 }
+no_fronts = record { transfer = no_front; build = no_front; structure_copy = no_front; compute = no_front; waited = 0 }
 
 -- the last `wait` once command number n is done
 abbrev pub waited_after : ℕ → Command → ℕ → ℕ
@@ -77,9 +77,10 @@ waited_after n _ waited = waited
 -- the fronts after one more command, number n
 abbrev pub fronts_after : ℕ → Command → Fronts → Fronts
 fronts_after n c fronts = record {
-  transfer = front_after (source_of stages.Transfer) n c fronts.transfer;
-  build = front_after (source_of stages.Build) n c fronts.build;
-  compute = front_after (source_of stages.Compute) n c fronts.compute;
+  transfer = front_after stages.Transfer n c fronts.transfer;
+  build = front_after stages.Build n c fronts.build;
+  structure_copy = front_after stages.StructureCopy n c fronts.structure_copy;
+  compute = front_after stages.Compute n c fronts.compute;
   waited = waited_after n c fronts.waited;
 }
 
@@ -88,6 +89,7 @@ abbrev pub device_limits : Fronts → ℕ → Stage → PerKind
 device_limits fronts j to = record {
   transfer = front_at fronts.transfer to;
   build = front_at fronts.build to;
+  structure_copy = front_at fronts.structure_copy to;
   compute = front_at fronts.compute to;
   barrier = 0;
   host = j;
@@ -97,11 +99,13 @@ device_limits fronts j to = record {
 abbrev pub limits_of : Fronts → ℕ → Kind → PerKind
 limits_of fronts j Transfer = device_limits fronts j stages.Transfer
 limits_of fronts j Build = device_limits fronts j stages.Build
+limits_of fronts j StructureCopy = device_limits fronts j stages.StructureCopy
 limits_of fronts j Compute = device_limits fronts j stages.Compute
 limits_of fronts j Barrier = record no_numbers { host = j }
 limits_of fronts j Host = record {
   transfer = fronts.waited;
   build = fronts.waited;
+  structure_copy = fronts.waited;
   compute = fronts.waited;
   barrier = fronts.waited;
   host = j;
@@ -109,8 +113,9 @@ limits_of fronts j Host = record {
 
 -- the fronts are exact where command number n stands
 pub record AreFronts (rec : List Command) (n : ℕ) (fronts : Fronts) : Type 0 where
-  pub transfer : IsFront (source_of stages.Transfer) rec n fronts.transfer
-  pub build : IsFront (source_of stages.Build) rec n fronts.build
-  pub compute : IsFront (source_of stages.Compute) rec n fronts.compute
+  pub transfer : IsFront stages.Transfer rec n fronts.transfer
+  pub build : IsFront stages.Build rec n fronts.build
+  pub structure_copy : IsFront stages.StructureCopy rec n fronts.structure_copy
+  pub compute : IsFront stages.Compute rec n fronts.compute
   pub waited : last_wait rec n ≡ fronts.waited
   pub within : fronts.waited ≤ n

@@ -82,11 +82,11 @@ pub record ReadCell (rec : List Command) (starts : List ℕ) (stage : Stage) (c 
   pub by : stage_at rec i ≡ Some stage
   pub touch : list_any (has_it starts c) (reads_at rec i) ≡ true
 
--- what commands of a stage wrote with an access, and no covering has reached an access at a stage where
--- command number n stands, in cells from p on and below q
-pub record UncoveredIn (rec : List Command) (starts : List ℕ) (stage : Stage) (access : AccessType) (n : ℕ) (to : Stage) (x : AccessType) (p q i : ℕ) : Type 0 where
+-- what commands of a stage wrote with an access to a thing, and no covering has reached an access at a
+-- stage where command number n stands, in cells from p on and below q
+pub record UncoveredIn (rec : List Command) (starts : List ℕ) (stage : Stage) (access : AccessType) (thing : Option ℕ) (n : ℕ) (to : Stage) (x : AccessType) (p q i : ℕ) : Type 0 where
   pub cell : (c : ℕ) × (p ≤ c) × (c < q) × WroteCell rec starts stage access c i
-  pub uncovered : is_covered rec i stage access n to x ≡ false
+  pub uncovered : is_covered rec i stage access thing n to x ≡ false
 
 -- what commands of a stage read, and what isn't ordered before a stage where command number n stands
 pub record UnorderedIn (rec : List Command) (starts : List ℕ) (stage : Stage) (n : ℕ) (to : Stage) (p q i : ℕ) : Type 0 where

@@ -2,6 +2,7 @@ pub mod Carrying
 pub mod Cells
 pub mod Checks
 pub mod Covering
+pub mod Events
 pub mod Fronts
 pub mod Kinds
 pub mod Lanes

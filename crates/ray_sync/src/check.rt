@@ -4,14 +4,17 @@ ghost use Rattle.ray_access.specs.Lists.{AreTouched};
 ghost use Rattle.ray_cmd.specs.declared.command.Command.{Command as ACommand};
 ghost use Rattle.ray_rules.specs.declared.touch.Touch.{Touch as ATouch};
 ghost use Rattle.ray_rules.specs.Hazards.{greatest_with, read_unordered, status_at, wrote_uncovered};
+ghost use Rattle.ray_rules.specs.Order.{barriers};
 ghost use Rattle.ray_rules.specs.Refusals.{or_later};
 ghost use Rattle.ray_rules.specs.Verdict.{GoOn, first_hazard, hazard_of};
+ghost use Rattle.ray_sync.specs.Carrying.{AreCarried};
 ghost use Rattle.ray_sync.specs.Checks.{IsDoing};
 ghost use Rattle.ray_sync.specs.Kinds.{AreFronts};
 ghost use Rattle.ray_sync.specs.Lanes.{AreEnough, AreLanes};
 ghost use Rattle.ray_sync.specs.Lasts.{ArePlaced, HaveStarts};
 
 use crate::cells::Cells;
+use crate::coverage::Coverage;
 use crate::doing::{Doing, doing_of};
 use crate::fronts::Fronts;
 use crate::hazards::{earlier, last_uncovered, last_unordered};
@@ -42,7 +45,7 @@ pub fn check_sync(
 ) -> Result<Option<Refusal>, NoMemory>
     requires until { length order.now ≤ length rec.now }
     requires go_on { GoOn rec.now (length order.now) }
-    ensures { IfOk result (λ hazard. hazard ≡ first_hazard rec.now (length order.now)) }
+    ensures { IfOk result (λ hazard. hazard ≡ first_hazard (barriers rec.now) rec.now (length order.now)) }
 {
     let count = rec.len();
     let until = order.until() as u32;
@@ -65,18 +68,20 @@ fn checked(
     requires cells { length cells.now ≤ 2 ^ 32 }
     requires go_on { GoOn rec.now until }
     requires starts { HaveStarts rec.now cells.now until }
-    ensures { IfOk result (λ hazard. hazard ≡ first_hazard rec.now until) }
+    ensures { IfOk result (λ hazard. hazard ≡ first_hazard (barriers rec.now) rec.now until) }
 {
     let mut lanes = Lanes::new(alloc, cells.count())?;
+    let mut coverage = Coverage::new(alloc);
     let mut fronts = Fronts::none();
     let mut status = Status::new(alloc);
     for n in 0..until {
         let command = rec.command(n);
         let doing = doing_of(alloc, rec, &status, command)?;
-        if let Some(refusal) = hazard_of(n, &doing, &lanes, fronts, cells) {
+        if let Some(refusal) = hazard_of(n, &doing, &lanes, &coverage, fronts, cells) {
             return Ok(Some(refusal));
         }
-        lanes.pass(n, command, doing.stage, &doing.touches, cells);
+        lanes.mark(n, doing.stage, &doing.touches, cells);
+        coverage.pass(alloc, n, command, &status)?;
         fronts = fronts.after(n, command);
         status.step(n, command)?;
     }
@@ -84,17 +89,25 @@ fn checked(
 }
 
 // The refusal of command number `n` by the least rule on hazards that it breaks.
-fn hazard_of(n: u32, doing: &Doing, lanes: &Lanes, fronts: Fronts, cells: &Cells) -> Option<Refusal>
+fn hazard_of(
+    n: u32,
+    doing: &Doing,
+    lanes: &Lanes,
+    coverage: &Coverage,
+    fronts: Fronts,
+    cells: &Cells,
+) -> Option<Refusal>
     requires { AreEnough (length cells.now) lanes.now }
-    ensures { (rec : List ACommand) → AreLanes rec cells.now n lanes.now → AreFronts rec n fronts
-        → IsDoing rec n doing.now → HaveStarts rec cells.now (suc n) → result ≡ hazard_of rec n }
+    ensures { (rec : List ACommand) → AreLanes rec cells.now n lanes.now → AreCarried rec n coverage.now
+        → AreFronts rec n fronts → IsDoing rec n doing.now → HaveStarts rec cells.now (suc n)
+        → result ≡ hazard_of (barriers rec) rec n }
 {
     let reads = doing.touches.reads.as_slice();
     let writes = doing.touches.writes.as_slice();
-    let read = uncovered_at(doing.stage, reads, lanes, cells);
-    let written = uncovered_at(doing.stage, writes, lanes, cells);
+    let read = uncovered_at(doing.stage, reads, lanes, coverage, cells);
+    let written = uncovered_at(doing.stage, writes, lanes, coverage, cells);
     let overwritten = unordered_at(n, doing.stage, fronts, writes, lanes, cells);
-    let shown = uncovered(Stage::Host, doing.host.as_slice(), lanes, cells);
+    let shown = uncovered(Stage::Host, doing.host.as_slice(), lanes, coverage, cells);
     least(n, read, written, overwritten, shown)
 }
 
@@ -135,29 +148,36 @@ fn uncovered_at(
     stage: Option<Stage>,
     touches: &[Touched],
     lanes: &Lanes,
+    coverage: &Coverage,
     cells: &Cells,
 ) -> Option<Place>
     requires { AreEnough (length cells.now) lanes.now }
     ensures { (rec : List ACommand) (n : ℕ) (ts : List ATouch) → AreLanes rec cells.now n lanes.now
-        → AreTouched (status_at rec n) ts touches.now → ArePlaced rec cells.now n ts
+        → AreCarried rec n coverage.now → AreTouched (status_at rec n) ts touches.now → ArePlaced rec cells.now n ts
         → HaveStarts rec cells.now n
-        → result ≡ option_map_or (λ to. greatest_with (wrote_uncovered rec n to) ts n) stage None }
+        → result ≡ option_map_or (λ to. greatest_with (wrote_uncovered (barriers rec) rec n to) ts n) stage None }
 {
     match stage {
-        Some(to) => uncovered(to, touches, lanes, cells),
+        Some(to) => uncovered(to, touches, lanes, coverage, cells),
         None => None,
     }
 }
 
 // The last command that wrote what these touches at a stage reach, not covered.
-fn uncovered(to: Stage, touches: &[Touched], lanes: &Lanes, cells: &Cells) -> Option<Place>
+fn uncovered(
+    to: Stage,
+    touches: &[Touched],
+    lanes: &Lanes,
+    coverage: &Coverage,
+    cells: &Cells,
+) -> Option<Place>
     requires { AreEnough (length cells.now) lanes.now }
     ensures { (rec : List ACommand) (n : ℕ) (ts : List ATouch) → AreLanes rec cells.now n lanes.now
-        → AreTouched (status_at rec n) ts touches.now → ArePlaced rec cells.now n ts
-        → HaveStarts rec cells.now n → result ≡ greatest_with (wrote_uncovered rec n to) ts n }
+        → AreCarried rec n coverage.now → AreTouched (status_at rec n) ts touches.now → ArePlaced rec cells.now n ts
+        → HaveStarts rec cells.now n → result ≡ greatest_with (wrote_uncovered (barriers rec) rec n to) ts n }
 {
     sharing_is_meeting();
-    earlier(last_uncovered(lanes, to, touches, cells))
+    earlier(last_uncovered(lanes, coverage, to, touches, cells))
 }
 
 // The last command that read what these touches at the stage of command number `n` reach, not
@@ -174,7 +194,7 @@ fn unordered_at(
     ensures { (rec : List ACommand) (ts : List ATouch) → AreLanes rec cells.now n lanes.now
         → AreFronts rec n fronts → AreTouched (status_at rec n) ts touches.now
         → ArePlaced rec cells.now n ts → HaveStarts rec cells.now n
-        → result ≡ option_map_or (λ to. greatest_with (read_unordered rec n to) ts n) stage None }
+        → result ≡ option_map_or (λ to. greatest_with (read_unordered (barriers rec) rec n to) ts n) stage None }
 {
     match stage {
         Some(to) => unordered(n, to, fronts, touches, lanes, cells),
@@ -196,7 +216,7 @@ fn unordered(
     ensures { (rec : List ACommand) (ts : List ATouch) → AreLanes rec cells.now n lanes.now
         → AreFronts rec n fronts → AreTouched (status_at rec n) ts touches.now
         → ArePlaced rec cells.now n ts → HaveStarts rec cells.now n
-        → result ≡ greatest_with (read_unordered rec n to) ts n }
+        → result ≡ greatest_with (read_unordered (barriers rec) rec n to) ts n }
 {
     sharing_is_meeting();
     earlier(last_unordered(lanes, fronts.device_limits(n, to), touches, cells))

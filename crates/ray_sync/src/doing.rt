@@ -5,7 +5,7 @@ ghost use Rattle.ray_sync.specs.Checks.{IsDoing};
 
 use ray_access::{Touched, Touches, host_touches_of, touches_of};
 use ray_cmd::{Command, Recording};
-use ray_rules::Stage;
+use ray_rules::{Kind, Stage, kind_of};
 use ray_status::Status;
 use std::alloc::{AllocError as NoMemory, Global};
 
@@ -41,16 +41,8 @@ pub(crate) fn doing_of(
 fn stage_of(command: &Command) -> Option<Stage>
     ensures { result ≡ stage_of command.now }
 {
-    match command {
-        Command::Update { .. } | Command::Fill { .. } | Command::Copy { .. } => {
-            Some(Stage::Transfer)
-        }
-        Command::Build { .. }
-        | Command::CopyStructure { .. }
-        | Command::Serialize { .. }
-        | Command::Deserialize { .. }
-        | Command::Property { .. } => Some(Stage::Build),
-        Command::Trace { .. } => Some(Stage::Compute),
-        _ => None,
+    match kind_of(command) {
+        Kind::Device(stage) => Some(stage),
+        Kind::Barrier | Kind::HostCommand => None,
     }
 }

@@ -3,7 +3,6 @@ ghost use Rattle.ray_sync.specs.Fronts.{front_after, front_at, held, met, raised
 
 use crate::per_kind::greater;
 use crate::sets::holds_stage;
-use crate::source::Source;
 use ray_cmd::{Command, Stages};
 use ray_rules::Stage;
 
@@ -15,6 +14,8 @@ pub struct Front {
     pub transfer: u32,
     /// The number at the stage of builds.
     pub build: u32,
+    /// The number at the stage of copies of structures.
+    pub structure_copy: u32,
     /// The number at the stage of traces.
     pub compute: u32,
     /// The number at the host.
@@ -29,6 +30,7 @@ impl Front {
         Front {
             transfer: 0,
             build: 0,
+            structure_copy: 0,
             compute: 0,
             host: 0,
         }
@@ -41,6 +43,7 @@ impl Front {
         match stage {
             Stage::Transfer => self.transfer,
             Stage::Build => self.build,
+            Stage::StructureCopy => self.structure_copy,
             Stage::Compute => self.compute,
             Stage::Host => self.host,
         }
@@ -51,11 +54,12 @@ impl Front {
         ensures { result ≡ met stages self }
     {
         let build = held(stages, Stage::Build, self.build);
+        let structure_copy = held(stages, Stage::StructureCopy, self.structure_copy);
         let compute = held(stages, Stage::Compute, self.compute);
         let host = held(stages, Stage::Host, self.host);
         greater(
             held(stages, Stage::Transfer, self.transfer),
-            greater(build, greater(compute, host)),
+            greater(build, greater(structure_copy, greater(compute, host))),
         )
     }
 
@@ -66,6 +70,10 @@ impl Front {
         Front {
             transfer: greater(self.transfer, held(stages, Stage::Transfer, number)),
             build: greater(self.build, held(stages, Stage::Build, number)),
+            structure_copy: greater(
+                self.structure_copy,
+                held(stages, Stage::StructureCopy, number),
+            ),
             compute: greater(self.compute, held(stages, Stage::Compute, number)),
             host: greater(self.host, held(stages, Stage::Host, number)),
         }
@@ -78,23 +86,23 @@ impl Front {
         Front {
             transfer: n,
             build: n,
+            structure_copy: n,
             compute: n,
             host: self.host,
         }
     }
 
-    // The same after one more command, number `n`.
-    pub(crate) fn after(self, source: Source, n: u32, command: &Command) -> Front
-        ensures { result ≡ front_after source n command.now self }
+    // The same after one more command, number `n`, for what was done at a stage.
+    pub(crate) fn after(self, stage: Stage, n: u32, command: &Command) -> Front
+        ensures { result ≡ front_after stage n command.now self }
     {
         match command {
             Command::Barrier {
                 src_stages,
-                src_access,
                 dst_stages,
                 ..
             } => {
-                let direct = source.is_taken(*src_stages, *src_access);
+                let direct = holds_stage(*src_stages, stage);
                 self.raised(*dst_stages, self.taken_up(direct, n, *src_stages))
             }
             Command::Wait => self.waited(n),

@@ -1,10 +1,9 @@
 ghost use Rattle.std.specs.Prelude.{◌≡◌};
-ghost use Rattle.ray_sync.specs.Kinds.{device_limits, fronts_after, limits_of, no_fronts, source_of, waited_after};
+ghost use Rattle.ray_sync.specs.Kinds.{device_limits, fronts_after, limits_of, no_fronts, waited_after};
 
 use crate::front::Front;
 use crate::kind::Kind;
 use crate::per_kind::PerKind;
-use crate::source::Source;
 use ray_cmd::Command;
 use ray_rules::Stage;
 
@@ -16,6 +15,8 @@ pub struct Fronts {
     pub transfer: Front,
     /// The front of builds.
     pub build: Front,
+    /// The front of copies of structures.
+    pub structure_copy: Front,
     /// The front of traces.
     pub compute: Front,
     /// The number of the last `wait`, 0 where there is none.
@@ -30,6 +31,7 @@ impl Fronts {
         Fronts {
             transfer: Front::none(),
             build: Front::none(),
+            structure_copy: Front::none(),
             compute: Front::none(),
             waited: 0,
         }
@@ -43,6 +45,7 @@ impl Fronts {
         match kind {
             Kind::Transfer => self.device_limits(j, Stage::Transfer),
             Kind::Build => self.device_limits(j, Stage::Build),
+            Kind::StructureCopy => self.device_limits(j, Stage::StructureCopy),
             Kind::Compute => self.device_limits(j, Stage::Compute),
             Kind::Barrier => PerKind {
                 host: j,
@@ -51,6 +54,7 @@ impl Fronts {
             Kind::Host => PerKind {
                 transfer: self.waited,
                 build: self.waited,
+                structure_copy: self.waited,
                 compute: self.waited,
                 barrier: self.waited,
                 host: j,
@@ -65,6 +69,7 @@ impl Fronts {
         PerKind {
             transfer: self.transfer.at(stage),
             build: self.build.at(stage),
+            structure_copy: self.structure_copy.at(stage),
             compute: self.compute.at(stage),
             barrier: 0,
             host: j,
@@ -76,21 +81,12 @@ impl Fronts {
         ensures { result ≡ fronts_after n command.now self }
     {
         Fronts {
-            transfer: self.transfer.after(source(Stage::Transfer), n, command),
-            build: self.build.after(source(Stage::Build), n, command),
-            compute: self.compute.after(source(Stage::Compute), n, command),
+            transfer: self.transfer.after(Stage::Transfer, n, command),
+            build: self.build.after(Stage::Build, n, command),
+            structure_copy: self.structure_copy.after(Stage::StructureCopy, n, command),
+            compute: self.compute.after(Stage::Compute, n, command),
             waited: last_wait(self.waited, n, command),
         }
-    }
-}
-
-// What commands of a stage did.
-fn source(stage: Stage) -> Source
-    ensures { result ≡ source_of stage }
-{
-    Source {
-        stage,
-        access: None,
     }
 }
 

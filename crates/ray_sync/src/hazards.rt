@@ -4,11 +4,13 @@ ghost use Rattle.ray_access.specs.declared.touched.Touched.{Touched as ATouched}
 ghost use Rattle.ray_cmd.specs.declared.command.Command.{Command as ACommand};
 ghost use Rattle.ray_cmd.specs.declared.place.Place.TheVariants.{Earlier};
 ghost use Rattle.ray_rules.specs.declared.stage.Stage.{Stage as AStage};
+ghost use Rattle.ray_sync.specs.Carrying.{AreCarried};
 ghost use Rattle.ray_sync.specs.Cells.{cell_of};
 ghost use Rattle.ray_sync.specs.Lanes.{AnyUncovered, AnyUnordered, AreEnough, AreLanes, AreOrdered};
 ghost use Rattle.ray_sync.specs.Lasts.{AnyOf, IsLast, last_number};
 
 use crate::cells::Cells;
+use crate::coverage::{Accessed, Coverage};
 use crate::lanes::Lanes;
 use crate::per_kind::{PerKind, greater};
 use ray_access::Touched;
@@ -17,18 +19,29 @@ use ray_rules::Stage;
 
 // One more than the last command that wrote what one of these touches reaches, not covered to it at
 // a stage, and 0 where there is none.
-pub(crate) fn last_uncovered(lanes: &Lanes, to: Stage, touches: &[Touched], cells: &Cells) -> u32
+pub(crate) fn last_uncovered(
+    lanes: &Lanes,
+    coverage: &Coverage,
+    to: Stage,
+    touches: &[Touched],
+    cells: &Cells,
+) -> u32
     requires { AreEnough (length cells.now) lanes.now }
-    ensures { (rec : List ACommand) (n : ℕ) → AreLanes rec cells.now n lanes.now
+    ensures { (rec : List ACommand) (n : ℕ) → AreLanes rec cells.now n lanes.now → AreCarried rec n coverage.now
         → IsLast (λ i. AnyOf (λ (t : ATouched).
-        AnyUncovered rec cells.now n to t.access (cell_of cells.now t.range.from) (cell_of cells.now t.range.end) i)
+        AnyUncovered rec cells.now t.buffer n to t.access (cell_of cells.now t.range.from) (cell_of cells.now t.range.end) i)
         touches.now) n result }
 {
     let mut last = 0;
     for touch in touches {
         let start = cells.at(touch.range.from);
         let end = cells.at(touch.range.end);
-        let one = lanes.last_uncovered(to, touch.access, start, end);
+        let accessed = Accessed {
+            thing: touch.buffer,
+            stage: to,
+            access: touch.access,
+        };
+        let one = lanes.last_uncovered(coverage, accessed, start, end);
         last = greater(last, one);
     }
     last

@@ -5,20 +5,23 @@
 //! The layer above uses [`order_of`], whose clause says that what it gives is the order of the
 //! recording's commands, and with it [`Order::before`] and [`Order::wave`], which are `before` and
 //! `IsLongest` of ray_rules. [`covered_is_ordered`] is the law that what is covered is ordered.
-//! [`Carried`] says from a command to the next to which accesses what commands wrote is covered.
 //! [`check_sync`] finds the first command that breaks V25, V26, V27 or V32, by `first_hazard`.
 //!
-//! It stands on ray_rules (the definitions), ray_access (what commands read and write) and ray_marks.
-//! The set of earlier commands that have been handed on to a stage is always those below one number,
-//! of the commands of one stage; so a number for each two stages is all that is kept. The last
-//! command of each way of writing that wrote a cell is then all that hazards ask for: where it isn't
-//! covered, it is the greatest that isn't.
+//! It stands on ray_rules (the definitions), ray_access (what commands read and write), ray_marks and
+//! ray_chains. The set of earlier commands that have been handed on to a stage is always those below
+//! one number, of the commands of one stage; so a number for each two stages is all that is kept of
+//! order. Of coverage the fronts of ray_chains are kept for each of six ways of writing: one table
+//! for all that no barrier names, and an override for each buffer that one names. The last command
+//! of each way of writing that wrote a cell is then all that hazards ask for: where it isn't covered,
+//! it is the greatest that isn't.
 #![tactic(auto)]
 
 mod carried;
 mod cells;
 mod check;
+mod coverage;
 mod doing;
+mod events;
 mod front;
 mod fronts;
 mod hazards;
@@ -30,13 +33,10 @@ mod marking;
 mod order;
 mod per_kind;
 mod sets;
-mod source;
 mod starts;
 
-pub use crate::carried::Carried;
 pub use crate::check::check_sync;
 pub use crate::front::Front;
 pub use crate::laws::covered_is_ordered;
 pub use crate::order::{Order, order_of};
-pub use crate::source::Source;
 pub use std::alloc::AllocError as NoMemory;

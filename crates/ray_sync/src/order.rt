@@ -1,6 +1,6 @@
 ghost use Rattle.std.specs.Prelude.{◌≡◌, ◌<◌, ◌≤◌, List, IfOk, length};
 ghost use Rattle.ray_cmd.specs.declared.command.Command.{Command as ACommand};
-ghost use Rattle.ray_rules.specs.Order.{IsLongest, before};
+ghost use Rattle.ray_rules.specs.Order.{IsLongest, barriers, before};
 ghost use Rattle.ray_sync.specs.Rows.{HaveNumbers, IsOrderOf, wave_of};
 
 use crate::fronts::Fronts;
@@ -50,7 +50,7 @@ impl Order {
     pub fn before(&self, a: u32, b: u32) -> bool
         requires first { a < length self.now }
         requires second { b < length self.now }
-        ensures { (rec : List ACommand) → IsOrderOf rec self.now → result ≡ before rec a b }
+        ensures { (rec : List ACommand) → IsOrderOf rec self.now → result ≡ before (barriers rec) rec a b }
     {
         let kind = self.rows[a as usize].kind;
         a < self.rows[b as usize].limits.at(kind)
@@ -61,7 +61,8 @@ impl Order {
     /// memory.
     pub fn wave(&self, i: u32) -> u32
         requires { i < length self.now }
-        ensures { (rec : List ACommand) → IsOrderOf rec self.now → IsLongest (before rec) i result }
+        ensures { (rec : List ACommand) → IsOrderOf rec self.now
+            → IsLongest (before (barriers rec) rec) i result }
     {
         self.rows[i as usize].wave
     }
@@ -103,11 +104,15 @@ fn wave_of(bests: &[PerKind], limits: PerKind) -> u32
     ensures { result ≡ wave_of bests.now limits }
 {
     let build = bests[limits.build as usize].build;
+    let copies = bests[limits.structure_copy as usize].structure_copy;
     let compute = bests[limits.compute as usize].compute;
     let barrier = bests[limits.barrier as usize].barrier;
     let host = bests[limits.host as usize].host;
     greater(
         bests[limits.transfer as usize].transfer,
-        greater(build, greater(compute, greater(barrier, host))),
+        greater(
+            build,
+            greater(copies, greater(compute, greater(barrier, host))),
+        ),
     )
 }

@@ -10,6 +10,8 @@ pub struct PerKind {
     pub transfer: u32,
     /// That of builds.
     pub build: u32,
+    /// That of copies of structures.
+    pub structure_copy: u32,
     /// That of traces.
     pub compute: u32,
     /// That of barriers.
@@ -26,6 +28,7 @@ impl PerKind {
         PerKind {
             transfer: 0,
             build: 0,
+            structure_copy: 0,
             compute: 0,
             barrier: 0,
             host: 0,
@@ -39,6 +42,7 @@ impl PerKind {
         match kind {
             Kind::Transfer => self.transfer,
             Kind::Build => self.build,
+            Kind::StructureCopy => self.structure_copy,
             Kind::Compute => self.compute,
             Kind::Barrier => self.barrier,
             Kind::Host => self.host,
@@ -56,6 +60,10 @@ impl PerKind {
             },
             Kind::Build => PerKind {
                 build: greater(self.build, number),
+                ..self
+            },
+            Kind::StructureCopy => PerKind {
+                structure_copy: greater(self.structure_copy, number),
                 ..self
             },
             Kind::Compute => PerKind {

@@ -14,6 +14,7 @@ pub(crate) fn holds_stage(stages: Stages, stage: Stage) -> bool
     match stage {
         Stage::Transfer => stages.contains(Stages::TRANSFER),
         Stage::Build => stages.contains(Stages::BUILD),
+        Stage::StructureCopy => stages.contains(Stages::STRUCTURE_COPY),
         Stage::Compute => stages.contains(Stages::COMPUTE),
         Stage::Host => stages.contains(Stages::HOST),
     }

@@ -7,7 +7,7 @@ use Rattle.ray_flags.specs.declared.access.Access.{Access}
 use Rattle.ray_flags.specs.declared.stages.Stages.{Stages}
 use Rattle.ray_flags.specs.Flags.{build_has, AllowCompaction}
 use Rattle.ray_flags.specs.Flags.{access_has, HostRead, HostWrite, MemoryRead, MemoryWrite, ShaderRead, ShaderWrite, StructureRead, StructureWrite, TransferRead, TransferWrite}
-use Rattle.ray_flags.specs.Flags.{Build, Compute, Host, Transfer}
+use Rattle.ray_flags.specs.Flags.{Build, Compute, Host, StructureCopy, Transfer}
 use Rattle.ray_ranges.specs.Addresses.{addresses_of}
 use Rattle.ray_ranges.specs.Apart.{HaveTheSame}
 use Rattle.ray_ranges.specs.Meeting.{meets_any}
@@ -22,8 +22,8 @@ forbids_compaction info = option_map_or (λ (i : Info). not (build_has i.flags A
 -- the rows of the table of supported accesses, two and two
 abbrev pub lacks_for_transfers : Stages → Access → Bool
 lacks_for_transfers stages access =
-    lacks_stage access TransferRead stages (Transfer ∷ Build ∷ [])
-    || lacks_stage access TransferWrite stages (Transfer ∷ Build ∷ [])
+    lacks_stage access TransferRead stages (Transfer ∷ Build ∷ StructureCopy ∷ [])
+    || lacks_stage access TransferWrite stages (Transfer ∷ Build ∷ StructureCopy ∷ [])
 
 abbrev pub lacks_for_shaders : Stages → Access → Bool
 lacks_for_shaders stages access =
@@ -32,8 +32,8 @@ lacks_for_shaders stages access =
 
 abbrev pub lacks_for_structures : Stages → Access → Bool
 lacks_for_structures stages access =
-    lacks_stage access StructureRead stages (Build ∷ Compute ∷ [])
-    || lacks_stage access StructureWrite stages (Build ∷ [])
+    lacks_stage access StructureRead stages (Build ∷ StructureCopy ∷ Compute ∷ [])
+    || lacks_stage access StructureWrite stages (Build ∷ StructureCopy ∷ [])
 
 abbrev pub lacks_for_host : Stages → Access → Bool
 lacks_for_host stages access =

@@ -76,6 +76,7 @@ pub(crate) fn v24(command: &Command) -> Option<Place>
             src_access,
             dst_stages,
             dst_access,
+            ..
         } => whole(
             is_unsupported(*src_stages, *src_access) || is_unsupported(*dst_stages, *dst_access),
         ),
@@ -99,7 +100,8 @@ fn is_unsupported(stages: Stages, access: Access) -> bool
 fn lacks_for_transfers(stages: Stages, access: Access) -> bool
     ensures { result ≡ lacks_for_transfers stages access }
 {
-    let there = stages.contains(Stages::TRANSFER) || stages.contains(Stages::BUILD);
+    let structures = stages.contains(Stages::BUILD) || stages.contains(Stages::STRUCTURE_COPY);
+    let there = stages.contains(Stages::TRANSFER) || structures;
     (access.contains(Access::TRANSFER_READ) && !there)
         || (access.contains(Access::TRANSFER_WRITE) && !there)
 }
@@ -119,9 +121,10 @@ fn lacks_for_structures(stages: Stages, access: Access) -> bool
     ensures { result ≡ lacks_for_structures stages access }
 {
     let build = stages.contains(Stages::BUILD);
+    let copies = stages.contains(Stages::STRUCTURE_COPY);
     let compute = stages.contains(Stages::COMPUTE);
-    (access.contains(Access::STRUCTURE_READ) && !(build || compute))
-        || (access.contains(Access::STRUCTURE_WRITE) && !build)
+    (access.contains(Access::STRUCTURE_READ) && !(build || copies || compute))
+        || (access.contains(Access::STRUCTURE_WRITE) && !(build || copies))
 }
 
 // Whether accesses of the host are among them, and its stage isn't there.

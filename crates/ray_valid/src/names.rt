@@ -1,8 +1,9 @@
 ghost use Rattle.std.specs.Prelude.{◌≡◌};
-ghost use Rattle.ray_rules.specs.Names.{lacks_thing, v1};
+ghost use Rattle.std.specs.List.{list_any};
+ghost use Rattle.ray_rules.specs.Names.{lacks_buffer, lacks_limit, lacks_thing, v1};
 
 use crate::place::whole;
-use ray_cmd::{Command, Place, Thing};
+use ray_cmd::{Command, Listed, Place, Thing};
 use ray_infos::first_lacking;
 use ray_status::{Status, lacks_a_structure, lacks_buffer, lacks_structure};
 
@@ -52,12 +53,9 @@ pub(crate) fn v1(status: &Status, command: &Command) -> Option<Place>
                 || lacks_buffer(status, rays.buffer)
                 || lacks_buffer(status, hits.buffer),
         ),
-        Command::Sizes { .. }
-        | Command::Begin
-        | Command::End
-        | Command::Submit
-        | Command::Wait
-        | Command::Barrier { .. } => None,
+        Command::Sizes { .. } | Command::Begin | Command::End | Command::Submit | Command::Wait =>
+            None,
+        Command::Barrier { buffers, .. } => whole(lacks_limit(status, buffers)),
     }
 }
 
@@ -69,4 +67,21 @@ fn lacks_thing(status: &Status, what: Thing, id: u32) -> bool
         Thing::Buffer => lacks_buffer(status, id),
         Thing::Structure => lacks_structure(status, id),
     }
+}
+
+// Whether a buffer to which a barrier is limited, where it is limited, isn't live.
+fn lacks_limit(status: &Status, buffers: &Option<Listed<u32>>) -> bool
+    ensures { result ≡ lacks_limit status.now buffers.now }
+{
+    match buffers {
+        Some(ids) => lacks_a_buffer(status, ids.as_slice()),
+        None => false,
+    }
+}
+
+// Whether one of these ids is that of no live buffer.
+fn lacks_a_buffer(status: &Status, ids: &[u32]) -> bool
+    ensures { result ≡ list_any (lacks_buffer status.now) ids.now }
+{
+    ids.iter().any(|id| lacks_buffer(status, *id))
 }

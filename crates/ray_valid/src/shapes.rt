@@ -1,5 +1,5 @@
-ghost use Rattle.std.specs.Prelude.{◌≡◌, length, nat_lt, sum};
-ghost use Rattle.std.specs.Option.{option_or};
+ghost use Rattle.std.specs.Prelude.{◌≡◌, false, length, nat_lt, sum};
+ghost use Rattle.std.specs.Option.{option_map_or, option_or};
 ghost use Rattle.ray_rules.specs.Shapes.{asks_wrongly, compacts_wrongly, is_too_large, v7, v8, v9, v10};
 ghost use Rattle.ray_rules.specs.Places.{first_part, part_at};
 
@@ -10,7 +10,7 @@ use ray_infos::{
 };
 use ray_status::{Status, has_top, is_bottom_at, is_top, is_top_at, uses_wrongly};
 
-// The most entries of a list of infos, of uses or of structures, and the most live structures.
+// The most entries of a list of infos, of uses, of structures or of buffers, and the most live structures.
 const MOST_ENTRIES: usize = 4096;
 
 // V7: trace's `top` is a bottom; a `uses` entry is a top; `uses` isn't empty for a bottom; update's
@@ -80,7 +80,7 @@ pub(crate) fn v9(command: &Command) -> Option<Place>
 }
 
 // V10: geometries above 256, primitives above 2^20, instances above 2^16, rays above 2^20, live
-// structures above 4,096, `infos`, `uses` or `structures` longer than 4,096.
+// structures above 4,096, `infos`, `uses`, `structures` or `buffers` longer than 4,096.
 #[tactic(auto, unfolding(ray_rules::specs::Shapes::v10))]
 pub(crate) fn v10(status: &Status, command: &Command) -> Option<Place>
     ensures { result ≡ v10 status.now command.now }
@@ -94,6 +94,7 @@ pub(crate) fn v10(status: &Status, command: &Command) -> Option<Place>
         Command::Build { infos } => first_too_large_or_long(status, infos),
         Command::Deserialize { uses, .. } => whole(MOST_ENTRIES < uses.as_slice().len()),
         Command::Property { structures, .. } => whole(MOST_ENTRIES < structures.as_slice().len()),
+        Command::Barrier { buffers, .. } => whole(is_limited_too_long(buffers)),
         Command::Trace { count, .. } => whole(1_048_576 < *count),
         _ => None,
     }
@@ -106,6 +107,16 @@ fn first_too_large_or_long(status: &Status, infos: &Listed<Info>) -> Option<Plac
     match first_too_large(status, infos) {
         Some(place) => Some(place),
         None => part_at(4096, MOST_ENTRIES < infos.as_slice().len()),
+    }
+}
+
+// Whether a barrier is limited to too many buffers.
+fn is_limited_too_long(buffers: &Option<Listed<u32>>) -> bool
+    ensures { result ≡ option_map_or (λ ids. nat_lt 4096 (length ids)) buffers.now false }
+{
+    match buffers {
+        Some(ids) => MOST_ENTRIES < ids.as_slice().len(),
+        None => false,
     }
 }
 

@@ -3,7 +3,7 @@ ghost use Rattle.ray_json.specs.Outcome.{Gives};
 ghost use Rattle.ray_cmd.specs.Transfer.{update_of, fill_of, copy_of, barrier_of};
 
 use crate::command::Command;
-use crate::fields::at;
+use crate::fields::{at, optional_at};
 use ray_json::{ReadFault, only_members};
 use serde_json::Value;
 use std::alloc::Global;
@@ -55,12 +55,20 @@ pub(crate) fn barrier(alloc: Global, value: &Value) -> Result<Command, ReadFault
 {
     only_members(
         value,
-        &["op", "src_stages", "src_access", "dst_stages", "dst_access"],
+        &[
+            "op",
+            "src_stages",
+            "src_access",
+            "dst_stages",
+            "dst_access",
+            "buffers",
+        ],
     )?;
     Ok(Command::Barrier {
         src_stages: at(alloc, value, "src_stages")?,
         src_access: at(alloc, value, "src_access")?,
         dst_stages: at(alloc, value, "dst_stages")?,
         dst_access: at(alloc, value, "dst_access")?,
+        buffers: optional_at(alloc, value, "buffers")?,
     })
 }

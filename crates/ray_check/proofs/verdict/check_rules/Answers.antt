@@ -1,4 +1,5 @@
 use Rattle.std.proofs.Common.{◌∙◌, length, sym, ap, subst}
+use Rattle.ray_rules.specs.Order.{barriers}
 use Rattle.ray_rules.specs.Verdict.{GoOn, first_hazard}
 use Rattle.ray_check.proofs.Whole.{goes-on, joins, looked-is, within}
 use Rattle.ray_check.proofs.verdict.check_rules.Goals as goal
@@ -16,7 +17,7 @@ returns-clause-value c =
     (length c.in_ok-order.order) c.in_ok-order.ensures.until c.looked_at-until.ensures c.len.ensures in
     c.first_of_two.ensures
     ∙ joins c.args.rec.now c.in_ok-refusal.refusal c.in_ok-hazard.hazard c.in_ok-refusal.ensures.value
-    (c.in_ok-hazard.ensures ∙ ap (first_hazard c.args.rec.now) until)
+    (c.in_ok-hazard.ensures ∙ ap (first_hazard (barriers c.args.rec.now) c.args.rec.now) until)
 
 pub returns-clause-within : goal.returns-clause-within
 returns-clause-within c =
@@ -25,4 +26,4 @@ returns-clause-within c =
     within c.args.rec.now c.first_of_two.result
     (c.first_of_two.ensures
     ∙ joins c.args.rec.now c.in_ok-refusal.refusal c.in_ok-hazard.hazard c.in_ok-refusal.ensures.value
-    (c.in_ok-hazard.ensures ∙ ap (first_hazard c.args.rec.now) until))
+    (c.in_ok-hazard.ensures ∙ ap (first_hazard (barriers c.args.rec.now) c.args.rec.now) until))

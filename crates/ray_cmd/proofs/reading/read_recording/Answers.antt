@@ -1,6 +1,5 @@
 use Rattle.ray_cmd.specs.Json.{json_of}
 use Rattle.ray_cmd.proofs.Recorded.{recorded, refused}
-use Rattle.ray_cmd.proofs.Sourced.{are_sourced}
 use Rattle.ray_cmd.proofs.reading.read_recording.Goals as goal
 
 pub returns-clause-ok : goal.returns-clause-ok
@@ -8,6 +7,3 @@ returns-clause-ok c = recorded (json_of c.args.bytes.now) _ c.reading.ensures
 
 pub returns-clause-bad_shape : goal.returns-clause-bad_shape
 returns-clause-bad_shape c = refused (json_of c.args.bytes.now) _ c.reading.ensures
-
-pub returns-clause-sources : goal.returns-clause-sources
-returns-clause-sources c = are_sourced (json_of c.args.bytes.now) _ (recorded (json_of c.args.bytes.now) _ c.reading.ensures)

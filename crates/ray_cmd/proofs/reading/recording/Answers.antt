@@ -1,7 +1,9 @@
 use Rattle.std.proofs.Common.{◌+◌, ◌++◌, ◌∷◌, [], Ok, drop, length, sym, ap, ◌∙◌, arith, length-append}
 use Rattle.serde_json.specs.View.{view, items_view}
 use Rattle.ray_cmd.specs.Recordings.{◌>>=◌, commands_from}
-use Rattle.ray_cmd.proofs.Going.{goes_on, next_item}
+use Rattle.ray_cmd.proofs.Going.{all_read, goes_on, next_item}
+use Rattle.ray_cmd.proofs.Recorded.{recording_is}
+use Rattle.ray_cmd.proofs.Sourced.{items_sourced}
 use Rattle.ray_cmd.proofs.reading.recording.Goals as goal
 
 pub loop-i-preserved : goal.loop-i-preserved
@@ -17,3 +19,11 @@ loop-i-preserved c =
       ap length pushed ∙ (length-append l.commands (c.in_ok-command.command ∷ []) ∙ ap (λ n. n + 1) l.invariant.1),
       omega arith,
     )
+
+pub new-requires-clause-sourced : goal.new-requires-clause-sourced
+new-requires-clause-sourced c =
+    let l = c.loop-i in
+    let values = c.args.values.now in
+    let ds = items_view values in
+    let past = c.loop-i-test.false in
+    items_sourced ds l.commands (recording_is ds l.commands (all_read values l.i l.left l.commands (omega (arith, past)) l.invariant.0))

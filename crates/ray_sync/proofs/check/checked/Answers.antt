@@ -1,7 +1,9 @@
 use Rattle.std.proofs.Common.{◌≡◌, ◌+◌, ◌∙◌, arith, refl, subst, suc, sym}
 use Rattle.std.specs.Prelude.{None}
 use Rattle.ray_rules.specs.Hazards.{status_at}
+use Rattle.ray_rules.specs.Order.{barriers}
 use Rattle.ray_rules.specs.Verdict.{first_hazard}
+use Rattle.ray_sync.specs.Carrying.{AreCarried}
 use Rattle.ray_sync.specs.Kinds.{AreFronts}
 use Rattle.ray_sync.specs.Lanes.{AreLanes}
 use Rattle.ray_sync.proofs.Checking.{first-found, first-none}
@@ -14,6 +16,7 @@ pub loop-n-init : goal.loop-n-init
 loop-n-init c = record {
   status = c.new-status.ensures;
   lanes = c.in_ok-lanes.ensures c.args.rec.now c.args.cells.now (sym c.count.ensures);
+  coverage = c.new-coverage.ensures c.args.rec.now;
   fronts = subst (AreFronts c.args.rec.now 0) (sym c.none-fronts.ensures) (fronts-first c.args.rec.now);
   none = refl;
 }
@@ -25,12 +28,12 @@ returns-in-Some c =
     let is = c.in_ok-doing.ensures n c.command-command.ensures c.loop-n.invariant.status in
     let have = starts-some rec c.args.cells.now c.args.until (suc n) (omega arith) c.requires.starts in
     let found =
-    sym (c.hazard_of.ensures rec c.loop-n.invariant.lanes c.loop-n.invariant.fronts is have) ∙ c.in-Some.is
+    sym (c.hazard_of.ensures rec c.loop-n.invariant.lanes c.loop-n.invariant.coverage c.loop-n.invariant.fronts is have) ∙ c.in-Some.is
     in
     sym (first-found rec n c.args.until c.in-Some.refusal c.loop-n.invariant.none found c.loop-n-test.true)
 
-pub pass-requires-clause-below : goal.pass-requires-clause-below
-pass-requires-clause-below c =
+pub mark-requires-clause-below : goal.mark-requires-clause-below
+mark-requires-clause-below c =
     lanes-below c.args.rec.now c.args.cells.now c.loop-n.n c.loop-n.lanes c.loop-n.invariant.lanes
 
 pub loop-n-preserved : goal.loop-n-preserved
@@ -41,18 +44,21 @@ loop-n-preserved c =
     let there = c.command-command.ensures in
     let is = c.in_ok-doing.ensures n there c.loop-n.invariant.status in
     let have = starts-some rec c.args.cells.now c.args.until (suc n) (omega arith) c.requires.starts in
-    let hazard = sym (c.hazard_of.ensures rec c.loop-n.invariant.lanes c.loop-n.invariant.fronts is have) ∙ c.in_default.is in
+    let hazard = sym (c.hazard_of.ensures rec c.loop-n.invariant.lanes c.loop-n.invariant.coverage c.loop-n.invariant.fronts is have) ∙ c.in_default.is in
     record {
       status =
           subst (λ k. c.step.new.self ≡ status_at rec k) more
           (status-next rec n c.command-command.result.now c.loop-n.status c.step.new.self there c.loop-n.invariant.status c.in_ok-step.ensures);
       lanes =
-          subst (λ k. AreLanes rec c.args.cells.now k c.pass.new.self) more
-          (c.pass.ensures rec there (sym is.at) is.reads.are is.writes.are c.loop-n.invariant.lanes);
+          subst (λ k. AreLanes rec c.args.cells.now k c.mark.new.self) more
+          (c.mark.ensures rec (sym is.at) is.reads.are is.writes.are c.loop-n.invariant.lanes);
+      coverage =
+          subst (λ k. AreCarried rec k c.pass.new.self) more
+          (c.in_ok-pass.ensures rec there c.loop-n.invariant.status c.loop-n.invariant.coverage);
       fronts =
           subst (λ k. AreFronts rec k c.after-fronts.result) more
           (subst (AreFronts rec (suc n)) (sym c.after-fronts.ensures)
           (fronts-next rec n c.loop-n.fronts c.command-command.result.now there c.loop-n.invariant.fronts));
       none =
-          subst (λ k. first_hazard rec k ≡ None) more (first-none rec n c.loop-n.invariant.none hazard);
+          subst (λ k. first_hazard (barriers rec) rec k ≡ None) more (first-none rec n c.loop-n.invariant.none hazard);
     }

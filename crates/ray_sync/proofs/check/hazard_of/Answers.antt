@@ -7,7 +7,7 @@ use Rattle.ray_sync.proofs.Starting.{starts-fewer}
 use Rattle.ray_sync.proofs.check.hazard_of.Goals as goal
 
 pub returns : goal.returns
-returns c = λ rec lanes fronts is have.
+returns c = λ rec lanes carried fronts is have.
     let n = c.args.n in
     let starts = c.args.cells.now in
     let z = status_at rec n in
@@ -22,9 +22,9 @@ returns c = λ rec lanes fronts is have.
     c.least.ensures
     ∙ hazard-is rec n a b d e
     (v25-is rec n c.args.doing.now.stage a is.at
-    (c.uncovered_at-read.ensures rec n _ lanes reads (have.reads n (omega arith)) before))
+    (c.uncovered_at-read.ensures rec n _ lanes carried reads (have.reads n (omega arith)) before))
     (v26-is rec n c.args.doing.now.stage b is.at
-    (c.uncovered_at-written.ensures rec n _ lanes writes (have.writes n (omega arith)) before))
+    (c.uncovered_at-written.ensures rec n _ lanes carried writes (have.writes n (omega arith)) before))
     (v27-is rec n c.args.doing.now.stage d is.at
     (c.unordered_at-overwritten.ensures rec _ lanes fronts writes (have.writes n (omega arith)) before))
-    (v32-is rec n e (c.uncovered-shown.ensures rec n _ lanes shown (have.host_reads n (omega arith)) before))
+    (v32-is rec n e (c.uncovered-shown.ensures rec n _ lanes carried shown (have.host_reads n (omega arith)) before))

@@ -1,24 +1,43 @@
-use Rattle.std.proofs.Common.{max, subst, sym, ◌∙◌, ap}
+use Rattle.std.proofs.Common.{max, subst, sym, ◌∙◌}
 use Rattle.ray_rules.specs.declared.access_type.AccessType.TheVariants.{TransferWrite, StructureWrite, ShaderWrite}
-use Rattle.ray_rules.specs.declared.stage.Stage.TheVariants.{Transfer, Build, Compute}
+use Rattle.ray_rules.specs.declared.stage.Stage.TheVariants.{Transfer, Build, StructureCopy, Compute}
 use Rattle.ray_sync.specs.Lanes.{AnyUncovered}
-use Rattle.ray_sync.specs.Lasts.{IsLast}
+use Rattle.ray_sync.specs.Lasts.{IsLast, UncoveredIn}
+use Rattle.ray_sync.proofs.Laning.{writes-last}
 use Rattle.ray_sync.proofs.Lasts.{last-either}
 use Rattle.ray_sync.proofs.lanes.Lanes.last_uncovered.Goals as goal
 
 pub returns : goal.returns
-returns c = λ rec starts n are.
-    let a = c.last_uncovered-transfers.result in
-    let b = c.last_uncovered-builds.result in
-    let d = c.last_uncovered-payloads.result in
-    let e = c.last_uncovered-traces.result in
+returns c = λ rec starts n are carried.
+    let at = c.args.accessed in
+    let p = c.args.start in
+    let q = c.args.end in
+    let covered = c.limits-limits.ensures rec n carried in
+    let a = c.above-transfers.result in
+    let b = c.above-builds.result in
+    let d = c.above-properties.result in
+    let e = c.above-copies.result in
+    let f = c.above-serialized.result in
+    let g = c.above-traces.result in
     let whole =
-    c.greater-3.ensures
-    ∙ (ap (λ k. max k c.greater-2.result) c.greater.ensures ∙ ap (max (max a b)) c.greater-2.ensures)
+    c.greater-5.ensures
+    ∙ (λ i. max ((c.greater-3.ensures ∙ (λ j. max (c.greater.ensures j) (c.greater-2.ensures j))) i) (c.greater-4.ensures i))
     in
-    subst (IsLast (AnyUncovered rec starts n c.args.to c.args.access c.args.start c.args.end) n) (sym whole)
+    subst (IsLast (AnyUncovered rec starts at.thing n at.stage at.access p q) n) (sym whole)
+    (last-either _ _ n (max (max a b) (max d e)) (max f g)
     (last-either _ _ n (max a b) (max d e)
-    (last-either _ _ n a b (c.last_uncovered-transfers.ensures rec starts Transfer TransferWrite n are.transfers)
-    (c.last_uncovered-builds.ensures rec starts Build StructureWrite n are.builds))
-    (last-either _ _ n d e (c.last_uncovered-payloads.ensures rec starts Build TransferWrite n are.payloads)
-    (c.last_uncovered-traces.ensures rec starts Compute ShaderWrite n are.traces)))
+    (last-either _ _ n a b
+    (subst (IsLast (UncoveredIn rec starts Transfer TransferWrite at.thing n at.stage at.access p q) n) (sym c.above-transfers.ensures)
+    (writes-last rec starts Transfer TransferWrite n _ at p q _ _ are.transfers c.greatest.ensures covered.transfers))
+    (subst (IsLast (UncoveredIn rec starts Build StructureWrite at.thing n at.stage at.access p q) n) (sym c.above-builds.ensures)
+    (writes-last rec starts Build StructureWrite n _ at p q _ _ are.builds c.greatest-2.ensures covered.builds)))
+    (last-either _ _ n d e
+    (subst (IsLast (UncoveredIn rec starts Build TransferWrite at.thing n at.stage at.access p q) n) (sym c.above-properties.ensures)
+    (writes-last rec starts Build TransferWrite n _ at p q _ _ are.properties c.greatest-3.ensures covered.properties))
+    (subst (IsLast (UncoveredIn rec starts StructureCopy StructureWrite at.thing n at.stage at.access p q) n) (sym c.above-copies.ensures)
+    (writes-last rec starts StructureCopy StructureWrite n _ at p q _ _ are.copies c.greatest-4.ensures covered.copies))))
+    (last-either _ _ n f g
+    (subst (IsLast (UncoveredIn rec starts StructureCopy TransferWrite at.thing n at.stage at.access p q) n) (sym c.above-serialized.ensures)
+    (writes-last rec starts StructureCopy TransferWrite n _ at p q _ _ are.serialized c.greatest-5.ensures covered.serialized))
+    (subst (IsLast (UncoveredIn rec starts Compute ShaderWrite at.thing n at.stage at.access p q) n) (sym c.above-traces.ensures)
+    (writes-last rec starts Compute ShaderWrite n _ at p q _ _ are.traces c.greatest-6.ensures covered.traces))))

@@ -1,0 +1,12 @@
+pub mod Numbers
+pub mod Fronts
+pub mod Overrides
+pub mod Waves
+pub mod Nodes
+pub mod Events
+pub mod Across
+pub mod Things
+pub mod Covered
+pub mod OneQueue
+pub mod Tables
+pub mod Keeping

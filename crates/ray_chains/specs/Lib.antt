@@ -1,0 +1,11 @@
+pub mod Dependencies
+pub mod Fronts
+pub mod Overrides
+pub mod Waves
+pub mod Queues
+pub mod QueueLaws
+pub mod OneQueue
+pub mod Tables
+pub mod Overriding
+pub mod Keeping
+pub mod Passing
