@@ -30,6 +30,7 @@ use Rattle.ray_rules.specs.Access.{Accesses, no_access, stage_of, accesses_of, p
 use Rattle.ray_rules.specs.Ids.{Ids, look}
 use Rattle.ray_rules.specs.Ranges.{inputs_read, range, scratch_range}
 use Rattle.ray_rules.specs.Status.{Status}
+use Rattle.ray_rules.specs.Kinds.{kind_of}
 use Rattle.ray_action.specs.Memory.{Location, ByteAt, BufferAt, StructureAt, ContentsAt}
 use Rattle.ray_action.specs.Areas.{Area, Bytes, FormOf, ContentsOf, ContentsOfEach, covers, cover, has, is_in_range, is_contents_of}
 use Rattle.ray_action.specs.Action.{Action, Building, geometry_areas, structure_areas, UpdateBytes, FillBytes, CopyStructure, SerializeStructure, DeserializeStructure, Impossible}
@@ -327,7 +328,7 @@ rays-within rec z top rays hits count flags mask script k =
 -- ---- every command
 
 pub touch_within : ActionsTouchWithin
-unfolding actions_of piece_accesses accesses_of stage_of
+unfolding actions_of piece_accesses accesses_of stage_of kind_of
 touch_within rec z (commands.Buffer id size usage content) stage k action s e = absurd cc
 touch_within rec z (commands.Structure id kind buffer offset size) stage k action s e = absurd cc
 touch_within rec z (commands.Destroy what id) stage k action s e = absurd cc
@@ -355,7 +356,7 @@ touch_within rec z (commands.Deserialize src dst uses) stage k action s e =
     subst (λ a. TouchesWithin a (deserialize_accesses src dst uses)) (one-of (DeserializeStructure (stretch_range src) dst uses) action k e) (deserialize-within src dst uses)
 touch_within rec z (commands.Property what structures dst) stage k action s e =
     subst (λ a. TouchesWithin a (property_accesses structures dst)) (one-of (property_action what structures dst) action k e) (property-within what structures dst)
-touch_within rec z (commands.Barrier src_stages src_access dst_stages dst_access) stage k action s e = absurd cc
+touch_within rec z (commands.Barrier src_stages src_access dst_stages dst_access buffers) stage k action s e = absurd cc
 touch_within rec z (commands.Trace top rays count hits flags mask script) stage k action s e =
     let same : rays_action rec z top rays hits count flags mask script (0 + k) ≡ action =
     made-of (rays_action rec z top rays hits count flags mask script) 0 (trace_pieces count) k action e in

@@ -11,3 +11,4 @@ pub mod Running
 pub mod Touching
 pub mod Readiness
 pub mod Laws
+pub mod Traceable

@@ -17,17 +17,20 @@ use Rattle.ray_bytes.specs.Slices.{record_at}
 use Rattle.ray_bytes.specs.StructureSizes.{compacted_size}
 use Rattle.ray_contents.specs.Gathering.{gathered}
 use Rattle.ray_script.specs.Meaning.{script_decision}
+use Rattle.ray_flags.specs.declared.ray_flags.RayFlags.{RayFlags}
+use Rattle.ray_query.specs.declared.candidate.Candidate.{Candidate}
+use Rattle.ray_query.specs.declared.decision.Decision.{Decision}
 use Rattle.ray_query.specs.Record.{record_of}
 use Rattle.ray_geometries.specs.Contents as bottoms
 use Rattle.ray_bottom.specs.Builders.{BuilderValue}
 use Rattle.ray_top.specs.declared.used.Used.{Used}
 use Rattle.ray_top.specs.Contents as tops
-use Rattle.ray_serial.specs.Form.{broken_line}
+use Rattle.ray_form.specs.Form.{broken_line}
 use Rattle.ray_serial.specs.Meaning.{is_top_form, deserialized_in, bottom_in}
 use Rattle.ray_serial.specs.TopMeaning.{top_in}
 use Rattle.ray_serial.specs.TopWritten.{handles_of, top_form}
 use Rattle.ray_serial.specs.Written.{bottom_form}
-use Rattle.ray_walk.specs.Candidates.{Structures, trace_answer}
+use Rattle.ray_candidates.specs.Candidates.{Structures, trace_answer}
 use Rattle.ray_cmd.specs.declared.asked.Asked.{Asked}
 use Rattle.ray_cmd.specs.declared.asked.Asked.TheVariants as asked
 use Rattle.ray_cmd.specs.declared.copy_mode.CopyMode.{CopyMode}
@@ -200,17 +203,22 @@ ray_within r = where_so (ray_decided (recorded_ray r)) (recorded_ray r)
 abbrev pub bottoms_in : SeenStructures → Structures
 bottoms_in seen id = option_and_then as_bottom (seen id)
 
--- the bytes of the hit of a ray, whose number in its whole trace is given; X11 where it is beyond the limits
-abbrev pub hit_of_ray : Tracing → tops.TopValue → SeenStructures → ℕ → Option RayValue → Result (List ℕ) Fault
-hit_of_ray trace top uses number None = Err (record { rule = X11; place = Part number })
-hit_of_ray trace top uses number (Some ray) =
-    Ok (hit_bytes (record_of (trace_answer (script_decision trace.script) top.contents (bottoms_in uses) ray number trace.flags trace.mask)))
+-- ray k of those that stand in these bytes, where it is whole and within the limits
+abbrev pub ray_in : List ℕ → ℕ → Option RayValue
+ray_in rays k = option_and_then ray_within (option_map ray_of (record_at rays 0 40 40 k))
+
+-- the bytes of the hit of a ray, whose number in its whole trace is given, by a client of this meaning; X11 where it is beyond
+-- the limits
+abbrev pub hit_by : (Candidate → Decision) → tops.TopValue → Structures → RayFlags → ℕ → ℕ → Option RayValue → Result (List ℕ) Fault
+hit_by meaning top bottoms flags mask number None = Err (record { rule = X11; place = Part number })
+hit_by meaning top bottoms flags mask number (Some ray) =
+    Ok (hit_bytes (record_of (trace_answer meaning top.contents bottoms ray number flags mask)))
 
 -- the same of ray k of those that are traced together. One that isn't whole, which no rule speaks of, is
 -- beyond the limits
 abbrev pub hit_at : Tracing → tops.TopValue → SeenStructures → List ℕ → ℕ → Result (List ℕ) Fault
 hit_at trace top uses rays k =
-    hit_of_ray trace top uses (trace.first + k) (option_and_then ray_within (option_map ray_of (record_at rays 0 40 40 k)))
+    hit_by (script_decision trace.script) top (bottoms_in uses) trace.flags trace.mask (trace.first + k) (ray_in rays k)
 
 -- the bytes of all hits, or the fault of the first ray that has one
 abbrev pub hits_outcome : Result (List (List ℕ)) Fault → Outcome

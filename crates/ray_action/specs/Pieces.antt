@@ -76,12 +76,19 @@ region_action src dst region =
 abbrev pub cull_mask : ℕ → ℕ
 cull_mask mask = mask % 256
 
+-- where the rays of piece k stand, 40 bytes each, and where their hits go, 80 bytes each
+abbrev pub rays_range : Spot → ℕ → ℕ → ByteRange
+rays_range rays count k = range rays.buffer (rays.offset + 40 * (64 * k)) (40 * rays_of_piece count k)
+
+abbrev pub hits_range : Spot → ℕ → ℕ → ByteRange
+hits_range hits count k = range hits.buffer (hits.offset + 80 * (64 * k)) (80 * rays_of_piece count k)
+
 abbrev pub rays_action : List Command → Status → ℕ → Spot → Spot → ℕ → RayFlags → ℕ → List RawRule → ℕ → Action
 rays_action rec z top rays hits count flags mask script k = TraceRays (record {
   top = top;
   uses = uses_at rec z top;
-  rays = range rays.buffer (rays.offset + 40 * (64 * k)) (40 * rays_of_piece count k);
-  hits = range hits.buffer (hits.offset + 80 * (64 * k)) (80 * rays_of_piece count k);
+  rays = rays_range rays count k;
+  hits = hits_range hits count k;
   first = 64 * k;
   count = rays_of_piece count k;
   flags = flags;
@@ -137,7 +144,7 @@ actions_of rec z (commands.CopyStructure mode src dst) = CopyStructure mode src 
 actions_of rec z (commands.Serialize src dst) = SerializeStructure src (stretch_range dst) ∷ []
 actions_of rec z (commands.Deserialize src dst uses) = DeserializeStructure (stretch_range src) dst uses ∷ []
 actions_of rec z (commands.Property what structures dst) = property_action what structures dst ∷ []
-actions_of rec z (commands.Barrier src_stages src_access dst_stages dst_access) = Rest ∷ []
+actions_of rec z (commands.Barrier src_stages src_access dst_stages dst_access buffers) = Rest ∷ []
 actions_of rec z (commands.Trace top rays count hits flags mask script) =
     map (rays_action rec z top rays hits count flags mask script) (range_with_len 0 (trace_pieces count))
 

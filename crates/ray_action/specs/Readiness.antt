@@ -7,7 +7,7 @@ use Rattle.ray_flags.specs.Admission.{AsksBoth}
 use Rattle.ray_script.specs.Scripts.{refused_at}
 use Rattle.ray_geometries.specs.Contents as bottoms
 use Rattle.ray_top.specs.Contents as tops
-use Rattle.ray_walk.specs.Standing.{AreStanding}
+use Rattle.ray_candidates.specs.Standing.{AreStanding}
 use Rattle.ray_cmd.specs.declared.copy_mode.CopyMode.{CopyMode}
 use Rattle.ray_cmd.specs.declared.copy_mode.CopyMode.TheVariants as copies
 use Rattle.ray_cmd.specs.declared.geometry.Geometry.{Geometry}

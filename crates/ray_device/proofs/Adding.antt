@@ -26,6 +26,7 @@ use Rattle.ray_geometries.specs.Contents.{HasRoom, kind_of, count_of, total_of}
 use Rattle.ray_cmd.specs.declared.geometry.Geometry.{Geometry}
 use Rattle.ray_cmd.specs.declared.geometry.Geometry.TheVariants as geometries
 use Rattle.ray_cmd.specs.declared.spot.Spot.{Spot}
+use Rattle.ray_rules.specs.Ranges.{inputs_with}
 use Rattle.ray_rules.specs.declared.byte_range.ByteRange.{ByteRange}
 use Rattle.ray_rules.specs.Ranges as rules
 use Rattle.ray_rules.specs.Shapes.{is_triangles, is_boxes}
@@ -70,7 +71,7 @@ three-if true x y z s = record { first = None; second = None; third = None; are 
 three-if false x y z s = record { first = x; second = y; third = z; are = refl; sized = s }
 
 three : (size : ℕ) (g : Geometry) → AreThree (ranges_with size g)
-unfolding ranges_with
+unfolding ranges_with inputs_with
 three size (geometries.Triangles opaque format vertex stride max_vertex index transform count primitive_offset first_vertex transform_offset) =
     three-if (count == 0)
     (Some (vertices_with size vertex stride format max_vertex index count primitive_offset first_vertex))

@@ -20,6 +20,7 @@ use Rattle.ray_rules.specs.Ranges.{range}
 use Rattle.ray_rules.specs.Hazards.{status_at}
 use Rattle.ray_rules.specs.Ids.{look}
 use Rattle.ray_rules.specs.Status.{Status}
+use Rattle.ray_rules.specs.Kinds.{kind_of}
 use Rattle.ray_action.specs.Memory.{Memory, Location}
 use Rattle.ray_action.specs.Action.{Action, Building, UpdateBytes, FillBytes, CopyStructure, SerializeStructure, DeserializeStructure, Rest}
 use Rattle.ray_action.specs.Outcomes.{Output, Gives}
@@ -175,7 +176,7 @@ info-can z k (Some info) output m s = info-holds (building z k info) info output
 -- what is stored of part k of a command
 part-stores : (rec : List Command) (z : Status) (c : Command) (k : ℕ) (output : Output) (m : Memory) → k < piece_count c
     → IsStorable (part_action rec z c k) output m → Stores rec z c k output m
-unfolding actions_of put_part
+unfolding kind_of actions_of put_part
 part-stores rec z (commands.Buffer id size usage content) k output m within s = absurd (omega arith)
 part-stores rec z (commands.Structure id kind buffer offset size) k output m within s = absurd (omega arith)
 part-stores rec z (commands.Destroy what id) k output m within s = absurd (omega arith)
@@ -208,8 +209,8 @@ part-stores rec z (commands.Deserialize src dst uses) k output m within s =
 part-stores rec z (commands.Property what structures dst) k output m within s =
     stores-by rec z (commands.Property what structures dst) k output m (property_action what structures dst)
     (first-part _ k within) (λ l. refl)
-part-stores rec z (commands.Barrier src_stages src_access dst_stages dst_access) k output m within s =
-    stores-by rec z (commands.Barrier src_stages src_access dst_stages dst_access) k output m Rest (first-part _ k within) (λ l. refl)
+part-stores rec z (commands.Barrier src_stages src_access dst_stages dst_access buffers) k output m within s =
+    stores-by rec z (commands.Barrier src_stages src_access dst_stages dst_access buffers) k output m Rest (first-part _ k within) (λ l. refl)
 part-stores rec z (commands.Trace top rays count hits flags mask script) k output m within s =
     stores-by rec z (commands.Trace top rays count hits flags mask script) k output m (rays_action rec z top rays hits count flags mask script k)
     (trace-part rec z top rays count hits flags mask script k within) (λ l. refl)
@@ -217,7 +218,7 @@ part-stores rec z (commands.Trace top rays count hits flags mask script) k outpu
 -- and what that needs
 part-can : (rec : List Command) (z : Status) (c : Command) (k : ℕ) (output : Output) (m : Memory) → k < piece_count c
     → IsStorable (part_action rec z c k) output m → CanStore c k output m
-unfolding actions_of
+unfolding kind_of actions_of
 part-can rec z (commands.Buffer id size usage content) k output m within s = tt
 part-can rec z (commands.Structure id kind buffer offset size) k output m within s = tt
 part-can rec z (commands.Destroy what id) k output m within s = tt
@@ -239,7 +240,7 @@ part-can rec z (commands.Serialize src dst) k output m within s = tt
 part-can rec z (commands.Deserialize src dst uses) k output m within s =
     subst (λ a. IsStorable a output m) (first-part (DeserializeStructure (stretch_range src) dst uses) k within) s
 part-can rec z (commands.Property what structures dst) k output m within s = tt
-part-can rec z (commands.Barrier src_stages src_access dst_stages dst_access) k output m within s = tt
+part-can rec z (commands.Barrier src_stages src_access dst_stages dst_access buffers) k output m within s = tt
 part-can rec z (commands.Trace top rays count hits flags mask script) k output m within s = tt
 
 -- the same of a piece

@@ -27,6 +27,7 @@ use Rattle.ray_rules.specs.Ids.{Ids, look}
 use Rattle.ray_rules.specs.Ranges.{size_at, inputs_read, range}
 use Rattle.ray_rules.specs.Shapes.{is_triangles, is_boxes}
 use Rattle.ray_rules.specs.Status.{Status}
+use Rattle.ray_rules.specs.Kinds.{kind_of}
 use Rattle.ray_action.specs.Memory.{Memory, StructureAt, ContentsAt, BufferAt, bytes_at}
 use Rattle.ray_action.specs.Action.{Action, Building, UpdateBytes, FillBytes, CopyStructure, SerializeStructure, DeserializeStructure, Rest, content_buffer}
 use Rattle.ray_action.specs.Building.{add_all, new_builder, update_builder, top_of, top_again}
@@ -42,7 +43,8 @@ use Rattle.ray_device.specs.Bottoms.{AreOneKind, OfTriangles, OfBoxes, CanAdd, I
 use Rattle.ray_device.specs.Infos.{CanBuild, CanBuildBottom, CanBuildForm, CanBuildKind, CanBuildTop, CanBuildOneTop, bottom_now, form_now, info_now, kind_now, one_top_now, top_now}
 use Rattle.ray_memory.specs.State.{StateValue}
 use Rattle.ray_device.specs.Bounds.{most_tested, most_traced}
-use Rattle.ray_device.specs.Parts.{CanBuildInfo, CanFetch, CanReadRegion, info_given, part_given, rays_range, region_given}
+use Rattle.ray_device.specs.Parts.{CanBuildInfo, CanFetch, CanReadRegion, info_given, part_given, region_given}
+use Rattle.ray_action.specs.Pieces.{rays_range}
 use Rattle.ray_device.specs.Pieces.{IsPiece, part_action, piece_action, piece_count}
 use Rattle.ray_device.specs.Ranges.{ranges_with}
 use Rattle.ray_device.specs.Tops.{used_now}
@@ -191,7 +193,7 @@ deserialize-free m src dst uses ready = (
 
 pub part_free : (rec : List Command) (z : Status) (c : Command) (k : ℕ) (m : Memory) → k < piece_count c
     → IsReady (part_action rec z c k) m → IsFree (part_action rec z c k) m (CanFetch m c k) (part_given m c k)
-unfolding actions_of part_given
+unfolding kind_of actions_of part_given
 part_free rec z (commands.Buffer id size usage content) k m within ready = absurd (omega arith)
 part_free rec z (commands.Structure id kind buffer offset size) k m within ready = absurd (omega arith)
 part_free rec z (commands.Destroy what id) k m within ready = absurd (omega arith)
@@ -219,7 +221,7 @@ part_free rec z (commands.Deserialize src dst uses) k m within ready =
     part-if m _ (DeserializeStructure (stretch_range src) dst uses) _ _ (first-part _ k within) (deserialize-free m src dst uses) ready
 part_free rec z (commands.Property what structures dst) k m within ready =
     part-if m _ (property_action what structures dst) _ _ (first-part _ k within) (λ r. (r, refl)) ready
-part_free rec z (commands.Barrier src_stages src_access dst_stages dst_access) k m within ready =
+part_free rec z (commands.Barrier src_stages src_access dst_stages dst_access buffers) k m within ready =
     part-if m _ Rest _ _ (first-part _ k within) (λ r. (tt, refl)) ready
 part_free rec z (commands.Trace top rays count hits flags mask script) k m within ready =
     part-if m _ (rays_action rec z top rays hits count flags mask script k) _ _ (trace-part rec z top rays count hits flags mask script k within)

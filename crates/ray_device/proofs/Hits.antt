@@ -1,5 +1,5 @@
 -- The hits of rays, one after the other.
-use Rattle.std.proofs.Common.{arith, ℕ, suc, ◌≡◌, ◌+◌, ◌≤◌, ◌<◌, ◌++◌, List, [], Option, Some, None, Result, Ok, Err, refl, ap, sym, ◌∙◌}
+use Rattle.std.proofs.Common.{arith, ℕ, zero, suc, ◌-◌, ◌≡◌, ◌+◌, ◌≤◌, ◌<◌, ◌++◌, List, [], Option, Some, None, Result, Ok, Err, refl, ap, sym, ◌∙◌}
 use Rattle.std.specs.Prelude.{SomeIff}
 use Rattle.std.specs.List.{flat_map}
 use Rattle.std.proofs.lemmas.List.{flat_map_more}
@@ -10,12 +10,12 @@ use Rattle.ray_contents.specs.Gathering.{gathered}
 use Rattle.ray_contents.proofs.Gathered.{gathered_none, gathered_more, gathered_fault}
 use Rattle.ray_script.specs.declared.raw_rule.RawRule.{RawRule}
 use Rattle.ray_top.specs.Contents.{TopValue}
-use Rattle.ray_walk.specs.Candidates.{Structures}
+use Rattle.ray_candidates.specs.Candidates.{Structures}
 use Rattle.ray_action.specs.Outcomes.{Fault, Gives, Breaks, Bytes, hits_outcome, recorded_ray, ray_within}
 use Rattle.ray_device.specs.declared.fetch_fault.FetchFault.{FetchFault}
 use Rattle.ray_device.specs.declared.fetch_fault.FetchFault.TheVariants.{Data, NoMemory}
 use Rattle.ray_device.specs.Bounds.{summed}
-use Rattle.ray_device.specs.Fetching.{IsFetched}
+use Rattle.ray_device.specs.Fetching.{IsFetched, OnAnswered}
 use Rattle.ray_device.specs.Tracing.{hit_in, rays_outcome, IsHit}
 
 -- an option that is Some exactly where the fact holds, and then of x
@@ -80,3 +80,34 @@ summed_more f k before steps later one other =
     let next : k + 1 ≡ suc k = omega arith in
     let same : summed f (k + 1) ≡ summed f k + f k = ap (summed f) next ∙ summed-next f k in
     omega (arith, one, other, same)
+
+summed-later : (f : ℕ → ℕ) (n m : ℕ) → summed f n ≤ summed f (n + m)
+summed-later f n zero = omega (arith, ap (summed f) (plus-zero n))
+  where
+    plus-zero : (k : ℕ) → k + 0 ≡ k
+    plus-zero k = omega arith
+summed-later f n (suc m) =
+    let before : summed f n ≤ summed f (n + m) = summed-later f n m in
+    let next : n + suc m ≡ suc (n + m) = omega arith in
+    let same : summed f (n + suc m) ≡ summed f (n + m) + f (n + m) = ap (summed f) next ∙ summed-next f (n + m) in
+    omega (arith, before, same)
+
+-- the sum up to a number is at most that over all
+summed-within : (f : ℕ → ℕ) (k count : ℕ) → k < count → summed f k + f k ≤ summed f count
+summed-within f k count within =
+    let rest : count ≡ suc k + (count - suc k) = omega (arith, within) in
+    let most : summed f (suc k) ≤ summed f (suc k + (count - suc k)) = summed-later f (suc k) (count - suc k) in
+    let same : summed f count ≡ summed f (suc k + (count - suc k)) = ap (summed f) rest in
+    omega (arith, most, same, summed-next f k)
+
+-- the bound where a ray is refused: those behind it weren't traced
+pub answered_more : (X Y : Type 0) (f : ℕ → ℕ) (k count before steps later : ℕ) (e : FetchFault) → steps ≤ before + summed f k
+    → OnAnswered {X = X} (Err e) (later ≤ steps + f k) → k < count → OnAnswered {X = Y} (Err e) (later ≤ before + summed f count)
+answered_more X Y f k count before steps later (Data rule place) one other within = omega (arith, one, other, summed-within f k count within)
+answered_more X Y f k count before steps later NoMemory one other within = tt
+
+-- what holds whatever a fetch comes to
+pub on_answered : {X : Type 0} {P : Type 0} (r : Result X FetchFault) → P → OnAnswered r P
+on_answered (Ok x) p = p
+on_answered (Err (Data rule place)) p = p
+on_answered (Err NoMemory) p = tt

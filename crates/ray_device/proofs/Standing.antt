@@ -11,18 +11,19 @@ use Rattle.ray_query.specs.Record.{record_of}
 use Rattle.ray_contents.specs.Gathering.{gathered}
 use Rattle.ray_top.specs.Instances.{InstanceValue}
 use Rattle.ray_top.specs.Contents.{TopValue}
-use Rattle.ray_walk.specs.Candidates.{Structures}
-use Rattle.ray_walk.specs.Laws.{AgreeFor}
-use Rattle.ray_walk.specs.Standing.{IsStanding, AreStanding}
-use Rattle.ray_walk.proofs.Agreeing.{candidates-agree}
+use Rattle.ray_candidates.specs.Candidates.{Structures}
+use Rattle.ray_candidates.specs.Laws.{AgreeFor}
+use Rattle.ray_candidates.specs.Standing.{IsStanding, AreStanding}
+use Rattle.ray_candidates.proofs.Agreeing.{candidates-agree}
 use Rattle.ray_geometries.specs.Contents as bottom_specs
 use Rattle.ray_action.specs.Memory.{Memory, Contents, ContentsAt, as_bottom, as_top, bytes_at}
 use Rattle.ray_action.specs.Areas.{has}
 use Rattle.ray_action.specs.Action.{Tracing}
-use Rattle.ray_action.specs.Outcomes.{bottoms_in, hit_of_ray, hit_at, hits_outcome, trace_outcome}
+use Rattle.ray_action.specs.Outcomes.{bottoms_in, hit_by, hit_at, ray_in, hits_outcome, trace_outcome}
 use Rattle.ray_action.specs.Seeing.{see_structures}
 use Rattle.ray_device.specs.Laws.{TracesAreFree}
-use Rattle.ray_device.specs.Tracing.{bottoms_of, hit_by, ray_in, rays_outcome, traced_through}
+use Rattle.ray_action.specs.Traceable.{bottoms_of}
+use Rattle.ray_device.specs.Tracing.{rays_outcome, traced_through}
 
 -- what is seen of an id is what stands there, where anything is seen
 seen-at : (b : Bool) (contents : Option Contents) (bottom : bottom_specs.ContentsValue) → option_and_then as_bottom (if b then contents else None) ≡ Some bottom
@@ -55,7 +56,8 @@ module _ (m : Memory) (uses : List ℕ) (top : TopValue) (standing : AreStanding
 
 -- the hit of a ray is the same
 same-hit : (trace : Tracing) (m : Memory) (top : TopValue) (number : ℕ) (ray : Option RayValue) → AreStanding top (bottoms_in (see_structures m trace.uses))
-    → hit_of_ray trace top (see_structures m trace.uses) number ray ≡ hit_by top (bottoms_of m) trace.script trace.flags trace.mask number ray
+    → hit_by (script_decision trace.script) top (bottoms_in (see_structures m trace.uses)) trace.flags trace.mask number ray
+    ≡ hit_by (script_decision trace.script) top (bottoms_of m) trace.flags trace.mask number ray
 same-hit trace m top number None standing = refl
 same-hit trace m top number (Some ray) standing =
     ap (λ (fs : List Found). Ok (hit_bytes (record_of ((play (script_decision trace.script) number trace.flags start fs).committed))))

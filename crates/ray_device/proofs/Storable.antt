@@ -11,7 +11,7 @@ use Rattle.ray_geometries.specs.Contents as bottoms
 use Rattle.ray_bottom.specs.Builders.{BuilderValue}
 use Rattle.ray_top.specs.Contents as tops
 use Rattle.ray_top.specs.declared.used.Used.{Used}
-use Rattle.ray_serial.specs.Form.{broken_line}
+use Rattle.ray_form.specs.Form.{broken_line}
 use Rattle.ray_serial.specs.Meaning.{bottom_in, deserialized_in, is_top_form}
 use Rattle.ray_serial.specs.TopMeaning.{top_in}
 use Rattle.ray_cmd.specs.declared.command.Command.TheVariants as commands
@@ -31,6 +31,7 @@ use Rattle.ray_action.specs.Pieces.{info_actions, region_action, rays_action, tr
 use Rattle.ray_action.specs.Readiness.{IsMade}
 use Rattle.ray_device.specs.Storing.{CanHold}
 use Rattle.ray_device.specs.Laws.{OutputsAreStorable, PartsAreActions}
+use Rattle.ray_rules.specs.Kinds.{kind_of as kind_of_command}
 
 gives-one : (x y : Output) → Gives x ≡ Gives y → x ≡ y
 gives-one x y e = cc
@@ -176,7 +177,7 @@ length-infos z first [] = refl
 length-infos z first (info ∷ infos) = ap suc (length-infos z (first + 1) infos)
 
 pub parts-are_actions : PartsAreActions
-unfolding actions_of
+unfolding actions_of kind_of_command
 parts-are_actions rec z (commands.Buffer id size usage content) is = absurd cc
 parts-are_actions rec z (commands.Structure id kind buffer offset size) is = absurd cc
 parts-are_actions rec z (commands.Destroy what id) is = absurd cc
@@ -194,6 +195,6 @@ parts-are_actions rec z (commands.CopyStructure mode src dst) is = refl
 parts-are_actions rec z (commands.Serialize src dst) is = refl
 parts-are_actions rec z (commands.Deserialize src dst uses) is = refl
 parts-are_actions rec z (commands.Property what structures dst) is = refl
-parts-are_actions rec z (commands.Barrier src_stages src_access dst_stages dst_access) is = refl
+parts-are_actions rec z (commands.Barrier src_stages src_access dst_stages dst_access buffers) is = refl
 parts-are_actions rec z (commands.Trace top rays count hits flags mask script) is =
     length-map-range_with_len (rays_action rec z top rays hits count flags mask script) 0 (trace_pieces count)

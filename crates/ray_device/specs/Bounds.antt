@@ -6,9 +6,10 @@ use Rattle.ray_script.specs.declared.raw_rule.RawRule.{RawRule}
 use Rattle.ray_script.specs.Meaning.{script_decision}
 use Rattle.ray_bottom.specs.Slots.{Slots}
 use Rattle.ray_top.specs.Trees.{TopWithTree}
-use Rattle.ray_nearest.specs.Scene.{distance_of, opened_in}
-use Rattle.ray_walk.specs.Candidates.{trace_answer}
-use Rattle.ray_walk.specs.Standing.{structures_in}
+use Rattle.ray_query.specs.Limits.{distance_of}
+use Rattle.ray_nearest.specs.Scene.{opened_in}
+use Rattle.ray_candidates.specs.Candidates.{trace_answer}
+use Rattle.ray_candidates.specs.Standing.{structures_in}
 use Rattle.ray_walk.specs.Traced.{traced_by, traced_scene}
 use Rattle.ray_cmd.specs.declared.command.Command.{Command}
 use Rattle.ray_cmd.specs.declared.command.Command.TheVariants as commands
@@ -17,8 +18,8 @@ use Rattle.ray_rules.specs.Access.{rays_of_piece}
 use Rattle.ray_action.specs.Memory.{bytes_at}
 use Rattle.ray_action.specs.Pieces.{cull_mask}
 use Rattle.ray_memory.specs.State.{StateValue, memory_of, top_at}
-use Rattle.ray_device.specs.Parts.{rays_range}
-use Rattle.ray_device.specs.Tracing.{ray_in}
+use Rattle.ray_action.specs.Pieces.{rays_range}
+use Rattle.ray_action.specs.Outcomes.{ray_in}
 
 -- the sum of f over the numbers below n
 unfoldable pub summed : (ℕ → ℕ) → ℕ → ℕ

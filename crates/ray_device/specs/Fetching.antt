@@ -24,6 +24,12 @@ IsPieceFetched piece outcome (Ok out) = (out.piece ≡ piece) × (outcome ≡ Gi
 IsPieceFetched piece outcome (Err (Data rule place)) = outcome ≡ Breaks (record { rule = rule; place = place })
 IsPieceFetched piece outcome (Err NoMemory) = Unit {0}
 
+-- what holds where a fetch is answered, by what it gives or by the data rule that is broken; nothing is said where memory is wanting
+abbrev pub OnAnswered : {X : Type 0} → Result X FetchFault → Type 0 → Type 0
+OnAnswered (Ok x) P = P
+OnAnswered (Err (Data rule place)) P = P
+OnAnswered (Err NoMemory) P = Unit {0}
+
 -- what a clone of contents gives
 abbrev pub clone_outcome : Option Contents → Outcome
 clone_outcome contents = option_map_or (λ c. Gives (Holds c)) contents Undefined

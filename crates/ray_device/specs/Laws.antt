@@ -9,7 +9,8 @@ use Rattle.ray_action.specs.Pieces.{actions_of}
 use Rattle.ray_action.specs.Readiness.{IsReady}
 use Rattle.ray_device.specs.Pieces.{piece_count, is_device}
 use Rattle.ray_device.specs.Storing.{IsStorable}
-use Rattle.ray_device.specs.Tracing.{IsTraceable, traced}
+use Rattle.ray_action.specs.Traceable.{IsTraceable}
+use Rattle.ray_device.specs.Tracing.{traced}
 
 -- what an action gives where it is ready can be stored there
 abbrev pub OutputsAreStorable : Type 0

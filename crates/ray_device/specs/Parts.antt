@@ -4,22 +4,17 @@ use Rattle.ray_cmd.specs.declared.command.Command.{Command}
 use Rattle.ray_cmd.specs.declared.command.Command.TheVariants as commands
 use Rattle.ray_cmd.specs.declared.info.Info.{Info}
 use Rattle.ray_cmd.specs.declared.region.Region.{Region}
-use Rattle.ray_cmd.specs.declared.spot.Spot.{Spot}
-use Rattle.ray_rules.specs.declared.byte_range.ByteRange.{ByteRange}
 use Rattle.ray_rules.specs.Access.{rays_of_piece}
 use Rattle.ray_rules.specs.Ranges.{range}
 use Rattle.ray_action.specs.Memory.{Memory, StructureAt, ContentsAt, bytes_at}
 use Rattle.ray_action.specs.Outcomes.{Outcome, Gives, Nothing, bytes_outcome, copy_outcome, deserialize_outcome, numbers_of, property_outcome, serialize_outcome}
-use Rattle.ray_action.specs.Pieces.{cull_mask, stretch_range}
+use Rattle.ray_action.specs.Pieces.{cull_mask, rays_range, stretch_range}
 use Rattle.ray_action.specs.Readiness.{IsCopyReady, FitsMode}
 use Rattle.ray_action.specs.Seeing.{see_structure}
 use Rattle.ray_device.specs.Infos.{info_now, CanBuild}
 use Rattle.ray_device.specs.Tops.{used_now}
-use Rattle.ray_device.specs.Tracing.{IsTraceable, traced}
-
--- where the rays of piece k of a trace stand
-abbrev pub rays_range : Spot → ℕ → ℕ → ByteRange
-rays_range rays count k = range rays.buffer (rays.offset + 40 * (64 * k)) (40 * rays_of_piece count k)
+use Rattle.ray_action.specs.Traceable.{IsTraceable}
+use Rattle.ray_device.specs.Tracing.{traced}
 
 -- ---- what it gives
 

@@ -12,7 +12,7 @@ use Rattle.ray_action.specs.Memory.{Memory, StructureAt, kind_of}
 use Rattle.ray_action.specs.Areas.{is_in_range, is_contents_of}
 use Rattle.ray_action.specs.Action.{Action, MakeBuffer, MakeStructure, DestroyBuffer, DestroyStructure, ShowSizes, ShowBytes, UpdateBytes, FillBytes, CopyBytes, BuildBottom, UpdateBottom, BuildTop, UpdateTop, CopyStructure, SerializeStructure, DeserializeStructure, TellProperty, TraceRays, Rest, Impossible}
 use Rattle.ray_action.specs.Outcomes.{Output, Nothing, Bytes, Holds}
-use Rattle.ray_action.specs.Pieces.{stretch_range}
+use Rattle.ray_action.specs.Pieces.{stretch_range, hits_range}
 use Rattle.ray_action.specs.Readiness.{IsMade}
 use Rattle.ray_action.specs.Storing.{stored, filled, bytes_left, contents_left}
 
@@ -80,9 +80,6 @@ region_range dst region = range dst region.dst_offset region.size
 
 abbrev pub property_range : Spot → List ℕ → ByteRange
 property_range dst structures = range dst.buffer dst.offset (8 * length structures)
-
-abbrev pub hits_range : Spot → ℕ → ℕ → ByteRange
-hits_range hits count k = range hits.buffer (hits.offset + 80 * (64 * k)) (80 * rays_of_piece count k)
 
 -- the memory with what is given of a region, and of an info
 abbrev pub put_region : ℕ → Option Region → Output → Memory → Memory

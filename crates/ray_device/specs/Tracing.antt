@@ -1,6 +1,6 @@
 -- What the rays of a piece give, where structures are looked up under their ids as they are, and not among
 -- those that are named to be in use. (Own.)
-use Rattle.std.specs.Prelude.{ℕ, ◌≡◌, ◌+◌, ◌≤◌, List, Option, Some, None, IsSome, Result, Ok, Err}
+use Rattle.std.specs.Prelude.{ℕ, ◌≡◌, ◌+◌, ◌≤◌, List, Option, Some, None, Result, Ok, Err}
 use Rattle.std.specs.Option.{option_map, option_and_then}
 use Rattle.ray_geom.specs.Scene.{RayValue}
 use Rattle.ray_flags.specs.declared.ray_flags.RayFlags.{RayFlags}
@@ -14,30 +14,18 @@ use Rattle.ray_script.specs.declared.raw_rule.RawRule.{RawRule}
 use Rattle.ray_script.specs.Meaning.{script_decision}
 use Rattle.ray_query.specs.Record.{record_of}
 use Rattle.ray_top.specs.Contents.{TopValue}
-use Rattle.ray_walk.specs.Candidates.{Structures, trace_answer}
+use Rattle.ray_candidates.specs.Candidates.{Structures, trace_answer}
 use Rattle.ray_cmd.specs.declared.place.Place.TheVariants.{Part}
-use Rattle.ray_flags.specs.Admission.{AsksBoth}
-use Rattle.ray_script.specs.Scripts.{refused_at}
-use Rattle.ray_walk.specs.Standing.{AreStanding}
 use Rattle.ray_rules.specs.declared.byte_range.ByteRange.{ByteRange}
-use Rattle.ray_action.specs.Memory.{Memory, ContentsAt, as_bottom, as_top, bytes_at}
-use Rattle.ray_action.specs.Outcomes.{Fault, Outcome, Gives, Bytes, Undefined, hits_outcome, ray_within}
+use Rattle.ray_action.specs.Memory.{Memory, as_top, bytes_at, ContentsAt}
+use Rattle.ray_action.specs.Outcomes.{Fault, Outcome, Gives, Bytes, Undefined, hit_by, hits_outcome, ray_in}
+use Rattle.ray_action.specs.Traceable.{bottoms_of}
 use Rattle.ray_device.specs.declared.fetch_fault.FetchFault.{FetchFault}
 use Rattle.ray_device.specs.declared.fetch_fault.FetchFault.TheVariants.{Data, NoMemory}
 
--- ray k of those that stand in these bytes, where it is whole and within the limits
-abbrev pub ray_in : List ℕ → ℕ → Option RayValue
-ray_in rays k = option_and_then ray_within (option_map ray_of (record_at rays 0 40 40 k))
-
--- the bytes of the hit of a ray of a number; X11 where it is beyond the limits
-abbrev pub hit_by : TopValue → Structures → List RawRule → RayFlags → ℕ → ℕ → Option RayValue → Result (List ℕ) Fault
-hit_by top bottoms rules flags mask number None = Err (record { rule = X11; place = Part number })
-hit_by top bottoms rules flags mask number (Some ray) =
-    Ok (hit_bytes (record_of (trace_answer (script_decision rules) top.contents bottoms ray number flags mask)))
-
--- the same of ray k in these bytes, of which the first has a number
+-- the bytes of the hit of ray k in these bytes, of which the first has a number; X11 where it is beyond the limits
 abbrev pub hit_in : TopValue → Structures → List RawRule → RayFlags → ℕ → List ℕ → ℕ → ℕ → Result (List ℕ) Fault
-hit_in top bottoms rules flags mask rays first k = hit_by top bottoms rules flags mask (first + k) (ray_in rays k)
+hit_in top bottoms rules flags mask rays first k = hit_by (script_decision rules) top bottoms flags mask (first + k) (ray_in rays k)
 
 -- what so many rays give
 unfoldable pub rays_outcome : TopValue → Structures → List RawRule → RayFlags → ℕ → List ℕ → ℕ → ℕ → Outcome
@@ -56,21 +44,6 @@ pub record AreSoFar (outcome : Outcome) (bytes : List ℕ) (before steps most : 
   pub bound : steps ≤ before + most
 
 -- ---- of the memory as it is
-
--- the bottom structures that stand under ids
-abbrev pub bottoms_of : Memory → Structures
-bottoms_of memory id = option_and_then as_bottom (memory (ContentsAt id))
-
--- rays can be traced: they and the top structure are there, with the structures of its active instances as
--- they were; the rules are a script, and the flags don't ask that everything counts as opaque and that
--- nothing does
-pub record IsTraceable (memory : Memory) (id : ℕ) (from : ByteRange) (flags : RayFlags) (rules : List RawRule) : Type 0 where
-  pub rays : IsSome (bytes_at memory from)
-  pub top : TopValue
-  pub is_it : option_and_then as_top (memory (ContentsAt id)) ≡ Some top
-  pub standing : AreStanding top (bottoms_of memory)
-  pub script : refused_at rules ≡ None
-  pub flags_agree : AsksBoth flags → ⊥
 
 -- what so many rays of a range give
 abbrev pub traced_through : Structures → Option (List ℕ) → Option TopValue → ℕ → ℕ → RayFlags → ℕ → List RawRule → Outcome

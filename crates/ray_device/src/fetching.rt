@@ -1,11 +1,12 @@
-ghost use Rattle.std.specs.Prelude.{◌≡◌, ◌<◌, ◌≤◌, ◌+◌, OnOk};
+ghost use Rattle.std.specs.Prelude.{◌≡◌, ◌<◌, ◌≤◌, ◌+◌};
 ghost use Rattle.ray_action.specs.Outcomes.{outcome_of};
 ghost use Rattle.ray_action.specs.Pieces.{command_at};
 ghost use Rattle.ray_action.specs.Readiness.{IsReady};
 ghost use Rattle.ray_memory.specs.State.{memory_of};
 ghost use Rattle.ray_device.specs.Bounds.{most_tested};
-ghost use Rattle.ray_device.specs.Fetching.{IsFetched, IsPieceFetched};
-ghost use Rattle.ray_device.specs.Parts.{part_given, rays_range, CanFetch};
+ghost use Rattle.ray_device.specs.Fetching.{IsFetched, IsPieceFetched, OnAnswered};
+ghost use Rattle.ray_device.specs.Parts.{part_given, CanFetch};
+ghost use Rattle.ray_action.specs.Pieces.{rays_range};
 ghost use Rattle.ray_device.specs.Pieces.{IsPiece, piece_action, piece_count};
 ghost use Rattle.ray_rules.specs.Access.{rays_of_piece};
 
@@ -29,8 +30,8 @@ use std::thread::Threads;
 
 /// What a piece gives of the memory as it is, or the first data rule that what it reads breaks,
 /// with its place. The piece's action is ready there. A piece of a trace takes a step for each
-/// primitive that it tests, no more than those of the leaves that its rays open; every other piece
-/// takes none. (The operations of each device command of Vulkan.)
+/// primitive that it tests, no more than those of the leaves that its rays open, also where a ray
+/// is refused; every other piece takes none. (The operations of each device command of Vulkan.)
 #[tactic(auto, using(crate::proofs::Commands::part_within))]
 pub fn fetch<R: Threads + Sync, L: Ledger>(
     rt: &R,
@@ -44,7 +45,7 @@ pub fn fetch<R: Threads + Sync, L: Ledger>(
     requires ready { IsReady (piece_action rec.now piece) (memory_of state.now) }
     ensures value { IsPieceFetched piece (outcome_of (piece_action rec.now piece)
         (memory_of state.now)) result }
-    ensures bound { OnOk result (steps.new ≤ steps.old
+    ensures bound { OnAnswered result (steps.new ≤ steps.old
         + most_tested state.now (command_at rec.now piece.command) piece.part) }
     ensures rising { steps.old ≤ steps.new }
 {
@@ -68,7 +69,7 @@ fn fetch_part<R: Threads + Sync, L: Ledger>(
     requires within { part < piece_count command.now }
     requires can { CanFetch (memory_of state.now) command.now part }
     ensures value { IsFetched (part_given (memory_of state.now) command.now part) result }
-    ensures bound { OnOk result (steps.new ≤ steps.old + most_tested state.now command.now part) }
+    ensures bound { OnAnswered result (steps.new ≤ steps.old + most_tested state.now command.now part) }
     ensures rising { steps.old ≤ steps.new }
 {
     match command {

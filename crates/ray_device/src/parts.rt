@@ -1,8 +1,9 @@
-ghost use Rattle.std.specs.Prelude.{◌≡◌, ◌<◌, length};
+ghost use Rattle.std.specs.Prelude.{◌≡◌, ◌<◌, length, if◌then◌else◌};
 ghost use Rattle.ray_action.specs.Pieces.{command_at};
-ghost use Rattle.ray_device.specs.Pieces.{piece_count};
+ghost use Rattle.ray_device.specs.Pieces.{is_device, piece_count};
 
 use ray_cmd::{Command, Recording};
+use ray_rules::{Kind, kind_of};
 
 // How many rays a piece of a trace has at most.
 pub(crate) const RAYS_A_PIECE: u32 = 64;
@@ -25,13 +26,16 @@ fn pieces_of(command: &Command) -> u32
         Command::Copy { regions, .. } => regions.as_slice().len() as u32,
         Command::Build { infos } => infos.as_slice().len() as u32,
         Command::Trace { count, .. } => count.div_ceil(RAYS_A_PIECE),
-        Command::Update { .. }
-        | Command::Fill { .. }
-        | Command::CopyStructure { .. }
-        | Command::Serialize { .. }
-        | Command::Deserialize { .. }
-        | Command::Property { .. }
-        | Command::Barrier { .. } => 1,
-        _ => 0,
+        _ => one_of_device(command),
+    }
+}
+
+// One where the device does a command.
+fn one_of_device(command: &Command) -> u32
+    ensures { result ≡ if is_device command.now then 1 else 0 }
+{
+    match kind_of(command) {
+        Kind::HostCommand => 0,
+        Kind::Device(_) | Kind::Barrier => 1,
     }
 }

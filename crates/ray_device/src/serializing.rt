@@ -7,7 +7,7 @@ ghost use Rattle.ray_action.specs.Outcomes.{opened_outcome, kept_outcome, fittin
 ghost use Rattle.ray_bottom.specs.Trees as bottom_trees;
 ghost use Rattle.ray_memory.specs.State.{memory_of};
 ghost use Rattle.ray_top.specs.Trees as top_trees;
-ghost use Rattle.ray_serial.specs.Form.{broken_line};
+ghost use Rattle.ray_form.specs.Form.{broken_line};
 ghost use Rattle.ray_serial.specs.Meaning.{is_top_form};
 ghost use Rattle.ray_serial.specs.TopMeaning.{top_in};
 ghost use Rattle.ray_bytes.specs.declared.data_rule.DataRule.TheVariants.{X12};

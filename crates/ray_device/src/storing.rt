@@ -7,7 +7,8 @@ ghost use Rattle.ray_device.specs.Fetched.{given};
 ghost use Rattle.ray_device.specs.Pieces.{IsPiece, piece_action, piece_count};
 ghost use Rattle.ray_device.specs.Storing.{IsStorable, CanHold, CanStore};
 ghost use Rattle.ray_device.specs.Storing.{put_part, put_bytes, put_contents};
-ghost use Rattle.ray_device.specs.Storing.{property_range, hits_range};
+ghost use Rattle.ray_device.specs.Storing.{property_range};
+ghost use Rattle.ray_action.specs.Pieces.{hits_range};
 
 use crate::output::Output;
 use crate::parts::RAYS_A_PIECE;

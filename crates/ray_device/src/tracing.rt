@@ -2,12 +2,14 @@ ghost use Rattle.std.specs.Prelude.{◌≡◌, ◌++◌, ◌+◌, ◌<◌, ◌�
 ghost use Rattle.ray_bytes.specs.Hits.{hit_bytes};
 ghost use Rattle.ray_flags.specs.Admission.{AsksBoth};
 ghost use Rattle.ray_top.specs.Trees.{without_tree};
-ghost use Rattle.ray_walk.specs.Standing.{AreStanding, structures_in};
-ghost use Rattle.ray_action.specs.Outcomes.{ray_within};
+ghost use Rattle.ray_candidates.specs.Standing.{AreStanding, structures_in};
+ghost use Rattle.ray_action.specs.Outcomes.{hit_by, ray_in, ray_within};
+ghost use Rattle.ray_script.specs.Meaning.{script_decision};
 ghost use Rattle.ray_device.specs.Bounds.{most_by, most_of_rays, most_traced};
-ghost use Rattle.ray_device.specs.Fetching.{IsFetched};
+ghost use Rattle.ray_device.specs.Fetching.{IsFetched, OnAnswered};
 ghost use Rattle.ray_memory.specs.State.{memory_of};
-ghost use Rattle.ray_device.specs.Tracing.{ray_in, hit_by, rays_outcome, IsHit, IsTraceable, traced};
+ghost use Rattle.ray_action.specs.Traceable.{IsTraceable};
+ghost use Rattle.ray_device.specs.Tracing.{rays_outcome, IsHit, traced};
 
 use crate::fetch_fault::FetchFault;
 use crate::output::Output;
@@ -44,7 +46,7 @@ fn hits<L: Ledger>(
     requires numbers { first + count < 2 ^ 32 }
     ensures value { IsFetched (rays_outcome (without_tree top.now) (structures_in bottoms.now)
         script.now flags mask rays.now first count) result }
-    ensures bound { OnOk result (steps.new ≤ steps.old + most_of_rays top.now bottoms.now script.now
+    ensures bound { OnAnswered result (steps.new ≤ steps.old + most_of_rays top.now bottoms.now script.now
         flags mask rays.now first count) }
     ensures rising { steps.old ≤ steps.new }
 {
@@ -94,7 +96,7 @@ pub(crate) fn traced_rays<L: Ledger>(
     requires numbers { first + count < 2 ^ 32 }
     ensures value { IsFetched (traced (memory_of state.now) top from first count flags mask rules.now)
         result }
-    ensures bound { OnOk result (steps.new ≤ steps.old + most_traced state.now top from first count
+    ensures bound { OnAnswered result (steps.new ≤ steps.old + most_traced state.now top from first count
         flags mask rules.now) }
     ensures rising { steps.old ≤ steps.new }
 {
@@ -124,7 +126,7 @@ fn by_script<L: Ledger>(
     requires numbers { first + count < 2 ^ 32 }
     ensures value { IsFetched (traced (memory_of state.now) top from first count flags mask
         script.now) result }
-    ensures bound { OnOk result (steps.new ≤ steps.old + most_traced state.now top from first count
+    ensures bound { OnAnswered result (steps.new ≤ steps.old + most_traced state.now top from first count
         flags mask script.now) }
     ensures rising { steps.old ≤ steps.new }
 {
@@ -153,9 +155,9 @@ fn hit<L: Ledger>(
 ) -> Result<HitRecord, FetchFault>
     requires standing { AreStanding (without_tree top.now) (structures_in bottoms.now) }
     requires flags_agree { ¬ AsksBoth flags }
-    ensures value { IsHit (hit_by (without_tree top.now) (structures_in bottoms.now) script.now
-        flags mask number ray) result }
-    ensures bound { OnOk result (steps.new ≤ steps.old + most_by top.now bottoms.now script.now flags
+    ensures value { IsHit (hit_by (script_decision script.now) (without_tree top.now)
+        (structures_in bottoms.now) flags mask number ray) result }
+    ensures bound { OnAnswered result (steps.new ≤ steps.old + most_by top.now bottoms.now script.now flags
         mask number ray) }
     ensures rising { steps.old ≤ steps.new }
 {

@@ -8,7 +8,7 @@ use Rattle.ray_schedule.specs.Laws as laws
 use Rattle.ray_schedule.proofs.Waving.{waves_begin, waves_end}
 use Rattle.ray_cmd.specs.declared.command.Command.{Command}
 use Rattle.ray_cmd.specs.declared.refusal.Refusal.{Refusal}
-use Rattle.ray_rules.specs.Order.{Chain, IsLongest, alone, before, kind_at, kind_before, longer}
+use Rattle.ray_rules.specs.Order.{Chain, IsLongest, alone, barriers, before, kind_at, kind_before, longer}
 use Rattle.ray_sync.specs.declared.order.Row.{Row}
 use Rattle.ray_action.specs.Memory.{Location, Memory, nothing_live}
 use Rattle.ray_action.specs.Outcomes.{Outcome, Gives, Breaks, Undefined}
@@ -18,12 +18,12 @@ use Rattle.ray_action.specs.Running.{Run, Text}
 use Rattle.ray_ready.specs.Laws.{IsGiven, first_actions}
 use Rattle.ray_permitted.specs.Work.{command_at, stores_nothing, work_of}
 use Rattle.ray_permitted.proofs.Runs.{memory_is, outcomes_tell}
+use Rattle.ray_exec.specs.Waves.{AreRun}
 use Rattle.ray_exec.specs.Progress.{IsDone, texts, wave_of}
 use Rattle.ray_exec.specs.Runs.{memory_below, run_below}
 use Rattle.ray_exec.proofs.GoingOn.{same-memory}
 use Rattle.ray_exec.proofs.Lists.{among-range, filter_all, filter_none}
 use Rattle.ray_exec.proofs.Numbering.{command_is, is_part}
-use Rattle.ray_exec.proofs.OneWave.{AreRun}
 use Rattle.ray_exec.proofs.Telling.{refused, told}
 
 -- ---- the beginning
@@ -40,17 +40,17 @@ begins rec rows n memory text new empty =
 
 -- ---- a wave's number is at most that of its command
 
-chain_short : (rec : List Command) (i k : ℕ) → Chain (before rec) i k → k ≤ i
+chain_short : (rec : List Command) (i k : ℕ) → Chain (before (barriers rec) rec) i k → k ≤ i
 chain_short rec _ _ (alone i) = omega arith
 chain_short rec _ _ (longer i j n chain e) =
     let upto : n ≤ i = chain_short rec i n chain in
-    let less : i < j = ltb-true i j (and_parts (nat_lt i j) (kind_before rec i j (kind_at rec i) (kind_at rec j)) e).0 in
+    let less : i < j = ltb-true i j (and_parts (nat_lt i j) (kind_before (barriers rec) rec i j (kind_at rec i) (kind_at rec j)) e).0 in
     omega (arith, upto, less)
 
-pub longest_short : (rec : List Command) (i w : ℕ) → IsLongest (before rec) i w → w ≤ i
+pub longest_short : (rec : List Command) (i w : ℕ) → IsLongest (before (barriers rec) rec) i w → w ≤ i
 longest_short rec i w is = chain_short rec i w is.there
 
-pub same_longest : (rec : List Command) (i v w : ℕ) → IsLongest (before rec) i v → IsLongest (before rec) i w → v ≡ w
+pub same_longest : (rec : List Command) (i v w : ℕ) → IsLongest (before (barriers rec) rec) i v → IsLongest (before (barriers rec) rec) i w → v ≡ w
 same_longest rec i v w first second =
     let a : v ≤ w = second.most v first.there in
     let b : w ≤ v = first.most w second.there in
@@ -92,7 +92,7 @@ ends_in_text rec rows n memory text run done =
     let us : List Numbered = first_actions rec n in
     let all : done.bound ≡ length us = done.stopped.0 in
     let first = first_fault rec rows n memory text None run done in
-    sym (outcomes_tell rec n done.bound (λ p. Some (out rec n p)) first (λ p l u. refl))
+    sym (outcomes_tell rec (before (barriers rec) rec) n done.bound (λ p. Some (out rec n p)) first (λ p l u. refl))
     ∙ (told us (out rec n) (λ p l. given_below rec n done.bound first p (omega (arith, l, all)))
     ∙ ap Text (ap (texts rec n) (sym (filter_all (λ p. nat_lt (wave_of rec rows n p) n) (range_with_len 0 (length us))
     (λ p a. let r = (among-range 0 (length us) p a).1 in lt-ltb (wave_of rec rows n p) n (past rec rows n run p (omega (arith, r)))))) ∙ sym done.stopped.1))
@@ -111,6 +111,6 @@ ends_refused rec rows n memory text refusal run done =
     let us : List Numbered = first_actions rec n in
     let first = first_fault rec rows n memory text (Some refusal) run done in
     let broken = done.stopped.2 in
-    sym (outcomes_tell rec n done.bound (λ p. Some (out rec n p)) first (λ p l u. refl))
+    sym (outcomes_tell rec (before (barriers rec) rec) n done.bound (λ p. Some (out rec n p)) first (λ p l u. refl))
     ∙ (refused us (out rec n) done.bound broken.0 done.stopped.0 (given_below rec n done.bound first) broken.1
     ∙ ap action.Refused (sym broken.2))

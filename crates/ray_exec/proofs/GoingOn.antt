@@ -7,6 +7,7 @@ use Rattle.ray_schedule.proofs.Turns.{among-append_left}
 use Rattle.ray_schedule.proofs.Waving.{waves_fetch_the_same, waves_go_on, waves_store_apart}
 use Rattle.ray_cmd.specs.declared.command.Command.{Command}
 use Rattle.ray_cmd.specs.declared.refusal.Refusal.{Refusal}
+use Rattle.ray_rules.specs.Order.{barriers, before}
 use Rattle.ray_sync.specs.declared.order.Row.{Row}
 use Rattle.ray_action.specs.Memory.{Location, Memory}
 use Rattle.ray_action.specs.Outcomes.{Fault, Breaks}
@@ -21,10 +22,10 @@ use Rattle.ray_permitted.proofs.Runs.{memory_is}
 use Rattle.ray_device.specs.declared.piece.Piece.{Piece}
 use Rattle.ray_exec.specs.Progress.{IsDone, IsStopAt, least, wave_of}
 use Rattle.ray_exec.specs.Settled.{IsLeftBy, settled}
-use Rattle.ray_exec.specs.Waves.{commands_of_wave, pieces_below}
+use Rattle.ray_exec.specs.Waves.{AreRun, commands_of_wave, pieces_below}
 use Rattle.ray_exec.proofs.Cutting.{IsCut, IsEnd, Stopped, Whole, cut, numbers_settled, outcome_in, settled_by_number, text_in}
 use Rattle.ray_exec.proofs.Numbering.{numbers_are, numbers_in, numbers_rise, wave_pieces}
-use Rattle.ray_exec.proofs.OneWave.{AreRun, front_less, front_rises, given_stores, in_front, in_wave, later_differ, middle_of, ready_in, rising}
+use Rattle.ray_exec.proofs.OneWave.{front_less, front_rises, given_stores, in_front, in_wave, later_differ, middle_of, ready_in, rising}
 use Rattle.ray_exec.proofs.WaveTexts.{wave_text}
 
 pub same-memory : (m n : Memory) → ((l : Location) → m l ≡ n l) → m ≡ n
@@ -60,7 +61,7 @@ done_by rec rows n v memory later bound new front run done found distinct are is
     let w = work_of rec n in
     let upto : new ≤ bound = found.within in
     let within : bound ≤ w.count = done.within in
-    waves_go_on w (local_work rec n) (wave_of rec rows n) v bound new memory later (rising rec rows n run) done found
+    waves_go_on w (local_work rec (before (barriers rec) rec) n) (wave_of rec rows n) v bound new memory later (rising rec rows n run) done found
     (subst (IsAfterWave w.device (wave_of rec rows n) v new memory) (sym is)
     (waves_store_apart w (wave_of rec rows n) v new memory front (rising rec rows n run) (omega (arith, upto, within)) distinct are))
 
@@ -114,7 +115,7 @@ stays rec rows n v memory text text_new None bound run done stopped told_so =
           ∙ ((λ i. stopped.1 i ++ same_texts (text_in us memory) (λ p. text_with (action_at us p) (laws.outcome_of (work_of rec n) p)) qs
           (λ p a.
           let is = (in_wave rec rows n v memory text None run bound done.within stopped p).0 a in
-          ap (text_with (action_at us p)) (waves_fetch_the_same (work_of rec n) (local_work rec n) (wave_of rec rows n) v bound memory (rising rec rows n run) done p is.0 is.1)) i)
+          ap (text_with (action_at us p)) (waves_fetch_the_same (work_of rec n) (local_work rec (before (barriers rec) rec) n) (wave_of rec rows n) v bound memory (rising rec rows n run) done p is.0 is.1)) i)
           ∙ sym (wave_text rec rows n v run)),
     )
 stays rec rows n v memory text text_new (Some refusal) bound run done stopped told_so =
@@ -162,7 +163,7 @@ goes_on_to rec rows n v memory later text text_new stop met run done front given
         (let l : wave_of rec rows n q < v + 1 = omega (arith, at) in l),
         (
           fault,
-          sym (waves_fetch_the_same (work_of rec n) (local_work rec n) (wave_of rec rows n) v done.bound memory (rising rec rows n run) done.done q here.0 here.1) ∙ broken,
+          sym (waves_fetch_the_same (work_of rec n) (local_work rec (before (barriers rec) rec) n) (wave_of rec rows n) v done.bound memory (rising rec rows n run) done.done q here.0 here.1) ∙ broken,
           refl,
         ),
       );

@@ -6,6 +6,7 @@ use Rattle.ray_cmd.specs.declared.command.Command.TheVariants as commands
 use Rattle.ray_cmd.specs.declared.thing.Thing.TheVariants as things
 use Rattle.ray_rules.specs.Status.{Status}
 use Rattle.ray_rules.specs.Ranges.{range}
+use Rattle.ray_rules.specs.Kinds.{kind_of}
 use Rattle.ray_action.specs.Memory.{Location, Memory, bytes_at}
 use Rattle.ray_action.specs.Outcomes.{Output, Outcome, Nothing, Bytes, Gives, bytes_outcome, outcome_of}
 use Rattle.ray_action.specs.Pieces.{actions_of, host_action}
@@ -20,7 +21,7 @@ use Rattle.ray_exec.specs.Steps.{IsShown}
 
 -- it has one action
 pub host_parts : (rec : List Command) (z : Status) (c : Command) → not (is_device c) ≡ true → actions_of rec z c ≡ host_action c ∷ []
-unfolding actions_of host_action
+unfolding kind_of actions_of host_action
 host_parts rec z (commands.Buffer id size usage content) host = refl
 host_parts rec z (commands.Structure id kind buffer offset size) host = refl
 host_parts rec z (commands.Destroy what id) host = refl
@@ -38,7 +39,7 @@ host_parts rec z (commands.CopyStructure mode src dst) host = absurd cc
 host_parts rec z (commands.Serialize src dst) host = absurd cc
 host_parts rec z (commands.Deserialize src dst uses) host = absurd cc
 host_parts rec z (commands.Property what structures dst) host = absurd cc
-host_parts rec z (commands.Barrier src_stages src_access dst_stages dst_access) host = absurd cc
+host_parts rec z (commands.Barrier src_stages src_access dst_stages dst_access buffers) host = absurd cc
 host_parts rec z (commands.Trace top rays count hits flags mask script) host = absurd cc
 
 -- what it gives
@@ -70,7 +71,7 @@ host-gives (commands.CopyStructure mode src dst) m ready = record { output = Not
 host-gives (commands.Serialize src dst) m ready = record { output = Nothing; gives = refl }
 host-gives (commands.Deserialize src dst uses) m ready = record { output = Nothing; gives = refl }
 host-gives (commands.Property what structures dst) m ready = record { output = Nothing; gives = refl }
-host-gives (commands.Barrier src_stages src_access dst_stages dst_access) m ready = record { output = Nothing; gives = refl }
+host-gives (commands.Barrier src_stages src_access dst_stages dst_access buffers) m ready = record { output = Nothing; gives = refl }
 host-gives (commands.Trace top rays count hits flags mask script) m ready = record { output = Nothing; gives = refl }
 
 -- what is left of it doesn't depend on that
@@ -94,7 +95,7 @@ host-puts (commands.CopyStructure mode src dst) o m l = refl
 host-puts (commands.Serialize src dst) o m l = refl
 host-puts (commands.Deserialize src dst uses) o m l = refl
 host-puts (commands.Property what structures dst) o m l = refl
-host-puts (commands.Barrier src_stages src_access dst_stages dst_access) o m l = refl
+host-puts (commands.Barrier src_stages src_access dst_stages dst_access buffers) o m l = refl
 host-puts (commands.Trace top rays count hits flags mask script) o m l = refl
 
 -- so it is done once its text is appended and what it makes is in the memory

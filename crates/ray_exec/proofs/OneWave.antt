@@ -8,8 +8,8 @@ use Rattle.ray_schedule.proofs.Turns.{among-append_left, each_later-map}
 use Rattle.ray_schedule.proofs.Waving.{waves_are_free, waves_rise}
 use Rattle.ray_cmd.specs.declared.command.Command.{Command}
 use Rattle.ray_cmd.specs.declared.refusal.Refusal.{Refusal}
+use Rattle.ray_rules.specs.Order.{barriers, before}
 use Rattle.ray_sync.specs.declared.order.Row.{Row}
-use Rattle.ray_sync.specs.Rows.{IsOrderOf}
 use Rattle.ray_action.specs.Memory.{Location, Memory}
 use Rattle.ray_action.specs.Areas.{cover}
 use Rattle.ray_action.specs.Action.{areas_read}
@@ -20,7 +20,6 @@ use Rattle.ray_action.specs.Running.{action_at}
 use Rattle.ray_action.specs.Storing.{writes}
 use Rattle.ray_ready.specs.Accepted.{refused_from}
 use Rattle.ray_ready.specs.Laws.{IsGiven, first_actions}
-use Rattle.ray_permitted.specs.Rules.{BreakNoRule}
 use Rattle.ray_permitted.specs.Work.{command_at, stores_nothing, work_of}
 use Rattle.ray_permitted.proofs.Fetching.{chains_rise, orderly}
 use Rattle.ray_permitted.proofs.Finding.{waves_are_ready}
@@ -29,22 +28,15 @@ use Rattle.ray_device.specs.Pieces.{piece_action}
 use Rattle.ray_exec.specs.Given.{AreReady}
 use Rattle.ray_exec.specs.Progress.{IsDone, IsStopAt, wave_of}
 use Rattle.ray_exec.specs.Settled.{AreApart}
-use Rattle.ray_exec.specs.Waves.{IsPart, commands_of_wave, pieces_below, wave_at}
+use Rattle.ray_exec.specs.Waves.{AreRun, IsPart, commands_of_wave, pieces_below, wave_at}
 use Rattle.ray_exec.proofs.Lists.{map-among}
 use Rattle.ray_exec.proofs.Numbering.{action_is, command_is, commands_rise, is_part, numbers_are, numbers_in, numbers_rise, numbers_there, piece_at, wave_pieces}
-
--- what is known of the commands that run
-pub record AreRun (rec : List Command) (rows : List Row) (n : ℕ) : Type 0 where
-  pub rules : BreakNoRule rec n
-  pub within : n ≤ length rec
-  pub order : IsOrderOf rec rows
-  pub ordered : n ≤ length rows
 
 pub rising : (rec : List Command) (rows : List Row) (n : ℕ) → AreRun rec rows n → AreRising (work_of rec n).device (wave_of rec rows n) (work_of rec n).count
 rising rec rows n run =
     let ordered : n ≤ length rows = run.ordered in
     waves_rise (work_of rec n) (wave_of rec rows n) (orderly rec n run.rules).ordered
-    (chains_rise rec n (wave_at rows) (λ i l. (run.order.are i (omega (arith, l, ordered))).wave))
+    (chains_rise rec (before (barriers rec) rec) n (wave_at rows) (λ i l. (run.order.are i (omega (arith, l, ordered))).wave))
 
 -- ---- the numbers of a wave
 
@@ -101,7 +93,7 @@ pub ready_in : (rec : List Command) (rows : List Row) (n v : ℕ) (memory : Memo
     → IsDone rec rows n v memory text stop → (p : ℕ) → IsAmong p (numbers_in rec rows n v (refused_from n stop)) → IsReady (action_at (first_actions rec n) p) memory
 ready_in rec rows n v memory text stop run done p a =
     let is = (in_wave rec rows n v memory text stop run done.bound done.done.within done.stopped p).0 a in
-    waves_are_ready rec n (wave_of rec rows n) v done.bound p memory run.rules (rising rec rows n run) done.done is.0 is.1
+    waves_are_ready rec (before (barriers rec) rec) n (wave_of rec rows n) v done.bound p memory run.rules.accepted (rising rec rows n run) done.done is.0 is.1
 
 -- each piece of a wave is ready
 pub wave_ready : (rec : List Command) (rows : List Row) (n v : ℕ) (memory : Memory) (text : List ℕ) (stop : Option Refusal) → AreRun rec rows n

@@ -17,6 +17,7 @@ use Rattle.ray_cmd.specs.declared.structure_kind.StructureKind.TheVariants as ki
 use Rattle.ray_rules.specs.declared.live_structure.LiveStructure.{LiveStructure}
 use Rattle.ray_rules.specs.Ids.{look}
 use Rattle.ray_rules.specs.Status.{Status}
+use Rattle.ray_rules.specs.Kinds.{kind_of}
 use Rattle.ray_action.specs.Action.{Action, Building, Rest}
 use Rattle.ray_action.specs.Outcomes.{Output}
 use Rattle.ray_action.specs.Pieces.{actions_of, building, bottom_action, top_action_of, top_action, info_action_by, info_action_on, info_actions, region_action, rays_action, trace_pieces}
@@ -68,7 +69,7 @@ rays-silent rec z top rays hits count flags mask script [] = tt
 rays-silent rec z top rays hits count flags mask script (k ∷ ks) = (λ o. refl, rays-silent rec z top rays hits count flags mask script ks)
 
 all-silent : (rec : List Command) (z : Status) (c : Command) → is_device c ≡ true → AreSilent (actions_of rec z c)
-unfolding actions_of
+unfolding kind_of actions_of
 all-silent rec z (commands.Buffer id size usage content) is = absurd cc
 all-silent rec z (commands.Structure id kind buffer offset size) is = absurd cc
 all-silent rec z (commands.Destroy what id) is = absurd cc
@@ -86,7 +87,7 @@ all-silent rec z (commands.CopyStructure mode src dst) is = (λ o. refl, tt)
 all-silent rec z (commands.Serialize src dst) is = (λ o. refl, tt)
 all-silent rec z (commands.Deserialize src dst uses) is = (λ o. refl, tt)
 all-silent rec z (commands.Property what structures dst) is = (λ o. refl, tt)
-all-silent rec z (commands.Barrier src_stages src_access dst_stages dst_access) is = (λ o. refl, tt)
+all-silent rec z (commands.Barrier src_stages src_access dst_stages dst_access buffers) is = (λ o. refl, tt)
 all-silent rec z (commands.Trace top rays count hits flags mask script) is =
     rays-silent rec z top rays hits count flags mask script (range_with_len 0 (trace_pieces count))
 

@@ -10,7 +10,10 @@ use Rattle.ray_schedule.specs.Waves.{EachLater, IsAmong}
 use Rattle.ray_cmd.specs.declared.command.Command.{Command}
 use Rattle.ray_cmd.specs.declared.command.Command.TheVariants as commands
 use Rattle.ray_rules.specs.Hazards.{status_at}
-use Rattle.ray_rules.specs.Order.{HostCommand, before, kind_at, kind_before, kind_of}
+use Rattle.ray_rules.specs.declared.kind.Kind.{Kind}
+use Rattle.ray_rules.specs.declared.kind.Kind.TheVariants.{Device, Barrier, HostCommand}
+use Rattle.ray_rules.specs.Kinds.{is_by_host, kind_of}
+use Rattle.ray_rules.specs.Order.{barriers, before, kind_at, kind_before}
 use Rattle.ray_sync.specs.declared.order.Row.{Row}
 use Rattle.ray_action.specs.Action.{Action}
 use Rattle.ray_action.specs.Outcomes.{Outcome, Gives, Breaks, Undefined}
@@ -23,42 +26,24 @@ use Rattle.ray_permitted.specs.Work.{command_at, work_of}
 use Rattle.ray_permitted.proofs.Fetching.{chains_rise}
 use Rattle.ray_device.specs.Pieces.{is_device}
 use Rattle.ray_exec.specs.Progress.{actions_before, texts, wave_of}
-use Rattle.ray_exec.specs.Waves.{wave_at}
+use Rattle.ray_exec.specs.Waves.{AreRun, wave_at}
 use Rattle.ray_exec.proofs.Lists.{among-range, range-rises}
 use Rattle.ray_exec.proofs.Numbering.{action_is, as_many, command_is, commands_rise, is_part, numbers_in, piece_at}
-use Rattle.ray_exec.proofs.OneWave.{AreRun}
 use Rattle.ray_exec.proofs.Silent.{part_silent}
 use Rattle.ray_exec.proofs.Telling.{HaveTexts, texts_more}
 
 -- ---- commands of the host come before all later ones
 
-host_kind : (c : Command) → is_device c ≡ false → kind_of c ≡ HostCommand
-unfolding kind_of
-host_kind (commands.Buffer id size usage content) host = refl
-host_kind (commands.Structure id kind buffer offset size) host = refl
-host_kind (commands.Destroy what id) host = refl
-host_kind (commands.Sizes kind counts) host = refl
-host_kind commands.Begin host = refl
-host_kind commands.End host = refl
-host_kind commands.Submit host = refl
-host_kind commands.Wait host = refl
-host_kind (commands.Read buffer offset size form) host = refl
-host_kind (commands.Update buffer offset content) host = absurd cc
-host_kind (commands.Fill buffer offset size value) host = absurd cc
-host_kind (commands.Copy src dst regions) host = absurd cc
-host_kind (commands.Build infos) host = absurd cc
-host_kind (commands.CopyStructure mode src dst) host = absurd cc
-host_kind (commands.Serialize src dst) host = absurd cc
-host_kind (commands.Deserialize src dst uses) host = absurd cc
-host_kind (commands.Property what structures dst) host = absurd cc
-host_kind (commands.Barrier src_stages src_access dst_stages dst_access) host = absurd cc
-host_kind (commands.Trace top rays count hits flags mask script) host = absurd cc
+host_kind : (kind : Kind) → not (is_by_host kind) ≡ false → kind ≡ HostCommand
+host_kind (Device stage) host = absurd cc
+host_kind Barrier host = absurd cc
+host_kind HostCommand host = refl
 
-host_before : (rec : List Command) (i j : ℕ) → i < length rec → i < j → is_device (actions.command_at rec i) ≡ false → before rec i j ≡ true
+host_before : (rec : List Command) (i j : ℕ) → i < length rec → i < j → is_device (actions.command_at rec i) ≡ false → before (barriers rec) rec i j ≡ true
 host_before rec i j within less host =
     let kind : kind_at rec i ≡ HostCommand =
-    ap (λ found. option_map_or kind_of found HostCommand) (slice_get-get_or rec i commands.Begin within) ∙ host_kind (actions.command_at rec i) host in
-    and_from (nat_lt i j) (kind_before rec i j (kind_at rec i) (kind_at rec j)) (lt-ltb i j less) (ap (λ k. kind_before rec i j k (kind_at rec j)) kind)
+    ap (λ found. option_map_or kind_of found HostCommand) (slice_get-get_or rec i commands.Begin within) ∙ host_kind (kind_of (actions.command_at rec i)) host in
+    and_from (nat_lt i j) (kind_before (barriers rec) rec i j (kind_at rec i) (kind_at rec j)) (lt-ltb i j less) (ap (λ k. kind_before (barriers rec) rec i j k (kind_at rec j)) kind)
 
 -- ---- which actions have a text
 
@@ -117,7 +102,7 @@ have_texts rec rows n run =
             | inr differs ↦
                 (let below : i < n = subst (λ k. k < n) (sym (command_is rec n p run.within before_it)) (is_part rec n p run.within before_it).1 in
                 let rises : wave_of rec rows n p < wave_of rec rows n q =
-                chains_rise rec n (wave_at rows) (λ k l. (run.order.are k (omega (arith, l, ordered))).wave) p q before_it inside
+                chains_rise rec (before (barriers rec) rec) n (wave_at rows) (λ k l. (run.order.are k (omega (arith, l, ordered))).wave) p q before_it inside
                 (host_before rec i j (omega (arith, below, within)) (omega (arith, upto, differs)) (is-false (is_device (actions.command_at rec i)) first)) in
                 omega (arith, rises))
           ]);

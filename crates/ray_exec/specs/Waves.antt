@@ -1,13 +1,21 @@
 -- Words that private contracts cite: the waves of a recording, and the pieces of each.
-use Rattle.std.specs.Prelude.{ℕ, ◌≡◌, ◌<◌, List, [], ◌∷◌, ◌++◌, filter, flat_map, map, length, slice_get, Some, Vec, nat_lt, ◌==◌, if◌then◌else◌}
+use Rattle.std.specs.Prelude.{ℕ, ◌≡◌, ◌<◌, ◌≤◌, List, [], ◌∷◌, ◌++◌, filter, flat_map, map, length, slice_get, Some, Vec, nat_lt, ◌==◌, if◌then◌else◌}
 use Rattle.std.specs.List.{range_with_len}
 use Rattle.std.specs.declared.alloc.Global.{Global}
 use Rattle.ray_cmd.specs.declared.command.Command.{Command}
 use Rattle.ray_action.specs.Pieces.{command_at}
 use Rattle.ray_sync.specs.declared.order.Row.{Row}
-use Rattle.ray_sync.specs.Rows.{row_at}
+use Rattle.ray_sync.specs.Rows.{IsOrderOf, row_at}
+use Rattle.ray_permitted.specs.Rules.{BreakNoRule}
 use Rattle.ray_device.specs.declared.piece.Piece.{Piece}
 use Rattle.ray_device.specs.Pieces.{is_device, piece_count}
+
+-- what is known of the commands below a number that run: none breaks a rule, and rows are their order
+pub record AreRun (rec : List Command) (rows : List Row) (n : ℕ) : Type 0 where
+  pub rules : BreakNoRule rec n
+  pub within : n ≤ length rec
+  pub order : IsOrderOf rec rows
+  pub ordered : n ≤ length rows
 
 -- the wave of command number i
 abbrev pub wave_at : List Row → ℕ → ℕ

@@ -9,11 +9,11 @@ ghost use Rattle.ray_exec.specs.Waves.{IsPart};
 use crate::drawing::{Drawn, Worked, fork};
 use crate::gate::Gate;
 use crate::given::{Given, given_now};
-use crate::host::is_host;
 use ray_claim::{ClaimSeat, Claims};
 use ray_cmd::{Command, Recording};
 use ray_device::Piece;
 use ray_memory::State;
+use ray_rules::{Kind, kind_of};
 use std::alloc::{AllocError as NoMemory, Global};
 use std::thread::Threads;
 
@@ -125,7 +125,10 @@ fn is_long(command: &Command) -> bool {
 
 // Whether the fetch of a command's piece may do anything.
 fn reads(command: &Command) -> bool {
-    !is_host(command) && !matches!(command, Command::Barrier { .. })
+    match kind_of(command) {
+        Kind::Device(_) => true,
+        Kind::Barrier | Kind::HostCommand => false,
+    }
 }
 
 // How many pieces there are, where numbers of 32 bits tell it.

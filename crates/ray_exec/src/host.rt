@@ -7,24 +7,16 @@ ghost use Rattle.ray_exec.specs.Steps.{IsShown};
 
 use ray_cmd::{Command, Recording};
 use ray_memory::State;
+use ray_rules::{Kind, kind_of};
 use std::alloc::AllocError as NoMemory;
 
 // Whether a command is done by the host.
 pub(crate) fn is_host(command: &Command) -> bool
     ensures { result ≡ not (is_device command.now) }
 {
-    match command {
-        Command::Update { .. }
-        | Command::Fill { .. }
-        | Command::Copy { .. }
-        | Command::Build { .. }
-        | Command::CopyStructure { .. }
-        | Command::Serialize { .. }
-        | Command::Deserialize { .. }
-        | Command::Property { .. }
-        | Command::Barrier { .. }
-        | Command::Trace { .. } => false,
-        _ => true,
+    match kind_of(command) {
+        Kind::HostCommand => true,
+        Kind::Device(_) | Kind::Barrier => false,
     }
 }
 

@@ -1,12 +1,10 @@
 ghost use Rattle.std.specs.Prelude.{◌≡◌, ◌<◌, ◌≤◌, ◌+◌, length, IfOk, OnOk};
 ghost use Rattle.ray_action.specs.Memory.{Location, nothing_live};
 ghost use Rattle.ray_memory.specs.State.{memory_of};
-ghost use Rattle.ray_permitted.specs.Rules.{BreakNoRule};
 ghost use Rattle.ray_ready.specs.Accepted.{refused_from};
-ghost use Rattle.ray_sync.specs.Rows.{IsOrderOf};
 ghost use Rattle.ray_exec.specs.Progress.{IsDone, least};
 ghost use Rattle.ray_exec.specs.Runs.{memory_below, run_below, IsRun};
-ghost use Rattle.ray_exec.specs.Waves.{AreWavesOf};
+ghost use Rattle.ray_exec.specs.Waves.{AreRun, AreWavesOf};
 
 use crate::gate::Gate;
 use crate::gathering::fetch_wave;
@@ -33,10 +31,7 @@ pub(crate) fn run_in_waves<R: Threads + Sync, G: Gate + Sync>(
     gate: &G,
 ) -> Result<Vec<u8>, RunFault>
     requires new { (l : Location) → memory_of state.old l ≡ nothing_live l }
-    requires within { until ≤ length rec.now }
-    requires rules { BreakNoRule rec.now until }
-    requires order { IsOrderOf rec.now order.now }
-    requires ordered { until ≤ length order.now }
+    requires run { AreRun rec.now order.now until }
     requires workers { workers ≤ 64 }
     ensures run { IsRun (run_below rec.now until) result }
     ensures left { OnOk result ((l : Location) → memory_of state.new l
@@ -76,10 +71,7 @@ fn run_wave<R: Threads + Sync, G: Gate + Sync>(
     stop: Option<Refusal>,
     text: &mut Vec<u8>,
 ) -> Result<Option<Refusal>, NoMemory>
-    requires within { until ≤ length rec.now }
-    requires rules { BreakNoRule rec.now until }
-    requires order { IsOrderOf rec.now order.now }
-    requires ordered { until ≤ length order.now }
+    requires run { AreRun rec.now order.now until }
     requires waves { AreWavesOf order.now until until waves.now.items }
     requires wave { wave < length waves.now.items }
     requires workers { workers ≤ 64 }

@@ -2,13 +2,15 @@
 use Rattle.std.proofs.Common.{◌≡◌, ◌≤◌, List, [], ◌∷◌, Option, refl, sym, ◌∙◌, ap, subst, arith, length, take}
 use Rattle.ray_cmd.specs.declared.command.Command.{Command}
 use Rattle.ray_cmd.specs.declared.refusal.Refusal.{Refusal}
+use Rattle.ray_cmd.specs.Sources.{AreSourced}
+use Rattle.ray_rules.specs.Order.{barriers, before}
 use Rattle.ray_rules.specs.Status.{at_first}
 use Rattle.ray_rules.specs.Verdict.{rule_refusal}
 use Rattle.ray_action.specs.Memory.{nothing_live}
 use Rattle.ray_action.specs.Pieces.{actions_from}
 use Rattle.ray_action.specs.Running.{run_from, run_of}
 use Rattle.ray_ready.specs.Accepted.{refused_from}
-use Rattle.ray_permitted.specs.Laws.{RecordingsComeToTheirRun}
+use Rattle.ray_permitted.specs.Laws.{RecordingComesToItsRun}
 use Rattle.ray_permitted.proofs.Fetching.{orderly}
 use Rattle.ray_permitted.proofs.Refused.{break_no_rule}
 use Rattle.ray_permitted.proofs.Runs.{comes_to_the_run}
@@ -17,10 +19,10 @@ all_taken : (rec : List Command) → take (length rec) rec ≡ rec
 all_taken [] = refl
 all_taken (c ∷ rec) = ap (λ cs. c ∷ cs) (all_taken rec)
 
-pub come_to_their_run : RecordingsComeToTheirRun
+pub comes_to_its_run : (rec : List Command) → AreSourced rec → RecordingComesToItsRun rec
 unfolding run_of
-come_to_their_run rec es kept built permitted =
-    let all : length rec ≤ refused_from (length rec) (rule_refusal rec) =
+comes_to_its_run rec sourced es kept permitted =
+    let all : length rec ≤ refused_from (length rec) (rule_refusal (barriers rec) rec) =
     subst (λ (r : Option Refusal). length rec ≤ refused_from (length rec) r) (sym kept) (omega arith) in
-    comes_to_the_run rec (length rec) es (orderly rec (length rec) (break_no_rule rec (length rec) all built)) permitted
+    comes_to_the_run rec (before (barriers rec) rec) (length rec) es (orderly rec (length rec) (break_no_rule rec sourced (length rec) all)) permitted
     ∙ ap (λ cs. run_from nothing_live (actions_from rec 0 at_first cs)) (all_taken rec)

@@ -21,6 +21,7 @@ use Rattle.ray_rules.specs.Order.{last_wait}
 use Rattle.ray_rules.specs.Phases.{is_same_phase, phase_needed, v28, v29}
 use Rattle.ray_rules.specs.Refusals.{AreKept, static_table}
 use Rattle.ray_rules.specs.Status.{Status}
+use Rattle.ray_rules.specs.Kinds.{kind_of}
 use Rattle.ray_action.specs.Action.{Action, MakeBuffer, MakeStructure, Rest, ShowSizes}
 use Rattle.ray_action.specs.Areas.{is_form, is_size}
 use Rattle.ray_action.specs.Memory.{Location, ByteAt, BufferAt, StructureAt, ContentsAt}
@@ -75,7 +76,7 @@ idle_at_destroy z what id keeps =
 -- ---- what goes after a device command goes behind a wait
 
 no_stage : (what : Thing) (id : ℕ) (c : Command) (s : Stage) → c ≡ commands.Destroy what id → stage_of c ≡ Some s → ⊥
-unfolding stage_of
+unfolding stage_of kind_of
 no_stage what id c s same stage = none (sym (ap stage_of same) ∙ stage)
   where
     none : None ≡ Some s → ⊥

@@ -9,8 +9,9 @@ use Rattle.ray_schedule.specs.Events.{Event, Stores, beginning, run, unit_of}
 use Rattle.ray_schedule.specs.Progress.{AreRising, IsDoneTo}
 use Rattle.ray_schedule.specs.Schedules.{IsPermitted, StandsAt}
 use Rattle.ray_schedule.proofs.Course.{MayFetch, reads_in_order}
-use Rattle.ray_schedule.proofs.Permitted.{may_store, on_course, storing, unit-stores, unit_below}
+use Rattle.ray_schedule.proofs.Permitted.{in_order, may_store, on_course, storing, unit-stores, unit_below}
 use Rattle.ray_schedule.proofs.Places.{StoredBefore}
+use Rattle.ray_schedule.proofs.Waving.{may_fetch_in_wave}
 use Rattle.ray_cmd.specs.declared.command.Command.{Command}
 use Rattle.ray_action.specs.Memory as actions
 use Rattle.ray_action.specs.Outcomes.{Outcome, Gives, Breaks, Undefined, outcome_of}
@@ -20,23 +21,13 @@ use Rattle.ray_action.specs.Running as running
 use Rattle.ray_ready.specs.Laws.{AreSources, IsGiven, first_actions}
 use Rattle.ray_ready.proofs.Local.{ready_local}
 use Rattle.ray_permitted.specs.Laws.{AtEachStore, StoresAreReady, StoresFindTheSame, WavesAreReady, WavesReadTheSame}
-use Rattle.ray_permitted.specs.Work.{stores_nothing, work_of}
-use Rattle.ray_permitted.proofs.Fetching.{orderly, ready_by_sources}
+use Rattle.ray_permitted.specs.Work.{stores_nothing, work_in}
+use Rattle.ray_permitted.proofs.Fetching.{ready_by_sources, separated_orderly}
 use Rattle.ray_permitted.proofs.Runs.{memory_is}
 
 -- ---- any device
 
 module _ {Location : Type 0} {Held : Location → Type 0} {Outcome : Type 0} (d : Device Held Outcome) (start : Memory Held) (before : ℕ → ℕ → Bool) (n : ℕ) (es : List Event) where
-  -- of two events whose units are ordered, the first stands before the second
-  ordered_places :
-      (i j p q : ℕ) (e f : Event) → IsPermitted d before n es → StandsAt es i e → StandsAt es j f
-      → unit_of e ≡ p → unit_of f ≡ q → before (d.command p) (d.command q) ≡ true → i < j
-  ordered_places i j p q e f permitted at to is it h =
-      permitted.ordered e f
-      (subst (λ a. before (d.command a) (d.command (unit_of f)) ≡ true) (sym is)
-      (subst (λ b. before (d.command p) (d.command b) ≡ true) (sym it) h))
-      i j at to
-
   -- a unit that is being stored could be fetched once more
   may_fetch_again :
       (i p : ℕ) (e : Event) → AreOrdered d before n → IsPermitted d before n es → StandsAt es i e → Stores e p → MayFetch d (StoredBefore es i) p
@@ -51,7 +42,7 @@ module _ {Location : Type 0} {Held : Location → Type 0} {Outcome : Type 0} (d 
             record {
               place = stands.0;
               event = f.0;
-              below = ordered_places stands.0 i q p f.0 e permitted stands.1 at (unit-stores f.0 q f.2) is
+              below = in_order d before n es stands.0 i q p f.0 e permitted stands.1 at (unit-stores f.0 q f.2) is
                   (ordered q p l m (omega (arith, is, within)) (ReadAfterWrite w r));
               stands = stands.1;
               stores = f.2;
@@ -62,7 +53,7 @@ module _ {Location : Type 0} {Held : Location → Type 0} {Outcome : Type 0} (d 
               (let it : unit_of s.event ≡ q = unit-stores s.event q s.stores in
               let inside : unit_of s.event < n = unit_below d n s.event (permitted.schedule.only s.place s.event s.stands) in
               let below : s.place < i = s.below in
-              let after : i < s.place = ordered_places i s.place p q e s.event permitted at s.stands is it
+              let after : i < s.place = in_order d before n es i s.place p q e s.event permitted at s.stands is it
               (ordered p q l (omega arith) (omega arith) (WriteAfterRead r w)) in
               absurd (omega (arith, below, after)))
         ];
@@ -79,70 +70,47 @@ module _ {Location : Type 0} {Held : Location → Type 0} {Outcome : Type 0} (d 
       (may_fetch_again i p e ordered permitted at stores) l reads
 
 module _ {Location : Type 0} {Held : Location → Type 0} {Outcome : Type 0} (work : Work Held Outcome) where
-  -- a unit of the next wave may be fetched
-  may_fetch_next :
-      (number : ℕ → ℕ) (v bound p : ℕ) (memory : Memory Held) → AreRising work.device number work.count
-      → (done : IsDoneTo work number v bound memory) → p < bound → number p ≡ v
-      → MayFetch work.device (λ q. done.stored q ≡ true) p
-  may_fetch_next number v bound p memory rising done below is =
-      let within : bound ≤ work.count = done.within in
-      record {
-        earlier = λ l q r m w.
-            let rises : number q < number p = rising q p l m (omega arith) (ReadAfterWrite w r) in
-            done.all q (omega arith) (omega arith);
-        later = λ l q r g w s.
-            let of = done.only q s in
-            let inside : q < work.count = of.0 in
-            let before : number q < v = of.1 in
-            elim (cases_eq q p) [
-              | inl same ↦ (let e : number q ≡ number p = ap number same in absurd (omega arith))
-              | inr differs ↦
-                  (let rises : number p < number q = rising p q l (omega arith) inside (WriteAfterRead r w) in
-                  absurd (omega arith))
-            ];
-      }
-
   waves_read :
       (number : ℕ → ℕ) (v bound p : ℕ) (memory : Memory Held) → AreRising work.device number work.count
       → IsDoneTo work number v bound memory → p < bound → number p ≡ v
       → (l : Location) → work.device.reads p l ≡ true → memory l ≡ memory_before work.device work.start p l
   waves_read number v bound p memory rising done below is l reads =
       reads_in_order work.device work.start (λ q. done.stored q ≡ true) memory p done.sound
-      (may_fetch_next number v bound p memory rising done below is) l reads
+      (may_fetch_in_wave work number v bound p memory rising done below is) l reads
 
 -- ---- the work of commands
 
 stores_find : StoresFindTheSame
-stores_find rec n es i p e rules permitted at stores = λ l reads.
-    let o = orderly rec n rules in
-    let w = work_of rec n in
+stores_find rec order n es i p e accepted separates permitted at stores = λ l reads.
+    let o = separated_orderly rec order n accepted separates in
+    let w = work_in rec order n in
     store_finds_all w.device w.start w.before w.count es o.local o.ordered permitted i p e l at stores reads
     ∙ (λ j. memory_is rec (first_actions rec n) p j l)
 
 stores_ready : StoresAreReady
-stores_ready rec n es i p e rules permitted at stores ready =
+stores_ready rec order n es i p e accepted separates permitted at stores ready =
     ready_local (action_at (first_actions rec n) p) (running.memory_before (first_actions rec n) p) _
-    (λ l reads. sym (stores_find rec n es i p e rules permitted at stores l reads)) ready
+    (λ l reads. sym (stores_find rec order n es i p e accepted separates permitted at stores l reads)) ready
 
 pub at_each_store : AtEachStore
 at_each_store = record { reads = stores_find; ready = stores_ready }
 
 pub waves_read_the_same : WavesReadTheSame
-waves_read_the_same rec n number v bound p memory rising done below is = λ l reads.
-    waves_read (work_of rec n) number v bound p memory rising done below is l reads
+waves_read_the_same rec order n number v bound p memory rising done below is = λ l reads.
+    waves_read (work_in rec order n) number v bound p memory rising done below is l reads
     ∙ (λ j. memory_is rec (first_actions rec n) p j l)
 
 -- ---- readiness in a wave
 
-given_from : (x : Outcome) → stores_nothing x ≡ false → IsGiven x
+pub given_from : (x : Outcome) → stores_nothing x ≡ false → IsGiven x
 given_from (Gives output) e = tt
 given_from (Breaks fault) e = absurd cc
 given_from Undefined e = absurd cc
 
-wave_sources : (rec : List Command) (n : ℕ) (number : ℕ → ℕ) (v bound p : ℕ) (memory : actions.Memory)
-    → AreRising (work_of rec n).device number (work_of rec n).count → IsDoneTo (work_of rec n) number v bound memory → p < bound → number p ≡ v
+wave_sources : (rec : List Command) (order : ℕ → ℕ → Bool) (n : ℕ) (number : ℕ → ℕ) (v bound p : ℕ) (memory : actions.Memory)
+    → AreRising (work_in rec order n).device number (work_in rec order n).count → IsDoneTo (work_in rec order n) number v bound memory → p < bound → number p ≡ v
     → AreSources (first_actions rec n) (λ q. nat_lt (number q) v || q == p) p
-wave_sources rec n number v bound p memory rising done below is =
+wave_sources rec order n number v bound p memory rising done below is =
     let us : List Numbered = first_actions rec n in
     let within : bound ≤ length us = done.within in
     record {
@@ -163,10 +131,10 @@ wave_sources rec n number v bound p memory rising done below is =
     }
 
 pub waves_are_ready : WavesAreReady
-waves_are_ready rec n number v bound p memory rules rising done below is =
+waves_are_ready rec order n number v bound p memory accepted rising done below is =
     let us : List Numbered = first_actions rec n in
     let within : bound ≤ length us = done.within in
     ready_local (action_at us p) (running.memory_before us p) memory
-    (λ l reads. sym (waves_read_the_same rec n number v bound p memory rising done below is l reads))
-    (ready_by_sources rec n p (λ q. nat_lt (number q) v || q == p) rules (omega (arith, below, within))
-    (or_right (nat_lt (number p) v) (p == p) (eq-eqb p p refl)) (wave_sources rec n number v bound p memory rising done below is))
+    (λ l reads. sym (waves_read_the_same rec order n number v bound p memory rising done below is l reads))
+    (ready_by_sources rec n p (λ q. nat_lt (number q) v || q == p) accepted (omega (arith, below, within))
+    (or_right (nat_lt (number p) v) (p == p) (eq-eqb p p refl)) (wave_sources rec order n number v bound p memory rising done below is))

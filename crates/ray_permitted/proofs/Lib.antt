@@ -12,8 +12,10 @@ pub mod Runs
 pub mod Pieces
 pub mod Between
 pub mod Ordered
+pub mod Separating
 pub mod Fetching
 pub mod Finding
+pub mod InTurn
 pub mod Refused
 pub mod All
 pub mod Sample

@@ -22,24 +22,27 @@ use Rattle.ray_rules.specs.declared.byte_range.ByteRange.{ByteRange}
 use Rattle.ray_rules.specs.declared.live_buffer.LiveBuffer.{LiveBuffer}
 use Rattle.ray_rules.specs.declared.live_structure.LiveStructure.{LiveStructure}
 use Rattle.ray_rules.specs.declared.stage.Stage.{Stage}
-use Rattle.ray_rules.specs.Access.{rays_of_piece, stage_of, uses_at}
+use Rattle.ray_rules.specs.Access.{stage_of, uses_at}
 use Rattle.ray_rules.specs.Ids.{look}
 use Rattle.ray_rules.specs.Names.{lacks_buffer, lacks_structure, v1}
 use Rattle.ray_rules.specs.Origins.{uses_of}
 use Rattle.ray_rules.specs.Ranges.{inputs_read, range}
 use Rattle.ray_rules.specs.Sources.{first_stale, is_stale, v21}
 use Rattle.ray_rules.specs.Status.{Status, built_at}
+use Rattle.ray_rules.specs.Kinds.{kind_of}
 use Rattle.ray_action.specs.Action.{Action, Building, CopyStructure, DeserializeStructure, FillBytes, SerializeStructure, TellProperty, UpdateBytes, areas_read, content_buffer, geometry_areas, structure_areas}
 use Rattle.ray_action.specs.Areas.{Area, Bytes, ContentsOf, ContentsOfEach, FormOf, cover, covers, has, is_contents_of, is_contents_of_any, is_form, is_in_range, is_size}
 use Rattle.ray_action.specs.Memory.{Location, ByteAt, BufferAt, StructureAt, ContentsAt}
-use Rattle.ray_action.specs.Pieces.{actions_of, bottom_action, building, info_action, info_action_by, info_action_on, info_actions, property_action, rays_action, region_action, stretch_range, top_action, top_action_of, trace_pieces}
+use Rattle.ray_action.specs.Pieces.{actions_of, bottom_action, building, info_action, info_action_by, info_action_on, info_actions, property_action, rays_action, region_action, stretch_range, top_action, top_action_of, trace_pieces, rays_range, hits_range}
 use Rattle.ray_action.specs.Storing.{writes}
 use Rattle.ray_ready.specs.Accepted.{MayRun}
 use Rattle.ray_ready.proofs.Ties.{IsBuilt}
-use Rattle.ray_ready.proofs.Allowed.{AreReadable, AreWithin, IsAllowed, IsLiveOf, IsReadable, IsWithin, MayBuildBottom, MayBuildTop}
+use Rattle.ray_rules.specs.Within.{AreInBuffers, IsInBuffer}
+use Rattle.ray_ready.proofs.Allowed.{AreReadable, IsAllowed, IsLiveOf, IsReadable, MayBuildBottom, MayBuildTop}
 use Rattle.ray_ready.proofs.Infos.{AreAllowedFrom}
 use Rattle.ray_ready.proofs.InfoRules.{infos_allowed}
-use Rattle.ray_ready.proofs.Kept.{Fail, fails_at, fresh_of, is_there, keeps, no_part, none_any}
+use Rattle.ray_rules.proofs.Kept.{Fail, no_part, none_any}
+use Rattle.ray_ready.proofs.Kept.{fails_at, fresh_of, is_there, keeps}
 use Rattle.ray_permitted.proofs.Truth.{either, is_equal, made_of_item, made_of_number, never_none, no_first, no_second, one_item, or_left, or_right, same_some}
 use Rattle.ray_permitted.proofs.Sharing.{low_of}
 use Rattle.ray_permitted.proofs.Waits.{not_broken}
@@ -99,7 +102,7 @@ has_size : (found : Option LiveBuffer) (at : ℕ) → at < option_map_or (λ (b 
 has_size None at less = absurd (omega (arith, less))
 has_size (Some b) at less = refl
 
-within_there : (z : Status) (r : ByteRange) (l : Location) → IsWithin z.buffers r → is_in_range r l ≡ true → IsThere z l
+within_there : (z : Status) (r : ByteRange) (l : Location) → IsInBuffer z.buffers r → is_in_range r l ≡ true → IsThere z l
 within_there z r (ByteAt b at) inside e =
     let low = low_of r b at e in
     buffer_is z b r.buffer (has_size (look z.buffers r.buffer) at (inside at low.1 low.2)) low.0
@@ -107,7 +110,7 @@ within_there z r (BufferAt id) inside e = absurd cc
 within_there z r (StructureAt id) inside e = absurd cc
 within_there z r (ContentsAt id) inside e = absurd cc
 
-ranges_there : (z : Status) (rs : List (Option ByteRange)) (l : Location) → AreWithin z.buffers rs → cover (map Bytes (flat_map option_to_list rs)) l ≡ true → IsThere z l
+ranges_there : (z : Status) (rs : List (Option ByteRange)) (l : Location) → AreInBuffers z.buffers rs → cover (map Bytes (flat_map option_to_list rs)) l ≡ true → IsThere z l
 ranges_there z [] l inside e = absurd cc
 ranges_there z (None ∷ rs) l inside e = ranges_there z rs l inside.1 e
 ranges_there z (Some r ∷ rs) l inside e =
@@ -292,8 +295,8 @@ rays_named : (rec : List Command) (z : Status) (top : ℕ) (rays hits : Spot) (c
     → IsSome (look z.structures top) → IsSome (look z.buffers rays.buffer) → IsSome (look z.buffers hits.buffer) → first_stale rec z (built_at z top) ≡ None
     → IsNamed z (rays_action rec z top rays hits count flags mask script k)
 rays_named rec z top rays hits count flags mask script k live from to fresh =
-    let r = range rays.buffer (rays.offset + 40 * (64 * k)) (40 * rays_of_piece count k) in
-    let h = range hits.buffer (hits.offset + 80 * (64 * k)) (80 * rays_of_piece count k) in
+    let r = rays_range rays count k in
+    let h = hits_range hits count k in
     let uses = uses_at rec z top in record {
       reads = λ l e.
           either (is_in_range r l) (cover (ContentsOf top ∷ (ContentsOfEach uses ∷ [])) l) e
@@ -309,7 +312,7 @@ rays_named rec z top rays hits count flags mask script k live from to fresh =
 
 pub named : (rec : List Command) (z : Status) (c : Command) (s : Stage) (k : ℕ) (a : Action) → MayRun rec z c → stage_of c ≡ Some s
     → slice_get (actions_of rec z c) k ≡ Some a → IsNamed z a
-unfolding actions_of stage_of v1 v21
+unfolding actions_of stage_of kind_of v1 v21
 named rec z (commands.Update buffer offset content) s k a may stage there =
     let keep = keeps rec z (commands.Update buffer offset content) may.rules in
     subst (IsNamed z) (one_item _ a k there).1

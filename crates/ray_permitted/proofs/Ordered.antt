@@ -1,21 +1,22 @@
--- Conflicting actions of commands that break no rule are ordered.
-use Rattle.std.proofs.Common.{◌≡◌, ◌<◌, ◌≤◌, ℕ, true, false, List, [], ◌∷◌, Some, None, inl, inr, refl, sym, ◌∙◌, ap, subst, arith}
-use Rattle.std.specs.Prelude.{◌||◌, nat_lt, slice_get, unwrap_or}
+-- Conflicting actions of accepted commands are ordered by an order that separates these.
+use Rattle.std.proofs.Common.{◌≡◌, ◌<◌, ◌≤◌, ℕ, Bool, true, false, List, [], ◌∷◌, Some, inl, inr, refl, sym, ◌∙◌, ap, subst, arith}
+use Rattle.std.specs.Prelude.{◌||◌, slice_get, unwrap_or}
 use Rattle.std.specs.Option.{option_map_or}
 use Rattle.std.proofs.lemmas.Bool.{cases_eq, cases_lt}
 use Rattle.ray_schedule.specs.Conflicts.{AreOrdered, Conflict, IsForward, ReadAfterWrite, WriteAfterRead, WriteAfterWrite}
 use Rattle.ray_cmd.specs.declared.command.Command.{Command}
 use Rattle.ray_cmd.specs.declared.command.Command.TheVariants as commands
 use Rattle.ray_rules.specs.declared.stage.Stage.{Stage}
-use Rattle.ray_rules.specs.declared.stage.Stage.TheVariants.{Transfer, Build, Compute}
+use Rattle.ray_rules.specs.declared.stage.Stage.TheVariants.{Transfer, Build, StructureCopy, Compute}
 use Rattle.ray_rules.specs.Access.{accesses_of, no_access, stage_of}
-use Rattle.ray_rules.specs.Hazards.{accesses_at, stage_at, status_at}
+use Rattle.ray_rules.specs.Hazards.{accesses_at, status_at}
 use Rattle.ray_rules.specs.Ids.{is_live}
 use Rattle.ray_rules.specs.Names.{lacks_buffer, v1}
-use Rattle.ray_rules.specs.Order.{Kind, Device, Barrier, HostCommand, before, is_device, is_ordered_to, kind_at, kind_before, kind_of, last_wait, takes_stage}
-use Rattle.ray_rules.specs.Refusals.{AreKept}
+use Rattle.ray_rules.specs.declared.kind.Kind.{Kind}
+use Rattle.ray_rules.specs.declared.kind.Kind.TheVariants.{Device, Barrier, HostCommand}
+use Rattle.ray_rules.specs.Kinds.{kind_of}
+use Rattle.ray_rules.specs.Order.{kind_at, last_wait}
 use Rattle.ray_rules.specs.Status.{Status}
-use Rattle.ray_rules.specs.Verdict.{hazard_table}
 use Rattle.ray_action.specs.Action.{Action, MakeBuffer, MakeStructure, Rest, areas_read}
 use Rattle.ray_action.specs.Areas.{cover}
 use Rattle.ray_action.specs.Memory.{Location}
@@ -23,16 +24,16 @@ use Rattle.ray_action.specs.Pieces.{Numbered, actions_of, host_action}
 use Rattle.ray_action.specs.Running.{action_at}
 use Rattle.ray_action.specs.Storing.{writes}
 use Rattle.ray_action.specs.Touching.{holds_data, touched}
-use Rattle.ray_ready.specs.Accepted.{MayRun}
+use Rattle.ray_ready.specs.Accepted.{IsAccepted, MayRun}
 use Rattle.ray_ready.specs.Laws.{first_actions}
 use Rattle.ray_ready.proofs.Kept.{keeps}
-use Rattle.ray_permitted.specs.Rules.{BreakNoRule}
-use Rattle.ray_permitted.specs.Work.{command_at, device_of, work_of}
-use Rattle.ray_permitted.proofs.Truth.{and_first, both, is_less, item_at, less_is, no_first, one_item, same_some}
-use Rattle.ray_permitted.proofs.Waits.{device_busy, is_busy, not_broken, wait_between, wait_orders}
-use Rattle.ray_permitted.proofs.Units.{AreTwo, two_at, unit_is}
+use Rattle.ray_permitted.specs.Separates.{GoesForward, Separates, accesses_conflict}
+use Rattle.ray_permitted.specs.Work.{command_at, device_of, work_in}
+use Rattle.ray_permitted.proofs.Truth.{item_at, no_first, one_item, or_left, or_right, same_some}
+use Rattle.ray_permitted.proofs.Waits.{device_busy, is_busy, not_broken, wait_between}
+use Rattle.ray_permitted.proofs.Units.{AreTwo, piece_at, two_at, unit_is}
 use Rattle.ray_permitted.proofs.Named.{IsThere, named}
-use Rattle.ray_permitted.proofs.Sharing.{IsOneThing, read_after_write, write_after_read, write_after_write}
+use Rattle.ray_permitted.proofs.Sharing.{IsOneThing, some_shared}
 use Rattle.ray_permitted.proofs.InfosApart.{Clash, BothWrite, ReadsLater, WritesLater}
 use Rattle.ray_permitted.proofs.Parts.{pieces_apart}
 use Rattle.ray_permitted.proofs.Pieces.{piece_reads, piece_writes}
@@ -42,7 +43,7 @@ use Rattle.ray_permitted.proofs.Between.{clash_there, idle_at_destroy, idle_at_r
 
 -- a command of the device with a stage, a barrier, or a command of the host
 data Sort (c : Command) : Type 0 where
-  IsOfDevice : (s : Stage) → stage_of c ≡ Some s → kind_of c ≡ Device s → is_device s ≡ true → Sort c
+  IsOfDevice : (s : Stage) → stage_of c ≡ Some s → kind_of c ≡ Device s → Sort c
   IsBarrier : kind_of c ≡ Barrier → Sort c
   IsOfHost : kind_of c ≡ HostCommand → Sort c
 
@@ -57,21 +58,21 @@ sort commands.End = IsOfHost refl
 sort commands.Submit = IsOfHost refl
 sort commands.Wait = IsOfHost refl
 sort (commands.Read buffer offset size form) = IsOfHost refl
-sort (commands.Update buffer offset content) = IsOfDevice Transfer refl refl refl
-sort (commands.Fill buffer offset size value) = IsOfDevice Transfer refl refl refl
-sort (commands.Copy src dst regions) = IsOfDevice Transfer refl refl refl
-sort (commands.Build infos) = IsOfDevice Build refl refl refl
-sort (commands.CopyStructure mode src dst) = IsOfDevice Build refl refl refl
-sort (commands.Serialize src dst) = IsOfDevice Build refl refl refl
-sort (commands.Deserialize src dst uses) = IsOfDevice Build refl refl refl
-sort (commands.Property what structures dst) = IsOfDevice Build refl refl refl
-sort (commands.Barrier src_stages src_access dst_stages dst_access) = IsBarrier refl
-sort (commands.Trace top rays count hits flags mask script) = IsOfDevice Compute refl refl refl
+sort (commands.Update buffer offset content) = IsOfDevice Transfer refl refl
+sort (commands.Fill buffer offset size value) = IsOfDevice Transfer refl refl
+sort (commands.Copy src dst regions) = IsOfDevice Transfer refl refl
+sort (commands.Build infos) = IsOfDevice Build refl refl
+sort (commands.CopyStructure mode src dst) = IsOfDevice StructureCopy refl refl
+sort (commands.Serialize src dst) = IsOfDevice StructureCopy refl refl
+sort (commands.Deserialize src dst uses) = IsOfDevice StructureCopy refl refl
+sort (commands.Property what structures dst) = IsOfDevice Build refl refl
+sort (commands.Barrier src_stages src_access dst_stages dst_access buffers) = IsBarrier refl
+sort (commands.Trace top rays count hits flags mask script) = IsOfDevice Compute refl refl
 
 -- a barrier has one action, which does nothing
 barrier_rests : (rec : List Command) (z : Status) (c : Command) (k : ℕ) (a : Action) → kind_of c ≡ Barrier → slice_get (actions_of rec z c) k ≡ Some a → (k ≡ 0) × (Rest ≡ a)
 unfolding kind_of actions_of
-barrier_rests rec z (commands.Barrier src_stages src_access dst_stages dst_access) k a kind there = one_item Rest a k there
+barrier_rests rec z (commands.Barrier src_stages src_access dst_stages dst_access buffers) k a kind there = one_item Rest a k there
 barrier_rests rec z _ k a kind there = absurd cc
 
 -- a host command has one
@@ -97,7 +98,7 @@ no_rest_first b l (WritesLater p q) = absurd cc
 
 -- what one command of the device and a later one of the host know of each other
 record Pair (rec : List Command) (n i j : ℕ) (c d : Command) (a b : Action) (l : Location) (k m : ℕ) : Type 0 where
-  rules : BreakNoRule rec n
+  accepted : IsAccepted rec n
   less : i < j
   within : j < n
   first : slice_get rec i ≡ Some c
@@ -110,23 +111,23 @@ is_there : (rec : List Command) (n i j : ℕ) (c d : Command) (s : Stage) (a b :
 is_there rec n i j c d s a b l k m p stage =
     let less : i < j = p.less in
     let within : j < n = p.within in
-    clash_there (status_at rec i) a b l (named rec (status_at rec i) c s k a (p.rules.accepted.each i c (omega (arith, less, within)) p.first) stage p.here) p.clash
+    clash_there (status_at rec i) a b l (named rec (status_at rec i) c s k a (p.accepted.each i c (omega (arith, less, within)) p.first) stage p.here) p.clash
 
 waits : (rec : List Command) (n i j : ℕ) (c d : Command) (s : Stage) (a b : Action) (l : Location) (k m : ℕ) → Pair rec n i j c d a b l k m → stage_of c ≡ Some s → is_busy (status_at rec j) ≡ false
     → i < last_wait rec j
 waits rec n i j c d s a b l k m p stage idle =
     let less : i < j = p.less in
     let within : j < n = p.within in
-    wait_between rec i j (device_busy rec i c s p.first stage (state_kept rec n i c p.rules.accepted (omega (arith, less, within)) p.first).phase) less idle
+    wait_between rec i j (device_busy rec i c s p.first stage (state_kept rec n i c p.accepted (omega (arith, less, within)) p.first).phase) less idle
 
 makes_wait : (rec : List Command) (n i j : ℕ) (c : Command) (s : Stage) (a b : Action) (l : Location) (k m id size : ℕ) (usage : _) (content : _)
     → Pair rec n i j c (commands.Buffer id size usage content) a b l k m → stage_of c ≡ Some s → MakeBuffer id size (unwrap_or content []) ≡ b → i < last_wait rec j
 unfolding v1
 makes_wait rec n i j c s a b l k m id size usage content p stage same =
     let d : Command = commands.Buffer id size usage content in
-    let names = (state_kept rec n j d p.rules.accepted p.within p.second).names in
+    let names = (state_kept rec n j d p.accepted p.within p.second).names in
     let clash = subst (λ x. Clash a x l) (sym same) p.clash in
-    waited_at_buffer rec n i j c s id p.rules.accepted p.first stage p.less p.within
+    waited_at_buffer rec n i j c s id p.accepted p.first stage p.less p.within
     (of_buffer (status_at rec i) id l (makes_buffer id size (unwrap_or content []) a l clash) (is_there rec n i j c d s a b l k m p stage))
     (not_broken (is_live (status_at rec j).buffers id) names)
 
@@ -135,9 +136,9 @@ structure_waits : (rec : List Command) (n i j : ℕ) (c : Command) (s : Stage) (
 unfolding v1
 structure_waits rec n i j c s a b l k m id kind buffer offset size p stage same =
     let d : Command = commands.Structure id kind buffer offset size in
-    let names = (state_kept rec n j d p.rules.accepted p.within p.second).names in
+    let names = (state_kept rec n j d p.accepted p.within p.second).names in
     let clash = subst (λ x. Clash a x l) (sym same) p.clash in
-    waited_at_structure rec n i j c s id p.rules.accepted p.first stage p.less p.within
+    waited_at_structure rec n i j c s id p.accepted p.first stage p.less p.within
     (of_structure (status_at rec i) id l (makes_structure id (record { kind = kind; size = size }) a l clash) (is_there rec n i j c d s a b l k m p stage))
     (no_first (is_live (status_at rec j).structures id) (lacks_buffer (status_at rec j) buffer)
     (not_broken (is_live (status_at rec j).structures id || lacks_buffer (status_at rec j) buffer) names))
@@ -154,7 +155,7 @@ host_waits rec n i j c (commands.Structure id of_kind buffer offset size) s a b 
     structure_waits rec n i j c s a b l k m id of_kind buffer offset size p stage (one_item _ b m p.there).1
 host_waits rec n i j c (commands.Destroy what id) s a b l k m p stage kind =
     waits rec n i j c (commands.Destroy what id) s a b l k m p stage
-    (idle_at_destroy (status_at rec j) what id (state_kept rec n j (commands.Destroy what id) p.rules.accepted p.within p.second))
+    (idle_at_destroy (status_at rec j) what id (state_kept rec n j (commands.Destroy what id) p.accepted p.within p.second))
 host_waits rec n i j c (commands.Sizes of_kind counts) s a b l k m p stage kind =
     no_sizes of_kind counts a l (subst (λ x. Clash a x l) (sym (one_item _ b m p.there).1) p.clash)
 host_waits rec n i j c commands.Begin s a b l k m p stage kind = rest_waits rec i j a b l m p.clash p.there
@@ -163,16 +164,13 @@ host_waits rec n i j c commands.Submit s a b l k m p stage kind = rest_waits rec
 host_waits rec n i j c commands.Wait s a b l k m p stage kind = rest_waits rec i j a b l m p.clash p.there
 host_waits rec n i j c (commands.Read buffer offset size form) s a b l k m p stage kind =
     waits rec n i j c (commands.Read buffer offset size form) s a b l k m p stage
-    (idle_at_read (status_at rec j) buffer offset size form (state_kept rec n j (commands.Read buffer offset size form) p.rules.accepted p.within p.second))
+    (idle_at_read (status_at rec j) buffer offset size form (state_kept rec n j (commands.Read buffer offset size form) p.accepted p.within p.second))
 host_waits rec n i j c _ s a b l k m p stage kind = absurd cc
 
 -- ---- a device command before another
 
 accesses_are : (rec : List Command) (i : ℕ) (c : Command) → slice_get rec i ≡ Some c → accesses_at rec i ≡ accesses_of rec (status_at rec i) c
 accesses_are rec i c is = ap (λ o. option_map_or (accesses_of rec (status_at rec i)) o no_access) is
-
-stage_is : (rec : List Command) (i : ℕ) (c : Command) (s : Stage) → slice_get rec i ≡ Some c → stage_of c ≡ Some s → stage_at rec i ≡ Some s
-stage_is rec i c s is stage = ap (λ o. option_map_or stage_of o None) is ∙ stage
 
 -- what a command's piece writes or reads, as the rules on hazards say it
 piece_wrote : (rec : List Command) (i : ℕ) (c : Command) (s : Stage) (k : ℕ) (a : Action) (l : Location) → slice_get rec i ≡ Some c → stage_of c ≡ Some s
@@ -185,56 +183,56 @@ piece_read : (rec : List Command) (i : ℕ) (c : Command) (s : Stage) (k : ℕ) 
 piece_read rec i c s k a l is stage there holds e =
     subst (λ x. touched x.reads l ≡ true) (sym (accesses_are rec i c is)) (piece_reads rec (status_at rec i) c s k a l stage there holds e)
 
-by_hazards : (rec : List Command) (n i j : ℕ) (c d : Command) (s t : Stage) (a b : Action) (l : Location) (k m : ℕ) → Pair rec n i j c d a b l k m → stage_of c ≡ Some s → stage_of d ≡ Some t
-    → AreKept (hazard_table rec j) → IsOneThing (status_at rec i) (status_at rec j) l → Clash a b l → is_ordered_to rec i s j t ≡ true
-by_hazards rec n i j c d s t a b l k m p from to (k25, (k26, (k27, more))) one (BothWrite x y) =
-    write_after_write rec i j s t l (stage_is rec i c s p.first from) (stage_is rec j d t p.second to) p.less k26 one
-    (piece_wrote rec i c s k a l p.first from p.here x) (piece_wrote rec j d t m b l p.second to p.there y)
-by_hazards rec n i j c d s t a b l k m p from to (k25, (k26, (k27, more))) one (ReadsLater x y) =
-    read_after_write rec i j s t l (stage_is rec i c s p.first from) (stage_is rec j d t p.second to) p.less k25 one
-    (piece_wrote rec i c s k a l p.first from p.here x)
-    (piece_read rec j d t m b l p.second to p.there (piece_writes rec (status_at rec i) c s k a l from p.here x).1 y)
-by_hazards rec n i j c d s t a b l k m p from to (k25, (k26, (k27, more))) one (WritesLater x y) =
-    write_after_read rec i j s t l (stage_is rec i c s p.first from) (stage_is rec j d t p.second to) p.less k27 one
+-- so the accesses of two commands conflict where their actions do, at a location of one thing
+accesses_clash : (rec : List Command) (n i j : ℕ) (c d : Command) (s t : Stage) (a b : Action) (l : Location) (k m : ℕ) → Pair rec n i j c d a b l k m → stage_of c ≡ Some s → stage_of d ≡ Some t
+    → IsOneThing (status_at rec i) (status_at rec j) l → Clash a b l → accesses_conflict rec i j ≡ true
+accesses_clash rec n i j c d s t a b l k m p from to one (BothWrite x y) =
+    or_right _ _ (or_left _ _
+    (some_shared rec i j (accesses_at rec i).writes (accesses_at rec j).writes l one (piece_wrote rec i c s k a l p.first from p.here x) (piece_wrote rec j d t m b l p.second to p.there y)))
+accesses_clash rec n i j c d s t a b l k m p from to one (ReadsLater x y) =
+    or_left _ _
+    (some_shared rec i j (accesses_at rec i).writes (accesses_at rec j).reads l one (piece_wrote rec i c s k a l p.first from p.here x)
+    (piece_read rec j d t m b l p.second to p.there (piece_writes rec (status_at rec i) c s k a l from p.here x).1 y))
+accesses_clash rec n i j c d s t a b l k m p from to one (WritesLater x y) =
+    or_right _ _ (or_right _ _
+    (some_shared rec i j (accesses_at rec i).reads (accesses_at rec j).writes l one
     (piece_read rec i c s k a l p.first from p.here (piece_writes rec (status_at rec j) d t m b l to p.there y).1 x)
-    (piece_wrote rec j d t m b l p.second to p.there y)
-
-device_ordered : (rec : List Command) (n i j : ℕ) (c d : Command) (s t : Stage) (a b : Action) (l : Location) (k m : ℕ) → Pair rec n i j c d a b l k m → stage_of c ≡ Some s → stage_of d ≡ Some t
-    → is_device t ≡ true → is_ordered_to rec i s j t ≡ true
-device_ordered rec n i j c d s t a b l k m p from to device =
-    let within : j < n = p.within in
-    elim (one_or_waited rec n i j c s l p.rules.accepted p.first from p.less (omega (arith, within)) (is_there rec n i j c d s a b l k m p from)) [
-      | inl waited ↦ wait_orders (takes_stage s) rec i j t device waited
-      | inr one ↦ by_hazards rec n i j c d s t a b l k m p from to (p.rules.hazards j within) one p.clash
-    ]
+    (piece_wrote rec j d t m b l p.second to p.there y)))
 
 -- ---- the order
 
-order_is : (rec : List Command) (i j : ℕ) (c d : Command) (x y : Kind) → slice_get rec i ≡ Some c → slice_get rec j ≡ Some d → kind_of c ≡ x → kind_of d ≡ y → i < j
-    → kind_before rec i j x y ≡ true → before rec i j ≡ true
-order_is rec i j c d x y first second p q less e =
-    let here : kind_at rec i ≡ x = ap (λ o. option_map_or kind_of o HostCommand) first ∙ p in
-    let there : kind_at rec j ≡ y = ap (λ o. option_map_or kind_of o HostCommand) second ∙ q in
-    both (nat_lt i j) (kind_before rec i j (kind_at rec i) (kind_at rec j)) (less_is i j less) ((λ w. kind_before rec i j (here w) (there w)) ∙ e)
+kind_is : (rec : List Command) (i : ℕ) (c : Command) (x : Kind) → slice_get rec i ≡ Some c → kind_of c ≡ x → kind_at rec i ≡ x
+kind_is rec i c x is same = ap (λ o. option_map_or kind_of o HostCommand) is ∙ same
 
-by_sorts : (rec : List Command) (n i j : ℕ) (c d : Command) (a b : Action) (l : Location) (k m : ℕ) → Pair rec n i j c d a b l k m → Sort c → Sort d → before rec i j ≡ true
-by_sorts rec n i j c d a b l k m p (IsOfHost x) (IsOfDevice t to y device) = order_is rec i j c d HostCommand (Device t) p.first p.second x y p.less refl
-by_sorts rec n i j c d a b l k m p (IsOfHost x) (IsBarrier y) = order_is rec i j c d HostCommand Barrier p.first p.second x y p.less refl
-by_sorts rec n i j c d a b l k m p (IsOfHost x) (IsOfHost y) = order_is rec i j c d HostCommand HostCommand p.first p.second x y p.less refl
-by_sorts rec n i j c d a b l k m p (IsBarrier x) y =
+device_ordered : (rec : List Command) (order : ℕ → ℕ → Bool) (n i j : ℕ) (c d : Command) (s t : Stage) (a b : Action) (l : Location) (k m : ℕ) → Separates rec n order
+    → Pair rec n i j c d a b l k m → stage_of c ≡ Some s → stage_of d ≡ Some t → kind_of c ≡ Device s → kind_of d ≡ Device t → order i j ≡ true
+device_ordered rec order n i j c d s t a b l k m separates p from to x y =
+    let within : j < n = p.within in
+    let here = kind_is rec i c (Device s) p.first x in
+    let there = kind_is rec j d (Device t) p.second y in
+    elim (one_or_waited rec n i j c s l p.accepted p.first from p.less (omega (arith, within)) (is_there rec n i j c d s a b l k m p from)) [
+      | inl waited ↦ separates.device_waits i j s t waited p.within here there
+      | inr one ↦ separates.conflicts i j s t p.less p.within here there (accesses_clash rec n i j c d s t a b l k m p from to one p.clash)
+    ]
+
+by_sorts : (rec : List Command) (order : ℕ → ℕ → Bool) (n i j : ℕ) (c d : Command) (a b : Action) (l : Location) (k m : ℕ) → Separates rec n order → Pair rec n i j c d a b l k m
+    → Sort c → Sort d → order i j ≡ true
+by_sorts rec order n i j c d a b l k m separates p (IsOfHost x) y =
+    separates.host i j p.less p.within (kind_is rec i c HostCommand p.first x)
+by_sorts rec order n i j c d a b l k m separates p (IsBarrier x) y =
     no_rest_first b l (subst (λ w. Clash w b l) (sym (barrier_rests rec (status_at rec i) c k a x p.here).1) p.clash)
-by_sorts rec n i j c d a b l k m p (IsOfDevice s from x device) (IsBarrier y) =
+by_sorts rec order n i j c d a b l k m separates p (IsOfDevice s from x) (IsBarrier y) =
     no_rest a l (subst (λ w. Clash a w l) (sym (barrier_rests rec (status_at rec j) d m b y p.there).1) p.clash)
-by_sorts rec n i j c d a b l k m p (IsOfDevice s from x device) (IsOfDevice t to y is) =
-    order_is rec i j c d (Device s) (Device t) p.first p.second x y p.less (device_ordered rec n i j c d s t a b l k m p from to is)
-by_sorts rec n i j c d a b l k m p (IsOfDevice s from x device) (IsOfHost y) =
-    order_is rec i j c d (Device s) HostCommand p.first p.second x y p.less
-    (less_is i (last_wait rec j) (host_waits rec n i j c d s a b l k m p from y))
+by_sorts rec order n i j c d a b l k m separates p (IsOfDevice s from x) (IsOfDevice t to y) =
+    device_ordered rec order n i j c d s t a b l k m separates p from to x y
+by_sorts rec order n i j c d a b l k m separates p (IsOfDevice s from x) (IsOfHost y) =
+    separates.host_waits i j s (host_waits rec n i j c d s a b l k m p from y) p.within
+    (kind_is rec i c (Device s) p.first x) (kind_is rec j d HostCommand p.second y)
 
 -- pieces of one command don't conflict
 same_command : (rec : List Command) (z : Status) (c : Command) (k m : ℕ) (a b : Action) (l : Location) → MayRun rec z c → k < m → slice_get (actions_of rec z c) k ≡ Some a
     → slice_get (actions_of rec z c) m ≡ Some b → Clash a b l → Sort c → ⊥
-same_command rec z c k m a b l may less here there clash (IsOfDevice s stage x device) =
+same_command rec z c k m a b l may less here there clash (IsOfDevice s stage x) =
     pieces_apart rec z c s k m a b l (keeps rec z c may.rules).apart stage less here there clash
 same_command rec z c k m a b l may less here there clash (IsBarrier x) =
     let none : m ≡ 0 = (barrier_rests rec z c m b x there).0 in omega (arith, less, none)
@@ -242,13 +240,14 @@ same_command rec z c k m a b l may less here there clash (IsOfHost x) =
     let none : m ≡ 0 = host_one rec z c m b x there in omega (arith, less, none)
 
 -- two conflicting actions
-two_ordered : (rec : List Command) (n : ℕ) (u v : Numbered) (l : Location) → BreakNoRule rec n → AreTwo rec n u v → Clash u.action v.action l → before rec u.command v.command ≡ true
-two_ordered rec n u v l rules two clash =
+two_ordered : (rec : List Command) (order : ℕ → ℕ → Bool) (n : ℕ) (u v : Numbered) (l : Location) → IsAccepted rec n → Separates rec n order → AreTwo rec n u v
+    → Clash u.action v.action l → order u.command v.command ≡ true
+two_ordered rec order n u v l accepted separates two clash =
     elim two.apart [
       | inl less ↦
-          by_sorts rec n u.command v.command two.first.command two.second.command u.action v.action l two.k two.m
+          by_sorts rec order n u.command v.command two.first.command two.second.command u.action v.action l two.k two.m separates
           (record {
-            rules = rules;
+            accepted = accepted;
             less = less;
             within = two.second.below;
             first = two.first.is_it;
@@ -263,7 +262,7 @@ two_ordered rec n u v l rules two clash =
           let there : slice_get (actions_of rec (status_at rec u.command) c) two.m ≡ Some v.action =
           (λ i. slice_get (actions_of rec (status_at rec (same.0 i)) (sym one i)) two.m) ∙ two.second.piece in
           absurd (same_command rec (status_at rec u.command) c two.k two.m u.action v.action l
-          (rules.accepted.each u.command c two.first.below two.first.is_it) same.1 two.first.piece there clash (sort c)))
+          (accepted.each u.command c two.first.below two.first.is_it) same.1 two.first.piece there clash (sort c)))
     ]
 
 -- a conflict of two units is one of their actions
@@ -276,15 +275,16 @@ clash_of rec units p q u v l here there (ReadAfterWrite x y) =
 clash_of rec units p q u v l here there (WriteAfterRead x y) =
     WritesLater (subst (λ a. cover (areas_read a) l ≡ true) here x) (subst (λ a. writes a l ≡ true) there y)
 
-pub are_ordered : (rec : List Command) (n : ℕ) → BreakNoRule rec n → AreOrdered (work_of rec n).device (before rec) (work_of rec n).count
-are_ordered rec n rules p q l less below conflict =
+pub are_ordered : (rec : List Command) (order : ℕ → ℕ → Bool) (n : ℕ) → IsAccepted rec n → Separates rec n order
+    → AreOrdered (work_in rec order n).device order (work_in rec order n).count
+are_ordered rec order n accepted separates p q l less below conflict =
     let us : List Numbered = first_actions rec n in
     let u = item_at us p (omega (arith, less, below)) in
     let v = item_at us q below in
     let here = unit_is us p u.0 u.1 in
     let there = unit_is us q v.0 v.1 in
-    (λ i. before rec (here.1 i) (there.1 i))
-    ∙ two_ordered rec n u.0 v.0 l rules (two_at rec n p q u.0 v.0 less u.1 v.1) (clash_of rec us p q u.0 v.0 l here.0 there.0 conflict)
+    (λ i. order (here.1 i) (there.1 i))
+    ∙ two_ordered rec order n u.0 v.0 l accepted separates (two_at rec n p q u.0 v.0 less u.1 v.1) (clash_of rec us p q u.0 v.0 l here.0 there.0 conflict)
 
 -- ---- the order goes forward
 
@@ -297,9 +297,8 @@ no_earlier rec n u v two less =
     ]
 
 -- where the command of one action is ordered before that of another, the action stands before it
-forward_by : (rec : List Command) (n p q : ℕ) (u v : Numbered) → before rec u.command v.command ≡ true → (q < p → AreTwo rec n v u) → (p ≡ q → u.command ≡ v.command) → p < q
-forward_by rec n p q u v e two same =
-    let less : u.command < v.command = is_less u.command v.command (and_first (nat_lt u.command v.command) (kind_before rec u.command v.command (kind_at rec u.command) (kind_at rec v.command)) e) in
+forward_by : (rec : List Command) (n p q : ℕ) (u v : Numbered) → u.command < v.command → (q < p → AreTwo rec n v u) → (p ≡ q → u.command ≡ v.command) → p < q
+forward_by rec n p q u v less two same =
     elim (cases_lt p q) [
       | inl first ↦ first
       | inr more ↦ elim (cases_eq p q) [
@@ -311,12 +310,15 @@ forward_by rec n p q u v e two same =
     beyond : (p q : ℕ) → q ≤ p → (p ≡ q → ⊥) → q < p
     beyond p q more differs = elim (cases_lt q p) [ inl l ↦ l | inr g ↦ absurd (differs (omega (arith, more, g))) ]
 
-pub is_forward : (rec : List Command) (n : ℕ) → IsForward (work_of rec n).device (before rec) (work_of rec n).count
-is_forward rec n p q less below e =
+pub is_forward : (rec : List Command) (order : ℕ → ℕ → Bool) (n : ℕ) → GoesForward n order → IsForward (work_in rec order n).device order (work_in rec order n).count
+is_forward rec order n forward p q less below e =
     let us : List Numbered = first_actions rec n in
     let u = item_at us p less in
     let v = item_at us q below in
     let here = unit_is us p u.0 u.1 in
     let there = unit_is us q v.0 v.1 in
-    forward_by rec n p q u.0 v.0 (sym (λ i. before rec (here.1 i) (there.1 i)) ∙ e) (λ later. two_at rec n q p v.0 u.0 later v.1 u.1)
-    (λ same. sym here.1 ∙ (ap (command_at us) same ∙ there.1))
+    let first = piece_at rec n p u.0 u.1 in
+    let second = piece_at rec n q v.0 v.1 in
+    forward_by rec n p q u.0 v.0
+    (forward u.0.command v.0.command first.1.below second.1.below (sym (λ i. order (here.1 i) (there.1 i)) ∙ e))
+    (λ later. two_at rec n q p v.0 u.0 later v.1 u.1) (λ same. sym here.1 ∙ (ap (command_at us) same ∙ there.1))

@@ -1,13 +1,12 @@
 -- Recordings run along orders made by hand, store late, fetch early, parts exchanged: by computing each comes to what
 -- recording order comes to. The last one's order isn't permitted, and comes to another text.
 use Rattle.std.proofs.Common.{ℕ, ◌≡◌, List, [], ◌∷◌, ◌++◌, Some, None, refl}
-use Rattle.ray_schedule.specs.Events.{Event, Fetch, Store, Act}
+use Rattle.ray_schedule.specs.Events.{Fetch, Store, Act}
 use Rattle.ray_cmd.specs.declared.asked.Asked.TheVariants.{Serialized, Size}
 use Rattle.ray_cmd.specs.declared.build_mode.BuildMode.TheVariants.{Build}
 use Rattle.ray_cmd.specs.declared.command.Command.{Command}
 use Rattle.ray_cmd.specs.declared.command.Command.TheVariants as commands
 use Rattle.ray_cmd.specs.declared.copy_mode.CopyMode.TheVariants.{Clone, Compact}
-use Rattle.ray_cmd.specs.declared.info.Info.{Info}
 use Rattle.ray_cmd.specs.declared.place.Place.TheVariants.{Whole}
 use Rattle.ray_cmd.specs.declared.rule.Rule.TheVariants.{X}
 use Rattle.ray_bytes.specs.declared.data_rule.DataRule.TheVariants.{X13}
@@ -25,7 +24,7 @@ abbrev bytes : ℕ → ℕ → Command
 bytes id size = commands.Buffer id size (record { 0 = 12 }) None
 
 abbrev hand_on : Command
-hand_on = commands.Barrier (record { 0 = 7 }) (record { 0 = 512 }) (record { 0 = 8 }) (record { 0 = 64 })
+hand_on = commands.Barrier (record { 0 = 7 }) (record { 0 = 512 }) (record { 0 = 8 }) (record { 0 = 64 }) None
 
 abbrev finish : List Command → List Command
 finish reads = hand_on ∷ commands.End ∷ commands.Submit ∷ commands.Wait ∷ reads
@@ -121,7 +120,7 @@ sizes =
     ∷ commands.Begin
     ∷ commands.Property Size (0 ∷ []) (record { buffer = 2; offset = 0 })
     ∷ commands.Fill 0 0 4 7
-    ∷ commands.Barrier (record { 0 = 1 }) (record { 0 = 2 }) (record { 0 = 1 }) (record { 0 = 1 })
+    ∷ commands.Barrier (record { 0 = 1 }) (record { 0 = 2 }) (record { 0 = 1 }) (record { 0 = 1 }) None
     ∷ commands.Copy 0 1 (record { src_offset = 0; dst_offset = 0; size = 4 } ∷ [])
     ∷ finish (commands.Read 1 0 4 Hex ∷ commands.Read 2 0 8 U64 ∷ [])
 
@@ -147,7 +146,7 @@ infos =
     ∷ commands.Structure 1 Bottom 3 512 512
     ∷ commands.Begin
     ∷ commands.Build (record { mode = Build; dst = 0; src = None; flags = record { 0 = 1 }; scratch = record { buffer = 4; offset = 0 }; geometries = []; uses = [] } ∷ record { mode = Build; dst = 1; src = None; flags = record { 0 = 2 }; scratch = record { buffer = 4; offset = 512 }; geometries = []; uses = [] } ∷ [])
-    ∷ commands.Barrier (record { 0 = 7 }) (record { 0 = 512 }) (record { 0 = 7 }) (record { 0 = 768 })
+    ∷ commands.Barrier (record { 0 = 7 }) (record { 0 = 512 }) (record { 0 = 7 }) (record { 0 = 768 }) None
     ∷ commands.Property Serialized (0 ∷ 1 ∷ []) (record { buffer = 2; offset = 0 })
     ∷ finish (commands.Read 2 0 16 U64 ∷ [])
 
@@ -173,7 +172,7 @@ clones =
     ∷ commands.Structure 1 Bottom 3 512 512
     ∷ commands.Begin
     ∷ commands.Build (record { mode = Build; dst = 0; src = None; flags = record { 0 = 1 }; scratch = record { buffer = 4; offset = 0 }; geometries = []; uses = [] } ∷ [])
-    ∷ commands.Barrier (record { 0 = 7 }) (record { 0 = 512 }) (record { 0 = 7 }) (record { 0 = 768 })
+    ∷ commands.Barrier (record { 0 = 7 }) (record { 0 = 512 }) (record { 0 = 7 }) (record { 0 = 768 }) None
     ∷ commands.CopyStructure Clone 0 1
     ∷ commands.Update 2 0 (9 ∷ 9 ∷ 9 ∷ 9 ∷ [])
     ∷ finish (commands.Read 2 0 4 Hex ∷ [])
@@ -201,7 +200,7 @@ refused =
     ∷ commands.Structure 5 Bottom 3 1024 8
     ∷ commands.Begin
     ∷ commands.Build (record { mode = Build; dst = 0; src = None; flags = record { 0 = 2 }; scratch = record { buffer = 4; offset = 0 }; geometries = []; uses = [] } ∷ [])
-    ∷ commands.Barrier (record { 0 = 7 }) (record { 0 = 512 }) (record { 0 = 7 }) (record { 0 = 768 })
+    ∷ commands.Barrier (record { 0 = 7 }) (record { 0 = 512 }) (record { 0 = 7 }) (record { 0 = 768 }) None
     ∷ commands.CopyStructure Compact 0 1
     ∷ commands.CopyStructure Compact 0 5
     ∷ finish (commands.Read 2 0 8 Hex ∷ [])
@@ -224,7 +223,7 @@ chain =
     ∷ bytes 2 4
     ∷ commands.Begin
     ∷ commands.Fill 0 0 4 3
-    ∷ commands.Barrier (record { 0 = 1 }) (record { 0 = 2 }) (record { 0 = 1 }) (record { 0 = 1 })
+    ∷ commands.Barrier (record { 0 = 1 }) (record { 0 = 2 }) (record { 0 = 1 }) (record { 0 = 1 }) None
     ∷ commands.Copy 0 1 (record { src_offset = 0; dst_offset = 0; size = 4 } ∷ [])
     ∷ commands.Fill 2 0 4 8
     ∷ finish (commands.Read 1 0 4 Hex ∷ commands.Read 2 0 4 Hex ∷ [])
@@ -293,7 +292,7 @@ ordered =
     bytes 0 4
     ∷ commands.Begin
     ∷ commands.Fill 0 0 4 7
-    ∷ commands.Barrier (record { 0 = 1 }) (record { 0 = 2 }) (record { 0 = 1 }) (record { 0 = 2 })
+    ∷ commands.Barrier (record { 0 = 1 }) (record { 0 = 2 }) (record { 0 = 1 }) (record { 0 = 2 }) None
     ∷ commands.Fill 0 0 4 9
     ∷ finish (commands.Read 0 0 4 Hex ∷ [])
 

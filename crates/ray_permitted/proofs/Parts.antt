@@ -14,12 +14,13 @@ use Rattle.ray_rules.specs.Conflicts.{first_conflict, sources_in, target_of, v16
 use Rattle.ray_rules.specs.Ranges.{range}
 use Rattle.ray_rules.specs.Ranges as ranges
 use Rattle.ray_rules.specs.Status.{Status}
+use Rattle.ray_rules.specs.Kinds.{kind_of}
 use Rattle.ray_action.specs.Action.{Action}
 use Rattle.ray_action.specs.Memory.{Location}
 use Rattle.ray_action.specs.Pieces.{actions_of, rays_action, region_action, trace_pieces}
 use Rattle.ray_action.specs.Touching.{TouchesWithin}
 use Rattle.ray_action.proofs.Touching.{touch_within}
-use Rattle.ray_ready.proofs.Kept.{no_part}
+use Rattle.ray_rules.proofs.Kept.{no_part}
 use Rattle.ray_permitted.proofs.Truth.{made_of_item, made_of_number, one_item, within}
 use Rattle.ray_permitted.proofs.Waits.{not_broken}
 use Rattle.ray_permitted.proofs.InfosApart.{Clash, InfoTouches, clear_at, info_at, infos_apart, touches_of_info}
@@ -46,7 +47,7 @@ info_of_piece rec z infos k a info there within =
 -- two pieces of a command that keeps V16
 pub pieces_apart : (rec : List Command) (z : Status) (c : Command) (s : Stage) (k m : ℕ) (a b : Action) (l : Location) → v16 c ≡ None → stage_of c ≡ Some s → k < m
     → slice_get (actions_of rec z c) k ≡ Some a → slice_get (actions_of rec z c) m ≡ Some b → Clash a b l → ⊥
-unfolding actions_of stage_of v16
+unfolding actions_of stage_of kind_of v16
 pieces_apart rec z (commands.Update buffer offset content) s k m a b l e stage less here there clash = no_second_one k m less (one_item _ b m there).0
 pieces_apart rec z (commands.Fill buffer offset size value) s k m a b l e stage less here there clash = no_second_one k m less (one_item _ b m there).0
 pieces_apart rec z (commands.CopyStructure mode src dst) s k m a b l e stage less here there clash = no_second_one k m less (one_item _ b m there).0

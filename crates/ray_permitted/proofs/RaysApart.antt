@@ -6,13 +6,12 @@ use Rattle.ray_cmd.specs.declared.spot.Spot.{Spot}
 use Rattle.ray_ranges.specs.declared.range.Range.{Range}
 use Rattle.ray_ranges.specs.Meeting.{meets}
 use Rattle.ray_rules.specs.declared.byte_range.ByteRange.{ByteRange}
-use Rattle.ray_rules.specs.Access.{rays_of_piece}
 use Rattle.ray_rules.specs.Ranges.{range}
 use Rattle.ray_rules.specs.Ranges as ranges
 use Rattle.ray_rules.specs.Status.{Status}
 use Rattle.ray_action.specs.Areas.{cover, is_contents_of, is_in_range}
 use Rattle.ray_action.specs.Memory.{Location, ByteAt, BufferAt, StructureAt, ContentsAt}
-use Rattle.ray_action.specs.Pieces.{rays_action, trace_pieces}
+use Rattle.ray_action.specs.Pieces.{rays_action, trace_pieces, rays_range, hits_range}
 use Rattle.ray_permitted.proofs.Truth.{both, contradict, either, equal_is}
 use Rattle.ray_permitted.proofs.Sharing.{bytes_meet, low_of}
 use Rattle.ray_permitted.proofs.InfosApart.{Clash, BothWrite, ReadsLater, WritesLater}
@@ -23,20 +22,14 @@ use Rattle.ray_action.specs.Areas.{Bytes, ContentsOf, ContentsOfEach, is_content
 
 -- ---- rays
 
-abbrev ray_bytes_at : Spot → ℕ → ℕ → ByteRange
-ray_bytes_at rays count k = range rays.buffer (rays.offset + 40 * (64 * k)) (40 * rays_of_piece count k)
-
-abbrev hit_bytes_at : Spot → ℕ → ℕ → ByteRange
-hit_bytes_at hits count k = range hits.buffer (hits.offset + 80 * (64 * k)) (80 * rays_of_piece count k)
-
 -- the hits of two pieces
 hits_apart : (offset count k m at : ℕ) → k < m → at < offset + 80 * (64 * k) + 80 * min 64 (count - 64 * k) → offset + 80 * (64 * m) ≤ at → ⊥
 hits_apart offset count k m at less high low = omega (arith, less, high, low)
 
-hits_differ : {X : Type 0} (hits : Spot) (count k m : ℕ) (l : Location) → k < m → is_in_range (hit_bytes_at hits count k) l ≡ true → is_in_range (hit_bytes_at hits count m) l ≡ true → X
+hits_differ : {X : Type 0} (hits : Spot) (count k m : ℕ) (l : Location) → k < m → is_in_range (hits_range hits count k) l ≡ true → is_in_range (hits_range hits count m) l ≡ true → X
 hits_differ hits count k m (ByteAt b at) less p q =
-    let x = low_of (hit_bytes_at hits count k) b at p in
-    let y = low_of (hit_bytes_at hits count m) b at q in
+    let x = low_of (hits_range hits count k) b at p in
+    let y = low_of (hits_range hits count m) b at q in
     absurd (hits_apart hits.offset count k m at less x.2 y.1)
 hits_differ hits count k m (BufferAt id) less p q = absurd cc
 hits_differ hits count k m (StructureAt id) less p q = absurd cc
@@ -51,10 +44,10 @@ in_all_hits offset count k at piece low high = (omega (arith, low), omega (arith
 
 -- no byte of rays is one of hits
 rays_differ : {X : Type 0} (rays hits : Spot) (count k m : ℕ) (l : Location) → ranges.meets (range rays.buffer rays.offset (40 * count)) (range hits.buffer hits.offset (80 * count)) ≡ false
-    → k < trace_pieces count → m < trace_pieces count → is_in_range (ray_bytes_at rays count k) l ≡ true → is_in_range (hit_bytes_at hits count m) l ≡ true → X
+    → k < trace_pieces count → m < trace_pieces count → is_in_range (rays_range rays count k) l ≡ true → is_in_range (hits_range hits count m) l ≡ true → X
 rays_differ rays hits count k m (ByteAt b at) e here there p q =
-    let x = low_of (ray_bytes_at rays count k) b at p in
-    let y = low_of (hit_bytes_at hits count m) b at q in
+    let x = low_of (rays_range rays count k) b at p in
+    let y = low_of (hits_range hits count m) b at q in
     let r = in_all_rays rays.offset count k at here x.1 x.2 in
     let h = in_all_hits hits.offset count m at there y.1 y.2 in
     let a : Range = record { from = rays.offset; end = rays.offset + 40 * count } in
@@ -93,8 +86,8 @@ pub rays_apart : (rec : List Command) (z : Status) (top : ℕ) (rays hits : Spot
     → Clash (rays_action rec z top rays hits count flags mask script k) (rays_action rec z top rays hits count flags mask script m) l → ⊥
 rays_apart rec z top rays hits count flags mask script k m l e less here there (BothWrite p q) = hits_differ hits count k m l less p q
 rays_apart rec z top rays hits count flags mask script k m l e less here there (ReadsLater p q) =
-    reads_rays (ray_bytes_at rays count m) (hit_bytes_at hits count k) top (uses_at rec z top) l p q
+    reads_rays (rays_range rays count m) (hits_range hits count k) top (uses_at rec z top) l p q
     (λ r. rays_differ rays hits count m k l e there here r p)
 rays_apart rec z top rays hits count flags mask script k m l e less here there (WritesLater p q) =
-    reads_rays (ray_bytes_at rays count k) (hit_bytes_at hits count m) top (uses_at rec z top) l q p
+    reads_rays (rays_range rays count k) (hits_range hits count m) top (uses_at rec z top) l q p
     (λ r. rays_differ rays hits count k m l e here there r q)

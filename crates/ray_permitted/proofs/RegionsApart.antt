@@ -14,7 +14,7 @@ use Rattle.ray_action.specs.Action.{areas_read}
 use Rattle.ray_action.specs.Areas.{cover, is_in_range}
 use Rattle.ray_action.specs.Memory.{Location, ByteAt, BufferAt, StructureAt, ContentsAt}
 use Rattle.ray_action.specs.Pieces.{region_action}
-use Rattle.ray_ready.proofs.Kept.{Fail}
+use Rattle.ray_rules.proofs.Kept.{Fail}
 use Rattle.ray_permitted.proofs.Truth.{contradict, either, equal_is, in_front, never_none, none_at, same_some, within}
 use Rattle.ray_permitted.proofs.Sharing.{bytes_meet, low_of}
 use Rattle.ray_permitted.proofs.InfosApart.{Clash, BothWrite, ReadsLater, WritesLater}

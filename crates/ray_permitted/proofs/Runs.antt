@@ -5,7 +5,6 @@ use Rattle.std.specs.Prelude.{◌&&◌, not, if◌then◌else◌}
 use Rattle.ray_schedule.specs.Events.{Event}
 use Rattle.ray_schedule.specs.Units as schedules
 use Rattle.ray_schedule.specs.Laws.{MayRun}
-use Rattle.ray_schedule.specs.Laws as laws
 use Rattle.ray_schedule.proofs.Whole.{every_schedule}
 use Rattle.ray_cmd.specs.declared.command.Command.{Command}
 use Rattle.ray_action.specs.Memory.{Held, Location, Memory, nothing_live}
@@ -15,9 +14,9 @@ use Rattle.ray_action.specs.Pieces.{Numbered}
 use Rattle.ray_action.specs.Running.{Run, action_at, memory_before, run_from, then_run}
 use Rattle.ray_action.specs.Storing.{after, left, writes}
 use Rattle.ray_ready.specs.Laws.{first_actions}
-use Rattle.ray_permitted.specs.Along.{run_along, run_kept, then_kept}
+use Rattle.ray_permitted.specs.Along.{moment_along, run_along, run_kept, then_kept}
 use Rattle.ray_permitted.specs.Laws.{IsOrderly, OutcomesTellTheRun, RecordingOrderIsTheRun}
-use Rattle.ray_permitted.specs.Work.{device_of, stores_nothing, work_of}
+use Rattle.ray_permitted.specs.Work.{device_of, stores_nothing, work_in}
 
 -- ---- one memory
 
@@ -41,7 +40,7 @@ memory_is rec units (suc p) =
     ∙ (λ i l. left_same a (outcome_of a (memory_before units p)) l (memory_before units p l) i)
 
 pub recording_order_is : RecordingOrderIsTheRun
-recording_order_is rec n p = memory_is rec (first_actions rec n) p
+recording_order_is rec order n p = memory_is rec (first_actions rec n) p
 
 -- ---- one run
 
@@ -69,13 +68,13 @@ kept_run (u ∷ units) m kept same =
     (λ p less. same (suc p) (omega (arith, less)) ∙ ap (λ x. Some (outcome_of (action_at units p) x)) (one_later m u units p)) in
     λ i. then_kept u (first i) (later i)
 
-pub comes_to_the_run : (rec : List Command) (n : ℕ) (es : List Event) → IsOrderly rec n → MayRun (work_of rec n) es
+pub comes_to_the_run : (rec : List Command) (order : ℕ → ℕ → Bool) (n : ℕ) (es : List Event) → IsOrderly rec order n → MayRun (work_in rec order n) es
     → run_along rec n es ≡ run_from nothing_live (first_actions rec n)
 unfolding run_along
-comes_to_the_run rec n es orderly permitted =
+comes_to_the_run rec order n es orderly permitted =
     let units : List Numbered = first_actions rec n in
-    let every = every_schedule (work_of rec n) orderly.local orderly.ordered in
-    kept_run units nothing_live (laws.after (work_of rec n) es).kept
+    let every = every_schedule (work_in rec order n) orderly.local orderly.ordered in
+    kept_run units nothing_live (moment_along rec units es).kept
     (λ p less.
     every.outcomes es permitted p less
     ∙ ap (λ m. Some (outcome_of (action_at units p) m)) (memory_is rec units p ∙ sym (from_nothing units p)))
@@ -104,7 +103,7 @@ kept_to (u ∷ units) m kept (suc b) same here =
     λ i. then_kept u (first i) (later i)
 
 pub outcomes_tell : OutcomesTellTheRun
-outcomes_tell rec n b kept first same =
+outcomes_tell rec order n b kept first same =
     let units : List Numbered = first_actions rec n in
     let plain : (p : ℕ) → schedules.memory_before (device_of rec units) nothing_live p ≡ memory_from nothing_live units p =
     λ p. memory_is rec units p ∙ sym (from_nothing units p) in

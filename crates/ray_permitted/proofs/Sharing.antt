@@ -1,4 +1,5 @@
--- Where two commands touch a location of one thing, the rules on hazards order them.
+-- Where two commands touch a location of one thing, their accesses share something; and where they do so
+-- with a write, the rules on hazards order the commands.
 use Rattle.std.proofs.Common.{◌≡◌, ◌<◌, ◌≤◌, ◌+◌, ℕ, zero, suc, Bool, true, false, List, Option, Some, None, inl, inr, refl, sym, ◌∙◌, ap, subst, arith}
 use Rattle.std.specs.Prelude.{◌==◌, ◌&&◌, not, nat_le, nat_lt, if◌then◌else◌, slice_get, option_map}
 use Rattle.std.specs.List.{list_any}
@@ -15,13 +16,15 @@ use Rattle.ray_rules.specs.declared.reach.Reach.TheVariants as reaches
 use Rattle.ray_rules.specs.declared.stage.Stage.{Stage}
 use Rattle.ray_rules.specs.declared.touch.Touch.{Touch}
 use Rattle.ray_rules.specs.Hazards.{accesses_at, bytes_in, greatest, greatest_with, is_one, is_uncovered, maker_of_buffer, maker_of_structure, read_unordered, shares, stage_at, status_at, touches_share, v25, v26, v27, wrote_uncovered}
-use Rattle.ray_rules.specs.Order.{is_covered, is_ordered_to}
+use Rattle.ray_rules.specs.Makers.{buffer_of}
+use Rattle.ray_rules.specs.Order.{barriers, is_covered, is_ordered_to}
 use Rattle.ray_rules.specs.Status.{Status}
 use Rattle.ray_action.specs.Areas.{is_in_range}
 use Rattle.ray_action.specs.Memory.{Location, ByteAt, BufferAt, StructureAt, ContentsAt}
 use Rattle.ray_action.specs.Touching.{is_reached, touched}
-use Rattle.ray_sync.proofs.Coverage.{covered-ordered}
-use Rattle.ray_permitted.proofs.Truth.{and_first, and_second, any_at, both, contradict, is_equal, none_at, not_both, not_false, some_passes}
+use Rattle.ray_sync.proofs.Within.{covered-ordered}
+use Rattle.ray_permitted.specs.Separates.{some_share}
+use Rattle.ray_permitted.proofs.Truth.{Passes, and_first, and_second, any_at, both, contradict, is_equal, none_at, not_both, not_false, some_passes}
 
 -- ---- what is shared
 
@@ -85,6 +88,16 @@ shared_at z w x y (BufferAt id) p q one = no_size x id p
 shared_at z w x y (StructureAt id) p q one = no_form x id p
 shared_at z w x y (ContentsAt id) p q one = shared_contents z w x y id p q one
 
+-- so touches of one location share something
+pub some_shared : (rec : List Command) (i j : ℕ) (ones others : List Touch) (l : Location) → IsOneThing (status_at rec i) (status_at rec j) l
+    → touched ones l ≡ true → touched others l ≡ true → some_share rec i j ones others ≡ true
+some_shared rec i j ones others l one here there =
+    let x = some_passes (λ (t : Touch). is_reached t.reach l) ones here in
+    let y = some_passes (λ (t : Touch). is_reached t.reach l) others there in
+    any_at (λ other. list_any (λ w. touches_share rec i j w other) ones) others y.place y.item y.there
+    (any_at (λ w. touches_share rec i j w y.item) ones x.place x.item x.there
+    (shared_at (status_at rec i) (status_at rec j) x.item.reach y.item.reach l x.passes y.passes one))
+
 -- ---- rules on hazards
 
 none_passes : (test : ℕ → Bool) (n : ℕ) → greatest test n ≡ None → (i : ℕ) → i < n → test i ≡ false
@@ -111,61 +124,67 @@ no_odds odds touches j e i less k t there =
     none_at (λ x. odds x i) touches k t there
     (none_passes (λ n. list_any (λ x. odds x n) touches) j (unmapped (greatest (λ n. list_any (λ x. odds x n) touches) j) e) i less)
 
+-- what shares something: two touches, and where they stand
+record HaveShared (rec : List Command) (i j : ℕ) (ones others : List Touch) : Type 0 where
+  one : Passes (λ t. list_any (λ w. touches_share rec i j w t) ones) others
+  other : Passes (λ w. touches_share rec i j w one.item) ones
+
+have_shared : (rec : List Command) (i j : ℕ) (ones others : List Touch) → some_share rec i j ones others ≡ true → HaveShared rec i j ones others
+have_shared rec i j ones others e =
+    let y = some_passes (λ t. list_any (λ w. touches_share rec i j w t) ones) others e in
+    record { one = y; other = some_passes (λ w. touches_share rec i j w y.item) ones y.passes }
+
 -- what a command wrote and another touches, where no write is uncovered to its touches
-covered_ordered : (rec : List Command) (i j : ℕ) (s to : Stage) (touches : List Touch) (l : Location) → stage_at rec i ≡ Some s → i < j
-    → greatest_with (wrote_uncovered rec j to) touches j ≡ None → IsOneThing (status_at rec i) (status_at rec j) l
-    → touched (accesses_at rec i).writes l ≡ true → touched touches l ≡ true → is_ordered_to rec i s j to ≡ true
-covered_ordered rec i j s to touches l stage less none one wrote touch =
-    let w = some_passes (λ (t : Touch). is_reached t.reach l) (accesses_at rec i).writes wrote in
-    let r = some_passes (λ (t : Touch). is_reached t.reach l) touches touch in
-    let odd : wrote_uncovered rec j to r.item i ≡ false = no_odds (wrote_uncovered rec j to) touches j none i less r.place r.item r.there in
-    let each : list_any (is_uncovered rec i s j to r.item) (accesses_at rec i).writes ≡ false =
-    sym (ap (λ o. option_map_or (λ (st : Stage). list_any (is_uncovered rec i st j to r.item) (accesses_at rec i).writes) o false) stage) ∙ odd in
-    let this : is_uncovered rec i s j to r.item w.item ≡ false = none_at (is_uncovered rec i s j to r.item) (accesses_at rec i).writes w.place w.item w.there each in
-    let share : touches_share rec i j w.item r.item ≡ true =
-    shared_at (status_at rec i) (status_at rec j) w.item.reach r.item.reach l w.passes r.passes one in
-    let covered : is_covered rec i s w.item.access j to r.item.access ≡ true =
-    not_false (is_covered rec i s w.item.access j to r.item.access)
-    (not_both (touches_share rec i j w.item r.item) (not (is_covered rec i s w.item.access j to r.item.access)) share this) in
-    covered-ordered rec i s w.item.access j to r.item.access covered
+covered_ordered : (rec : List Command) (i j : ℕ) (s to : Stage) (touches : List Touch) → stage_at rec i ≡ Some s → i < j
+    → greatest_with (wrote_uncovered (barriers rec) rec j to) touches j ≡ None → some_share rec i j (accesses_at rec i).writes touches ≡ true
+    → is_ordered_to rec i s j to ≡ true
+covered_ordered rec i j s to touches stage less none share =
+    let h = have_shared rec i j (accesses_at rec i).writes touches share in
+    let t : Touch = h.one.item in
+    let w : Touch = h.other.item in
+    let odd : wrote_uncovered (barriers rec) rec j to t i ≡ false =
+    no_odds (wrote_uncovered (barriers rec) rec j to) touches j none i less h.one.place t h.one.there in
+    let each : list_any (is_uncovered (barriers rec) rec i s j to t) (accesses_at rec i).writes ≡ false =
+    sym (ap (λ o. option_map_or (λ (st : Stage). list_any (is_uncovered (barriers rec) rec i st j to t) (accesses_at rec i).writes) o false) stage) ∙ odd in
+    let this : is_uncovered (barriers rec) rec i s j to t w ≡ false =
+    none_at (is_uncovered (barriers rec) rec i s j to t) (accesses_at rec i).writes h.other.place w h.other.there each in
+    let thing : Option ℕ = buffer_of (status_at rec i) w.reach in
+    let covered : is_covered rec i s w.access thing j to t.access ≡ true =
+    not_false (is_covered rec i s w.access thing j to t.access)
+    (not_both (touches_share rec i j w t) (not (is_covered rec i s w.access thing j to t.access)) h.other.passes this) in
+    covered-ordered rec i s w.access thing j to t.access covered
 
 -- V25: what a command reads
-pub read_after_write : (rec : List Command) (i j : ℕ) (s to : Stage) (l : Location) → stage_at rec i ≡ Some s → stage_at rec j ≡ Some to → i < j
-    → v25 rec j ≡ None → IsOneThing (status_at rec i) (status_at rec j) l
-    → touched (accesses_at rec i).writes l ≡ true → touched (accesses_at rec j).reads l ≡ true → is_ordered_to rec i s j to ≡ true
+pub read_after_write : (rec : List Command) (i j : ℕ) (s to : Stage) → stage_at rec i ≡ Some s → stage_at rec j ≡ Some to → i < j
+    → v25 (barriers rec) rec j ≡ None → some_share rec i j (accesses_at rec i).writes (accesses_at rec j).reads ≡ true → is_ordered_to rec i s j to ≡ true
 unfolding v25
-read_after_write rec i j s to l stage at less kept one wrote reads =
-    covered_ordered rec i j s to (accesses_at rec j).reads l stage less
-    (sym (ap (λ o. option_map_or (λ (x : Stage). greatest_with (wrote_uncovered rec j x) (accesses_at rec j).reads j) o None) at) ∙ kept)
-    one wrote reads
+read_after_write rec i j s to stage at less kept share =
+    covered_ordered rec i j s to (accesses_at rec j).reads stage less
+    (sym (ap (λ o. option_map_or (λ (x : Stage). greatest_with (wrote_uncovered (barriers rec) rec j x) (accesses_at rec j).reads j) o None) at) ∙ kept) share
 
 -- V26: what it writes
-pub write_after_write : (rec : List Command) (i j : ℕ) (s to : Stage) (l : Location) → stage_at rec i ≡ Some s → stage_at rec j ≡ Some to → i < j
-    → v26 rec j ≡ None → IsOneThing (status_at rec i) (status_at rec j) l
-    → touched (accesses_at rec i).writes l ≡ true → touched (accesses_at rec j).writes l ≡ true → is_ordered_to rec i s j to ≡ true
+pub write_after_write : (rec : List Command) (i j : ℕ) (s to : Stage) → stage_at rec i ≡ Some s → stage_at rec j ≡ Some to → i < j
+    → v26 (barriers rec) rec j ≡ None → some_share rec i j (accesses_at rec i).writes (accesses_at rec j).writes ≡ true → is_ordered_to rec i s j to ≡ true
 unfolding v26
-write_after_write rec i j s to l stage at less kept one wrote writes =
-    covered_ordered rec i j s to (accesses_at rec j).writes l stage less
-    (sym (ap (λ o. option_map_or (λ (x : Stage). greatest_with (wrote_uncovered rec j x) (accesses_at rec j).writes j) o None) at) ∙ kept)
-    one wrote writes
+write_after_write rec i j s to stage at less kept share =
+    covered_ordered rec i j s to (accesses_at rec j).writes stage less
+    (sym (ap (λ o. option_map_or (λ (x : Stage). greatest_with (wrote_uncovered (barriers rec) rec j x) (accesses_at rec j).writes j) o None) at) ∙ kept) share
 
 -- V27: what it writes, and another read
-pub write_after_read : (rec : List Command) (i j : ℕ) (s to : Stage) (l : Location) → stage_at rec i ≡ Some s → stage_at rec j ≡ Some to → i < j
-    → v27 rec j ≡ None → IsOneThing (status_at rec i) (status_at rec j) l
-    → touched (accesses_at rec i).reads l ≡ true → touched (accesses_at rec j).writes l ≡ true → is_ordered_to rec i s j to ≡ true
+pub write_after_read : (rec : List Command) (i j : ℕ) (s to : Stage) → stage_at rec i ≡ Some s → stage_at rec j ≡ Some to → i < j
+    → v27 (barriers rec) rec j ≡ None → some_share rec i j (accesses_at rec i).reads (accesses_at rec j).writes ≡ true → is_ordered_to rec i s j to ≡ true
 unfolding v27
-write_after_read rec i j s to l stage at less kept one read writes =
-    let none : greatest_with (read_unordered rec j to) (accesses_at rec j).writes j ≡ None =
-    sym (ap (λ o. option_map_or (λ (x : Stage). greatest_with (read_unordered rec j x) (accesses_at rec j).writes j) o None) at) ∙ kept in
-    let r = some_passes (λ (t : Touch). is_reached t.reach l) (accesses_at rec i).reads read in
-    let w = some_passes (λ (t : Touch). is_reached t.reach l) (accesses_at rec j).writes writes in
-    let odd : read_unordered rec j to w.item i ≡ false = no_odds (read_unordered rec j to) (accesses_at rec j).writes j none i less w.place w.item w.there in
-    let this : (not (is_ordered_to rec i s j to) && list_any (λ x. touches_share rec i j x w.item) (accesses_at rec i).reads) ≡ false =
-    sym (ap (λ o. option_map_or (λ (st : Stage). not (is_ordered_to rec i st j to) && list_any (λ x. touches_share rec i j x w.item) (accesses_at rec i).reads) o false) stage) ∙ odd in
-    let share : list_any (λ x. touches_share rec i j x w.item) (accesses_at rec i).reads ≡ true =
-    any_at (λ x. touches_share rec i j x w.item) (accesses_at rec i).reads r.place r.item r.there
-    (shared_at (status_at rec i) (status_at rec j) r.item.reach w.item.reach l r.passes w.passes one) in
-    not_false (is_ordered_to rec i s j to) (not_first (not (is_ordered_to rec i s j to)) (list_any (λ x. touches_share rec i j x w.item) (accesses_at rec i).reads) share this)
+write_after_read rec i j s to stage at less kept share =
+    let none : greatest_with (read_unordered (barriers rec) rec j to) (accesses_at rec j).writes j ≡ None =
+    sym (ap (λ o. option_map_or (λ (x : Stage). greatest_with (read_unordered (barriers rec) rec j x) (accesses_at rec j).writes j) o None) at) ∙ kept in
+    let h = have_shared rec i j (accesses_at rec i).reads (accesses_at rec j).writes share in
+    let t : Touch = h.one.item in
+    let odd : read_unordered (barriers rec) rec j to t i ≡ false =
+    no_odds (read_unordered (barriers rec) rec j to) (accesses_at rec j).writes j none i less h.one.place t h.one.there in
+    let this : (not (is_ordered_to rec i s j to) && list_any (λ x. touches_share rec i j x t) (accesses_at rec i).reads) ≡ false =
+    sym (ap (λ o. option_map_or (λ (st : Stage). not (is_ordered_to rec i st j to) && list_any (λ x. touches_share rec i j x t) (accesses_at rec i).reads) o false) stage) ∙ odd in
+    not_false (is_ordered_to rec i s j to)
+    (not_first (not (is_ordered_to rec i s j to)) (list_any (λ x. touches_share rec i j x t) (accesses_at rec i).reads) h.one.passes this)
   where
     not_first : (a b : Bool) → b ≡ true → (a && b) ≡ false → a ≡ false
     not_first true b is e = contradict b is e

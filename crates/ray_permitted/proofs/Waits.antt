@@ -16,10 +16,11 @@ use Rattle.ray_rules.specs.declared.stage.Stage.{Stage}
 use Rattle.ray_rules.specs.Access.{stage_of}
 use Rattle.ray_rules.specs.Hazards.{after_if, status_at}
 use Rattle.ray_rules.specs.Ids.{look}
-use Rattle.ray_rules.specs.Order.{Handed, handed_after_if, handed_at, handed_to_device, is_device, is_wait, last_wait, not_handed}
+use Rattle.ray_rules.specs.Order.{Handed, always, handed_after_if, handed_at, handed_to_device, is_device, is_wait, last_wait, not_handed}
 use Rattle.ray_rules.specs.Phases.{is_same_phase, phase_needed, v28}
 use Rattle.ray_rules.specs.Places.{whole}
 use Rattle.ray_rules.specs.Status.{Status, after, after_infos, built_by, fill_in, with_built}
+use Rattle.ray_rules.specs.Kinds.{kind_of}
 use Rattle.ray_permitted.proofs.Truth.{less_is, not_false, or_left, or_right}
 
 -- ---- the last wait
@@ -54,7 +55,7 @@ wait_later rec k (suc j) upto =
 -- what is handed on stays so
 stays : (takes : Stages → Access → Bool) (found : Option Command) (z : Handed) (to : Stage) → z.stages to ≡ true → (handed_after_if takes found z).stages to ≡ true
 stays takes None z to h = h
-stays takes (Some (commands.Barrier src_stages src_access dst_stages dst_access)) z to h = or_left (z.stages to) _ h
+stays takes (Some (commands.Barrier src_stages src_access dst_stages dst_access buffers)) z to h = or_left (z.stages to) _ h
 stays takes (Some commands.Wait) z to h = or_left (z.stages to) (is_device to) h
 stays takes (Some _) z to h = h
 
@@ -72,10 +73,10 @@ orders_next takes (Some c) i n w z to device low less h =
 
 -- all that the device does after a wait is ordered after all that it did before
 pub wait_orders : (takes : Stages → Access → Bool) (rec : List Command) (i j : ℕ) (to : Stage) → is_device to ≡ true → i < last_wait rec j
-    → (handed_at takes rec i j).stages to ≡ true
+    → (handed_at takes always rec i j).stages to ≡ true
 wait_orders takes rec i zero to device less = absurd (omega (arith, less))
 wait_orders takes rec i (suc n) to device less =
-    orders_next takes (slice_get rec n) i n (last_wait rec n) (handed_at takes rec i n) to device (wait_below rec n) less
+    orders_next takes (slice_get rec n) i n (last_wait rec n) (handed_at takes always rec i n) to device (wait_below rec n) less
     (wait_orders takes rec i n to device)
 
 -- ---- where there is a wait
@@ -150,7 +151,7 @@ not_broken true e = absurd cc
 not_broken false e = refl
 
 device_phase : (c : Command) (s : Stage) → stage_of c ≡ Some s → (phase_needed c ≡ Recording) × (is_wait (Some c) ≡ false)
-unfolding stage_of phase_needed
+unfolding stage_of kind_of phase_needed
 device_phase (commands.Update buffer offset content) s e = (refl, refl)
 device_phase (commands.Fill buffer offset size value) s e = (refl, refl)
 device_phase (commands.Copy src dst regions) s e = (refl, refl)

@@ -1,13 +1,13 @@
 -- What a schedule comes to. (Own.)
 use Rattle.std.specs.Prelude.{ℕ, suc, List, [], ◌∷◌, Option, Some, None}
-use Rattle.ray_schedule.specs.Events.{Event}
-use Rattle.ray_schedule.specs.Laws.{after}
+use Rattle.ray_schedule.specs.Events.{Event, Moment, beginning, run}
 use Rattle.ray_cmd.specs.declared.command.Command.{Command}
+use Rattle.ray_action.specs.Memory.{Held, nothing_live}
 use Rattle.ray_action.specs.Outcomes.{Outcome}
 use Rattle.ray_action.specs.Pieces.{Numbered}
 use Rattle.ray_action.specs.Running.{Run, Text, Unknown, then_run}
 use Rattle.ray_ready.specs.Laws.{first_actions}
-use Rattle.ray_permitted.specs.Work.{work_of}
+use Rattle.ray_permitted.specs.Work.{device_of}
 
 -- an action of which this outcome was kept, and then a run: nothing that has a meaning where none was
 abbrev pub then_kept : Numbered → Option Outcome → Run → Run
@@ -20,6 +20,10 @@ abbrev pub run_kept : (ℕ → Option Outcome) → List Numbered → Run
 run_kept kept [] = Text []
 run_kept kept (unit ∷ units) = then_kept unit (kept 0) (run_kept (λ p. kept (suc p)) units)
 
+-- the moment after a schedule of actions of a recording, from the memory in which nothing is live
+abbrev pub moment_along : List Command → List Numbered → List Event → Moment Held Outcome
+moment_along rec units es = run (device_of rec units) es (beginning (device_of rec units) nothing_live)
+
 -- what the first n commands of a recording come to along a schedule
 unfoldable pub run_along : List Command → ℕ → List Event → Run
-run_along rec n es = run_kept (after (work_of rec n) es).kept (first_actions rec n)
+run_along rec n es = run_kept (moment_along rec (first_actions rec n) es).kept (first_actions rec n)

@@ -1,3 +1,4 @@
+pub mod Separates
 pub mod Work
 pub mod Along
 pub mod Rules

@@ -3,7 +3,8 @@ use Rattle.std.specs.Prelude.{ℕ, List, Bool, true, false, length, slice_get}
 use Rattle.std.specs.Option.{option_map_or}
 use Rattle.ray_schedule.specs.Units.{Device, Work}
 use Rattle.ray_cmd.specs.declared.command.Command.{Command}
-use Rattle.ray_rules.specs.Order.{Kind, Device as OfDevice, Barrier, HostCommand, before, kind_at}
+use Rattle.ray_rules.specs.Kinds.{is_by_host}
+use Rattle.ray_rules.specs.Order.{barriers, before, kind_at}
 use Rattle.ray_action.specs.Memory.{Held, nothing_live}
 use Rattle.ray_action.specs.Areas.{cover}
 use Rattle.ray_action.specs.Action.{areas_read}
@@ -16,12 +17,6 @@ use Rattle.ray_ready.specs.Laws.{first_actions}
 -- the number of the command that action number p of a list belongs to
 abbrev pub command_at : List Numbered → ℕ → ℕ
 command_at units p = option_map_or (λ (u : Numbered). u.command) (slice_get units p) 0
-
--- whether a kind of command is done by the host. A barrier is a command of the device
-abbrev pub is_by_host : Kind → Bool
-is_by_host (OfDevice stage) = false
-is_by_host Barrier = false
-is_by_host HostCommand = true
 
 -- whether an outcome stores nothing: a data rule is broken, or there is no meaning
 abbrev pub stores_nothing : Outcome → Bool
@@ -42,12 +37,16 @@ device_of rec units = record {
   stored = λ p. left (action_at units p);
 }
 
--- the work of the first n commands of a recording: their actions, from the memory in which nothing is
--- live, in the order that barriers and waits give
-abbrev pub work_of : List Command → ℕ → Work Held Outcome
-work_of rec n = record {
+-- the work of the first n commands of a recording in an order of them: their actions, from the memory
+-- in which nothing is live
+abbrev pub work_in : List Command → (ℕ → ℕ → Bool) → ℕ → Work Held Outcome
+work_in rec order n = record {
   device = device_of rec (first_actions rec n);
   count = length (first_actions rec n);
   start = nothing_live;
-  before = before rec;
+  before = order;
 }
+
+-- the same in the order that barriers and waits give
+abbrev pub work_of : List Command → ℕ → Work Held Outcome
+work_of rec n = work_in rec (before (barriers rec) rec) n

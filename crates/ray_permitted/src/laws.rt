@@ -1,31 +1,38 @@
-ghost use Rattle.ray_permitted.specs.Laws.{RulesGiveOrder, UnrefusedBreakNoRule};
-ghost use Rattle.ray_permitted.specs.Laws.{SchedulesComeToTheRun, RecordingsComeToTheirRun};
+ghost use Rattle.ray_permitted.specs.Laws.{SeparatedAreOrderly, BarriersSeparate};
+ghost use Rattle.ray_permitted.specs.Laws.{BarriersGoForward, SchedulesComeToTheRun};
+ghost use Rattle.ray_permitted.specs.Laws.{UnrefusedBreakNoRule, RecordingComesToItsRun};
+ghost use Rattle.ray_permitted.specs.Laws.{ActionsInTurnAreReady, ActionsInTurnReadTheSame};
 ghost use Rattle.ray_permitted.specs.Laws.{SchedulesLeaveTheSame, RecordingOrderIsTheRun};
 ghost use Rattle.ray_permitted.specs.Laws.{SomeArePermitted, LongestChainsRise};
 ghost use Rattle.ray_permitted.specs.Laws.{WavesOfCommandsRun, WavesReadTheSame, WavesAreReady};
 ghost use Rattle.ray_permitted.specs.Laws.{OutcomesTellTheRun};
 ghost use Rattle.ray_permitted.specs.Laws.{AtEachFetch, AtEachStore};
 
-/// A law: of commands that break no rule, outcomes are told by what is read, conflicting actions
-/// are ordered, and the order goes forward. It does nothing. Own.
+use ray_cmd::Recording;
+
+/// A law: of accepted commands and an order that separates them, outcomes are told by what is read,
+/// conflicting actions are ordered, and the order goes forward. The order that barriers and waits
+/// give separates commands that break no rule. It does nothing. Own.
 pub fn rules_give_order()
-    ensures { RulesGiveOrder }
+    ensures ordered { SeparatedAreOrderly }
+    ensures barriers { BarriersSeparate }
 {}
 
-/// A law: every permitted schedule of commands that break no rule comes to the run of recording
-/// order, and leaves its outcomes, its memory and its first fault. So it is with all commands of a
-/// recording that isn't refused. It does nothing. Own.
+/// A law: every schedule of accepted commands that an order which separates them permits comes to
+/// the run of recording order, and leaves its outcomes, its memory and its first fault. It does
+/// nothing. Own.
 pub fn schedules_come_to_the_run()
     ensures run { SchedulesComeToTheRun }
-    ensures whole { RecordingsComeToTheirRun }
     ensures same { SchedulesLeaveTheSame }
     ensures order { RecordingOrderIsTheRun }
 {}
 
-/// A law: recording order is permitted, and so are waves whose numbers rise along the order, as
-/// those of the longest chains do. It does nothing. Own.
+/// A law: in an order that goes forward, as that of barriers and waits does, recording order is
+/// permitted, and so are waves whose numbers rise along the order, as those of the longest chains
+/// do. It does nothing. Own.
 pub fn some_are_permitted()
     ensures permitted { SomeArePermitted }
+    ensures barriers { BarriersGoForward }
     ensures chains { LongestChainsRise }
 {}
 
@@ -39,15 +46,34 @@ pub fn commands_run_in_waves()
 {}
 
 /// A law: along a permitted schedule each fetch reads what its action reads in recording order, and
-/// the action is ready there, where what it depends on gave an output. Each store still finds it so.
-/// It does nothing. Own.
+/// the action is ready there, where what it depends on gave an output. Each store still finds it
+/// so. It does nothing. Own.
 pub fn fetches_are_ready()
     ensures fetches { AtEachFetch }
     ensures stores { AtEachStore }
 {}
 
-/// A law: the commands before the one that is refused by the rules on the recording alone break no
-/// rule, and so do all where none is refused. It does nothing. Own.
-pub fn unrefused_break_no_rule()
-    ensures { UnrefusedBreakNoRule }
+/// A law: an action that may be asked for after what was done in turn is ready there, and reads
+/// what it reads in recording order. What is asked is that the rules but V25 to V27 and V32 are
+/// kept, that the earlier actions are stored which write what it reads or writes, and none of the
+/// later ones that writes what it reads; and the same of each that was done. It does nothing. Own.
+pub fn actions_in_turn_are_ready()
+    ensures ready { ActionsInTurnAreReady }
+    ensures reads { ActionsInTurnReadTheSame }
 {}
+
+/// A law: the commands of a recording before the one that is refused by the rules on the recording
+/// alone break no rule, and so do all where none is refused. It does nothing. Own.
+pub fn unrefused_break_no_rule(rec: &Recording)
+    ensures { UnrefusedBreakNoRule rec.now }
+{
+    rec.sources_law();
+}
+
+/// A law: every permitted schedule of all commands of a recording comes to its run, where none is
+/// refused by the rules on the recording alone. It does nothing. Own.
+pub fn recording_comes_to_its_run(rec: &Recording)
+    ensures { RecordingComesToItsRun rec.now }
+{
+    rec.sources_law();
+}

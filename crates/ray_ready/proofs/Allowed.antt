@@ -1,5 +1,5 @@
 -- What the rules say of an action, in relational words over the status: no other consequence of them is used.
-use Rattle.std.proofs.Common.{◌≡◌, ◌<◌, ◌≤◌, ◌+◌, ℕ, true, false, List, [], ◌∷◌, Option, Some, None, IsSome}
+use Rattle.std.proofs.Common.{◌≡◌, ℕ, true, false, List, [], ◌∷◌, Option, Some, None, IsSome}
 use Rattle.ray_flags.specs.Admission.{AsksBoth}
 use Rattle.ray_script.specs.Scripts.{refused_at}
 use Rattle.ray_geometries.specs.Contents as bottoms
@@ -19,8 +19,9 @@ use Rattle.ray_rules.specs.declared.live_buffer.LiveBuffer.{LiveBuffer}
 use Rattle.ray_rules.specs.declared.live_structure.LiveStructure.{LiveStructure}
 use Rattle.ray_rules.specs.Ids.{Ids, look}
 use Rattle.ray_rules.specs.Origins.{info_of, is_deserialized, uses_of}
-use Rattle.ray_rules.specs.Ranges.{count_of, inputs_read, primitives, size_at}
+use Rattle.ray_rules.specs.Ranges.{count_of, inputs_read, primitives}
 use Rattle.ray_rules.specs.Status.{Status}
+use Rattle.ray_rules.specs.Within.{AreInBuffers, IsInBuffer}
 use Rattle.ray_action.specs.Areas.{has}
 use Rattle.ray_action.specs.Action.{Action, Building, Tracing, MakeBuffer, MakeStructure, DestroyBuffer, DestroyStructure, ShowSizes, ShowBytes, UpdateBytes, FillBytes, CopyBytes, BuildBottom, UpdateBottom, BuildTop, UpdateTop, CopyStructure, SerializeStructure, DeserializeStructure, TellProperty, TraceRays, Rest, Impossible, content_buffer}
 use Rattle.ray_action.specs.Readiness.{AreCounts, AreOfBottom, IsOfTop}
@@ -42,22 +43,10 @@ pub record IsBuiltAny (found : Option LiveStructure) : Type 0 where
   pub kind : StructureKind
   pub built : IsBuiltOf kind found
 
--- each byte of a range is in its buffer
-abbrev pub IsWithin : Ids LiveBuffer → ByteRange → Type 0
-IsWithin buffers r = (b : ℕ) → r.from ≤ b → b < r.from + r.size → b < size_at buffers r.buffer
-
-abbrev pub IsWithinIf : Ids LiveBuffer → Option ByteRange → Type 0
-IsWithinIf buffers None = Unit {0}
-IsWithinIf buffers (Some r) = IsWithin buffers r
-
-abbrev pub AreWithin : Ids LiveBuffer → List (Option ByteRange) → Type 0
-AreWithin buffers [] = Unit {0}
-AreWithin buffers (r ∷ rs) = IsWithinIf buffers r × AreWithin buffers rs
-
 -- what a geometry reads is there, and the buffer of its content is live
 pub record IsReadable (buffers : Ids LiveBuffer) (g : Geometry) : Type 0 where
   pub live : IsSome (look buffers (content_buffer g))
-  pub within : AreWithin buffers (inputs_read buffers g)
+  pub within : AreInBuffers buffers (inputs_read buffers g)
 
 abbrev pub AreReadable : Ids LiveBuffer → List Geometry → Type 0
 AreReadable buffers [] = Unit {0}
@@ -98,7 +87,7 @@ pub record MayCopy (z : Status) (mode : CopyMode) (src dst : ℕ) : Type 0 where
   pub fits : FitsKind mode kind
 
 pub record MayDeserialize (z : Status) (from : ByteRange) (dst : ℕ) (uses : List ℕ) : Type 0 where
-  pub within : IsWithin z.buffers from
+  pub within : IsInBuffer z.buffers from
   pub live : IsSome (look z.structures dst)
   pub are_built : (u : ℕ) → has uses u ≡ true → IsBuiltOf kinds.Bottom (look z.structures u)
 
@@ -113,7 +102,7 @@ MayTellAll z what [] = Unit {0}
 MayTellAll z what (id ∷ ids) = MayTell z what id × MayTellAll z what ids
 
 pub record MayTrace (rec : List Command) (z : Status) (trace : Tracing) : Type 0 where
-  pub rays : IsWithin z.buffers trace.rays
+  pub rays : IsInBuffer z.buffers trace.rays
   pub by : Built
   pub top : IsBuilt (look z.structures trace.top) kinds.Top by
   pub uses : trace.uses ≡ uses_of rec by
@@ -129,10 +118,10 @@ IsAllowed rec z (MakeStructure id form) = look z.structures id ≡ None
 IsAllowed rec z (DestroyBuffer id) = Unit {0}
 IsAllowed rec z (DestroyStructure id) = Unit {0}
 IsAllowed rec z (ShowSizes kind counts) = AreCounts counts
-IsAllowed rec z (ShowBytes from form) = IsWithin z.buffers from
+IsAllowed rec z (ShowBytes from form) = IsInBuffer z.buffers from
 IsAllowed rec z (UpdateBytes to content) = Unit {0}
 IsAllowed rec z (FillBytes to value) = Unit {0}
-IsAllowed rec z (CopyBytes from to) = IsWithin z.buffers from
+IsAllowed rec z (CopyBytes from to) = IsInBuffer z.buffers from
 IsAllowed rec z (BuildBottom build flags gs) = MayBuildBottom z build gs × (bottoms.has_both_fast flags ≡ false)
 IsAllowed rec z (UpdateBottom build src gs) = IsBuiltOf kinds.Bottom (look z.structures src) × MayBuildBottom z build gs
 IsAllowed rec z (BuildTop build flags uses instances) = MayBuildTop rec z build uses instances × (tops.has_both_fast flags ≡ false)

@@ -54,7 +54,8 @@ use Rattle.ray_ready.proofs.Building.{structure_copied, structure_restored}
 use Rattle.ray_ready.proofs.Leading.{AreOfBytes, Leads, bytes_lead, leads_to, one_leads}
 use Rattle.ray_ready.proofs.Infos.{infos_apart, infos_lead}
 use Rattle.ray_ready.proofs.InfoRules.{infos_allowed}
-use Rattle.ray_ready.proofs.Kept.{Fail, Keeps, bottom_of, built_of, fails_at, fresh_of, is_there, keeps, neither_first, neither_second, no_part, none_any, not_broken, nothing, top_of, within}
+use Rattle.ray_rules.proofs.Kept.{Fail, neither_first, neither_second, no_part, none_any, not_broken, within}
+use Rattle.ray_ready.proofs.Kept.{Keeps, bottom_of, built_of, fails_at, fresh_of, is_there, keeps, nothing, top_of}
 
 -- what a command's actions lead to: the invariant where the next one begins
 abbrev LeadsOn : List Command → ℕ → Status → Command → Memory → Type 0
@@ -354,7 +355,7 @@ command_leads rec i z (commands.Property what structures dst) m is may ties =
     let k = keeps rec z (commands.Property what structures dst) may.rules in
     bytes_on rec i z (property_action what structures dst ∷ []) m
     ((property_allowed rec z what structures dst k, tt), tt) ties
-command_leads rec i z (commands.Barrier src_stages src_access dst_stages dst_access) m is may ties = bytes_on rec i z (Rest ∷ []) m ((tt, tt), tt) ties
+command_leads rec i z (commands.Barrier src_stages src_access dst_stages dst_access buffers) m is may ties = bytes_on rec i z (Rest ∷ []) m ((tt, tt), tt) ties
 command_leads rec i z (commands.Trace top rays count hits flags mask script) m is may ties =
     let k = keeps rec z (commands.Trace top rays count hits flags mask script) may.rules in
     bytes_on rec i z (map (rays_action rec z top rays hits count flags mask script) (range_with_len 0 (trace_pieces count))) m

@@ -6,7 +6,7 @@ use Rattle.ray_geometries.specs.Contents as bottoms
 use Rattle.ray_bottom.specs.Builders.{BuilderValue}
 use Rattle.ray_top.specs.Contents as tops
 use Rattle.ray_top.specs.declared.used.Used.{Used}
-use Rattle.ray_serial.specs.Form.{broken_line}
+use Rattle.ray_form.specs.Form.{broken_line}
 use Rattle.ray_serial.specs.Meaning.{is_top_form, deserialized_in, bottom_in}
 use Rattle.ray_serial.specs.TopMeaning.{top_in}
 use Rattle.ray_serial.proofs.BottomForms.{bottom_there}

@@ -27,7 +27,7 @@ use Rattle.ray_top.specs.Instances.{InstanceValue, flags_in, forces_both, instan
 use Rattle.ray_top.specs.InstanceReading.{bounds_in, bounds_kept, forced, in_use, instances_read, limited}
 use Rattle.ray_top.specs.declared.used.Used.{Used}
 use Rattle.ray_top.proofs.Limits.{AreRead, AreRead-instances_read}
-use Rattle.ray_serial.specs.Form.{broken_line, flags_of_payload, payload_in}
+use Rattle.ray_form.specs.Form.{broken_line, flags_of_payload, payload_in}
 use Rattle.ray_serial.specs.Meaning.{bottom_in, deserialized_in, is_top_form}
 use Rattle.ray_serial.specs.TopMeaning.{instance_linked, instances_in, linked, linked_at, top_in}
 use Rattle.ray_cmd.specs.declared.structure_kind.StructureKind.{StructureKind}

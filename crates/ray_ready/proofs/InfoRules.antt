@@ -32,7 +32,8 @@ use Rattle.ray_action.specs.Pieces.{bottom_action, building, info_action, info_a
 use Rattle.ray_cmd.specs.Sources.{has_its_source}
 use Rattle.ray_ready.proofs.Ties.{IsBuilt}
 use Rattle.ray_ready.proofs.Allowed.{AreReadable, IsAllowed, IsBuiltOf, IsLiveOf, MayBuildBottom, MayBuildTop}
-use Rattle.ray_ready.proofs.Kept.{Fail, Keeps, both_first, both_second, bottom_of, built_of, fails_at, is_so, is_there, neither_first, neither_second, no_part, none_any, not_second, readable, says_bottom, says_top, top_of}
+use Rattle.ray_rules.proofs.Kept.{Fail, neither_first, neither_second, no_part, none_any}
+use Rattle.ray_ready.proofs.Kept.{Keeps, both_first, both_second, bottom_of, built_of, fails_at, is_so, is_there, not_second, readable, says_bottom, says_top, top_of}
 use Rattle.ray_ready.proofs.Infos.{AreAllowedFrom}
 
 -- all that the rules say of one info

@@ -7,7 +7,7 @@ use Rattle.ray_geom.specs.Boxes.{BoxValue}
 use Rattle.ray_top.specs.Contents as tops
 use Rattle.ray_top.specs.Instances.{InstanceValue}
 use Rattle.ray_top.specs.InstanceReading.{bounds_in}
-use Rattle.ray_walk.specs.Standing.{IsStanding}
+use Rattle.ray_candidates.specs.Standing.{IsStanding}
 use Rattle.ray_cmd.specs.declared.asked.Asked.{Asked}
 use Rattle.ray_cmd.specs.declared.asked.Asked.TheVariants as asked
 use Rattle.ray_cmd.specs.declared.command.Command.{Command}
@@ -31,7 +31,8 @@ use Rattle.ray_action.specs.Seeing.{SeenBytes, see_geometry, see_range, see_stru
 use Rattle.ray_action.specs.Outcomes.{bottoms_in, number_of, numbers_of}
 use Rattle.ray_action.specs.Readiness.{AreBottoms, AreThere, IsBottomReady, FitsMode, IsMade, IsReady, IsThere, IsTopReady, IsTopSource}
 use Rattle.ray_ready.proofs.Ties.{Fills, IsAsMany, IsBounded, IsTopBy, TiedBuffers, TiedContents, TiedForms, Ties, form_of, size_of}
-use Rattle.ray_ready.proofs.Allowed.{AreReadable, AreWithin, FitsKind, IsAllowed, IsBuiltAny, IsBuiltOf, IsLiveOf, IsReadable, IsSource, IsWithin, IsWithinIf, MayBuildBottom, MayBuildTop, MayCopy, MayDeserialize, MayTell, MayTellAll, MayTrace}
+use Rattle.ray_rules.specs.Within.{AreInBuffers, IsInBuffer, IsInBufferIf}
+use Rattle.ray_ready.proofs.Allowed.{AreReadable, FitsKind, IsAllowed, IsBuiltAny, IsBuiltOf, IsLiveOf, IsReadable, IsSource, MayBuildBottom, MayBuildTop, MayCopy, MayDeserialize, MayTell, MayTellAll, MayTrace}
 
 -- buffers that are tied to a memory
 abbrev Buffers : Ids LiveBuffer → Memory → Type 0
@@ -51,17 +52,17 @@ bytes_some m buffer from (suc n) all =
     both_some (m (ByteAt buffer from)) (bytes_from m buffer (from + 1) n) (all from (omega arith) (omega arith))
     (bytes_some m buffer (from + 1) n (λ at low high. all at (omega arith) (omega arith)))
 
-pub range_there : (buffers : Ids LiveBuffer) (m : Memory) (r : ByteRange) → Buffers buffers m → IsWithin buffers r → IsSome (bytes_at m r)
+pub range_there : (buffers : Ids LiveBuffer) (m : Memory) (r : ByteRange) → Buffers buffers m → IsInBuffer buffers r → IsSome (bytes_at m r)
 range_there buffers m r tied within =
     bytes_some m r.buffer r.from r.size (λ at low high. tied.there r.buffer at (within at low high))
 
 -- ---- geometries
 
-range_if : (buffers : Ids LiveBuffer) (m : Memory) (r : Option ByteRange) → Buffers buffers m → IsWithinIf buffers r → IfSome (see_range m r) IsSome
+range_if : (buffers : Ids LiveBuffer) (m : Memory) (r : Option ByteRange) → Buffers buffers m → IsInBufferIf buffers r → IfSome (see_range m r) IsSome
 range_if buffers m None tied within = tt
 range_if buffers m (Some r) tied within = range_there buffers m r tied within
 
-ranges_there : (buffers : Ids LiveBuffer) (m : Memory) (rs : List (Option ByteRange)) → Buffers buffers m → AreWithin buffers rs
+ranges_there : (buffers : Ids LiveBuffer) (m : Memory) (rs : List (Option ByteRange)) → Buffers buffers m → AreInBuffers buffers rs
     → All (λ (input : Option SeenBytes). IfSome input IsSome) (map (see_range m) rs)
 ranges_there buffers m [] tied within = All-nil (λ (input : Option SeenBytes). IfSome input IsSome)
 ranges_there buffers m (r ∷ rs) tied within =

@@ -16,6 +16,10 @@ pub record MayRun (rec : List Command) (z : Status) (c : Command) : Type 0 where
 pub record IsAccepted (rec : List Command) (n : ℕ) : Type 0 where
   pub each : (i : ℕ) (c : Command) → i < n → slice_get rec i ≡ Some c → MayRun rec (status_at rec i) c
 
+-- each command of a recording below number n keeps the static rules
+pub record KeepStaticRules (rec : List Command) (n : ℕ) : Type 0 where
+  pub each : (i : ℕ) (c : Command) → i < n → slice_get rec i ≡ Some c → AreKept (static_table rec (status_at rec i) c)
+
 -- ---- what is refused, and what isn't
 
 -- the number of the command that is refused, and the count of all where none is

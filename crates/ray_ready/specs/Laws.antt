@@ -2,6 +2,7 @@
 use Rattle.std.specs.Prelude.{ℕ, ◌≡◌, ◌<◌, ◌≤◌, List, Some, Bool, true, slice_get, take, length}
 use Rattle.ray_cmd.specs.declared.command.Command.{Command}
 use Rattle.ray_rules.specs.Hazards.{status_at}
+use Rattle.ray_rules.specs.Order.{Ordering}
 use Rattle.ray_rules.specs.Refusals.{AreKept, static_table}
 use Rattle.ray_rules.specs.Status.{at_first}
 use Rattle.ray_rules.specs.Verdict.{rule_refusal}
@@ -13,7 +14,7 @@ use Rattle.ray_action.specs.Pieces.{Numbered, actions, actions_from}
 use Rattle.ray_action.specs.Readiness.{IsReady}
 use Rattle.ray_action.specs.Running.{Unknown, run_from, action_at, memory_before}
 use Rattle.ray_action.specs.Storing.{writes}
-use Rattle.ray_ready.specs.Accepted.{IsAccepted, refused_from}
+use Rattle.ray_ready.specs.Accepted.{IsAccepted, KeepStaticRules, refused_from}
 
 -- ---- what has a meaning
 
@@ -80,9 +81,14 @@ RunsAreKnown =
 
 -- ---- what is refused, and what isn't
 
--- each command before the one that is refused by the rules on the recording alone keeps the static rules
+-- each command before the one that is refused by the rules on the recording alone, in whatever order of
+-- its commands, keeps the static rules
 abbrev pub UnrefusedKeepRules : Type 0
 UnrefusedKeepRules =
-    (rec : List Command) (i : ℕ) (c : Command)
-    → i < refused_from (length rec) (rule_refusal rec) → slice_get rec i ≡ Some c
+    (order : Ordering) (rec : List Command) (i : ℕ) (c : Command)
+    → i < refused_from (length rec) (rule_refusal order rec) → slice_get rec i ≡ Some c
     → AreKept (static_table rec (status_at rec i) c)
+
+-- of a recording, the commands below number n may be run where they keep the static rules
+abbrev pub KeptAreAccepted : List Command → Type 0
+KeptAreAccepted rec = (n : ℕ) → KeepStaticRules rec n → IsAccepted rec n

@@ -1,4 +1,8 @@
-ghost use Rattle.ray_ready.specs.Laws.{ActionsAreReady, ReadinessIsLocal, ReadyIsDefined, RunsAreKnown, SourcesAreEnough, UnrefusedKeepRules};
+ghost use Rattle.ray_ready.specs.Laws.{ActionsAreReady, KeptAreAccepted, ReadinessIsLocal};
+ghost use Rattle.ray_ready.specs.Laws.{ReadyIsDefined, RunsAreKnown, SourcesAreEnough};
+ghost use Rattle.ray_ready.specs.Laws.{UnrefusedKeepRules};
+
+use ray_cmd::Recording;
 
 /// A law: each action of a command that may be run is ready in its turn, as long as every action
 /// before it gave an output. It does nothing. Own.
@@ -30,8 +34,17 @@ pub fn runs_are_known()
     ensures { RunsAreKnown }
 {}
 
-/// A law: each command before the one that is refused by the rules on the recording alone keeps the
-/// static rules, and so does each where none is refused. It does nothing. Own.
+/// A law: each command before the one that is refused by the rules on the recording alone, in
+/// whatever order of its commands, keeps the static rules, and so does each where none is refused.
+/// It does nothing. Own.
 pub fn unrefused_keep_rules()
     ensures { UnrefusedKeepRules }
 {}
+
+/// A law: of a recording, the commands below a number may be run where they keep the static rules.
+/// It does nothing. Own.
+pub fn kept_are_accepted(rec: &Recording)
+    ensures { KeptAreAccepted rec.now }
+{
+    rec.sources_law();
+}

@@ -5,3 +5,4 @@ pub mod Turns
 pub mod Waving
 pub mod Below
 pub mod Whole
+pub mod InTurn

@@ -63,7 +63,7 @@ module _ {Location : Type 0} {Held : Location → Type 0} {Outcome : Type 0} (d 
 
 module _ {Location : Type 0} {Held : Location → Type 0} {Outcome : Type 0} (d : Device Held Outcome) (before : ℕ → ℕ → Bool) (n : ℕ) (es : List Event) where
   -- of two events whose units are ordered, the first stands before the second
-  in_order :
+  pub in_order :
       (i j p q : ℕ) (e f : Event) → IsPermitted d before n es → StandsAt es i e → StandsAt es j f
       → unit_of e ≡ p → unit_of f ≡ q → before (d.command p) (d.command q) ≡ true → i < j
   in_order i j p q e f permitted at to is it h =

@@ -62,7 +62,7 @@ module _ {Location : Type 0} {Held : Location → Type 0} {Outcome : Type 0} (wo
   }
 
   -- a unit of the next wave may be fetched
-  may_fetch_in_wave :
+  pub may_fetch_in_wave :
       (number : ℕ → ℕ) (v bound p : ℕ) (memory : Memory Held) → AreRising work.device number work.count
       → (done : IsDoneTo work number v bound memory) → p < bound → number p ≡ v
       → MayFetch work.device (λ q. done.stored q ≡ true) p

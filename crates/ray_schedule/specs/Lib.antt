@@ -7,3 +7,4 @@ pub mod Faults
 pub mod Progress
 pub mod Laws
 pub mod ThreeCells
+pub mod InTurn

@@ -3,6 +3,7 @@ use Rattle.std.proofs.Common.{◌≡◌, ◌⊎◌, [], ◌∷◌, refl, ℕ, �
 use Rattle.std.specs.Prelude.{String, IfSome, codes, decimal, map, string_bytes}
 use Rattle.std.proofs.lemmas.Fmt.{decimal_injective}
 use Rattle.ray_cmd.specs.declared.command.Command.{Command}
+use Rattle.ray_rules.specs.Order.{barriers}
 use Rattle.ray_rules.specs.Verdict.{rule_refusal}
 use Rattle.ray_cmd.specs.declared.fault.RecordingFault.{RecordingFault}
 use Rattle.ray_cmd.specs.declared.fault.RecordingFault.TheVariants as recordings
@@ -24,11 +25,11 @@ use Rattle.vkray.specs.Scenes.{text_of_scene}
 use Rattle.vkray.specs.Written.{status_of, text_of}
 
 -- the run of a recording that breaks no rule is its text
-pub run_is_text : (rec : List Command) (text : List ℕ) → rule_refusal rec ≡ None → Runs rec text → ran rec ≡ Ok text
+pub run_is_text : (rec : List Command) (text : List ℕ) → rule_refusal (barriers rec) rec ≡ None → Runs rec text → ran rec ≡ Ok text
 run_is_text rec text kept runs = ap (run_with rec) kept ∙ ap ending_of_run runs.run
 
 -- the check of a recording that breaks no rule is `ok`
-pub check_is_ok : (rec : List Command) → rule_refusal rec ≡ None → checked rec ≡ Ok (codes "ok\n")
+pub check_is_ok : (rec : List Command) → rule_refusal (barriers rec) rec ≡ None → checked rec ≡ Ok (codes "ok\n")
 check_is_ok rec kept = ap (λ refusal. refused_or refusal (Ok (codes "ok\n"))) kept
 
 -- words that ask an input ask for no scene

@@ -10,6 +10,7 @@ use Rattle.ray_cmd.specs.Recordings.{recording_of}
 use Rattle.ray_cmd.specs.Sources.{AreSourced}
 use Rattle.ray_cmd.proofs.Recorded.{recorded}
 use Rattle.ray_cmd.proofs.Sourced.{are_sourced}
+use Rattle.ray_rules.specs.Order.{barriers, before}
 use Rattle.ray_rules.specs.Verdict.{rule_refusal}
 use Rattle.ray_action.specs.Running as action
 use Rattle.ray_action.specs.Running.{Text, Unknown}
@@ -57,10 +58,10 @@ run_to rec (Some r) text e = absurd (no-text (run_below rec r.command) (Refused 
 record IsReadTo (read : Result (List Command) RecordingFault) (text : List ℕ) : Type 0 where
   commands : List Command
   reads : read ≡ Ok commands
-  run : IsRunTo commands (rule_refusal commands) text
+  run : IsRunTo commands (rule_refusal (barriers commands) commands) text
 
 read-to : (workers : ℕ) (read : Result (List Command) RecordingFault) (text : List ℕ) → ending_of_read (ending_of (Run workers)) read ≡ Ok text → IsReadTo read text
-read-to workers (Ok rec) text e = record { commands = rec; reads = refl; run = run_to rec (rule_refusal rec) text e }
+read-to workers (Ok rec) text e = record { commands = rec; reads = refl; run = run_to rec (rule_refusal (barriers rec) rec) text e }
 read-to workers (Err recordings.NotJson) text e = absurd cc
 read-to workers (Err (recordings.BadShape command)) text e = absurd cc
 read-to workers (Err recordings.NoMemory) text e = absurd cc
@@ -68,13 +69,13 @@ read-to workers (Err recordings.NoMemory) text e = absurd cc
 pub sourced : (input : List ℕ) (rec : List Command) → recording_of input ≡ Ok rec → AreSourced rec
 sourced input rec reads = are_sourced (json_of input) (Ok rec) (recorded (json_of input) (Ok rec) reads)
 
-no-rule : (input : List ℕ) (rec : List Command) (text : List ℕ) → recording_of input ≡ Ok rec → IsRunTo rec (rule_refusal rec) text → BreakNoRule rec (length rec)
+no-rule : (input : List ℕ) (rec : List Command) (text : List ℕ) → recording_of input ≡ Ok rec → IsRunTo rec (rule_refusal (barriers rec) rec) text → BreakNoRule rec (length rec)
 no-rule input rec text reads run =
     unrefused rec None (length rec) (sym run.kept) (sourced input rec reads) (omega arith)
 
-every-order : (input : List ℕ) (rec : List Command) (text : List ℕ) → recording_of input ≡ Ok rec → IsRunTo rec (rule_refusal rec) text → IsTextOfEveryOrder rec text
+every-order : (input : List ℕ) (rec : List Command) (text : List ℕ) → recording_of input ≡ Ok rec → IsRunTo rec (rule_refusal (barriers rec) rec) text → IsTextOfEveryOrder rec text
 every-order input rec text reads run es may =
-    comes_to_the_run rec (length rec) es (orderly rec (length rec) (no-rule input rec text reads run)) may ∙ run.run
+    comes_to_the_run rec (before (barriers rec) rec) (length rec) es (orderly rec (length rec) (no-rule input rec text reads run)) may ∙ run.run
 
 of-answer : (workers : ℕ) (input text : List ℕ) (writing : Writing) → answer_of (Run workers) input ≡ Ok text → IsWritten writing text → IsTextOfInput input writing
 unfolding answer_of

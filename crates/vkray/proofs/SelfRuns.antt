@@ -7,6 +7,7 @@ use Rattle.ray_cmd.specs.declared.fault.RecordingFault.{RecordingFault}
 use Rattle.ray_cmd.specs.declared.fault.RecordingFault.TheVariants as recordings
 use Rattle.ray_cmd.specs.Recordings.{recording_of}
 use Rattle.ray_scene.specs.Grid.{IsScene}
+use Rattle.ray_rules.specs.Order.{barriers, before}
 use Rattle.ray_rules.specs.Verdict.{rule_refusal}
 use Rattle.ray_action.specs.Memory.{Location, Memory}
 use Rattle.ray_ready.specs.Laws.{first_actions}
@@ -15,6 +16,7 @@ use Rattle.ray_schedule.specs.Laws.{MayRun, after}
 use Rattle.ray_permitted.specs.Rules.{BreakNoRule}
 use Rattle.ray_permitted.specs.Work.{work_of}
 use Rattle.ray_permitted.proofs.Fetching.{leave_the_same, orderly}
+use Rattle.ray_permitted.proofs.Separating.{barriers_separate}
 use Rattle.ray_permitted.proofs.Runs.{comes_to_the_run, recording_order_is}
 use Rattle.ray_exec.specs.Runs.{memory_below}
 use Rattle.vkray.specs.declared.request.Request.TheVariants.{RunSelf}
@@ -134,13 +136,13 @@ record IsCountedTo (rays : ℕ) (read : Result (List Command) RecordingFault) (l
   commands : List Command
   text : List ℕ
   reads : read ≡ Ok commands
-  run : IsRunTo commands (rule_refusal commands) text
+  run : IsRunTo commands (rule_refusal (barriers commands) commands) text
   counts : line ≡ counts_line rays (last_shown commands)
 
 line_of : (rays : ℕ) (commands : List Command) (line : List ℕ) (ending : Ending) → ran commands ≡ ending → in_place_of_text (counts_line rays (last_shown commands)) ending ≡ Ok line
     → IsCountedTo rays (Ok commands) line
 line_of rays commands line (Ok text) is e =
-    record { commands = commands; text = text; reads = refl; run = run_to commands (rule_refusal commands) text is; counts = cc }
+    record { commands = commands; text = text; reads = refl; run = run_to commands (rule_refusal (barriers commands) commands) text is; counts = cc }
 line_of rays commands line (Err stop) is e = absurd cc
 
 counted_to : (rays : ℕ) (read : Result (List Command) RecordingFault) (line : List ℕ) → ending_of_read (counted rays) read ≡ Ok line → IsCountedTo rays read line
@@ -152,13 +154,14 @@ counted_to rays (Err recordings.NoMemory) line e = absurd cc
 -- the memory after a permitted schedule is that of the run
 memory_along : (rec : List Command) (n : ℕ) (es : List Event) → BreakNoRule rec n → MayRun (work_of rec n) es → (after (work_of rec n) es).memory ≡ memory_below rec n
 memory_along rec n es rules may =
-    (λ i l. (leave_the_same rec n rules).memory es may l i) ∙ recording_order_is rec n (length (first_actions rec n))
+    (λ i l. (leave_the_same rec (before (barriers rec) rec) n rules.accepted (barriers_separate rec n rules)).memory es may l i)
+    ∙ recording_order_is rec (before (barriers rec) rec) n (length (first_actions rec n))
 
-along : (rays : ℕ) (rec : List Command) (line text : List ℕ) → BreakNoRule rec (length rec) → IsRunTo rec (rule_refusal rec) text → line ≡ counts_line rays (last_shown rec)
+along : (rays : ℕ) (rec : List Command) (line text : List ℕ) → BreakNoRule rec (length rec) → IsRunTo rec (rule_refusal (barriers rec) rec) text → line ≡ counts_line rays (last_shown rec)
     → AreCountsOfEveryOrder rays rec line
 along rays rec line text rules run counts es may = record {
   text = text;
-  run = comes_to_the_run rec (length rec) es (orderly rec (length rec) rules) may ∙ run.run;
+  run = comes_to_the_run rec (before (barriers rec) rec) (length rec) es (orderly rec (length rec) rules) may ∙ run.run;
   counts = counts ∙ ap (λ (m : Memory). counts_line rays (last_shown_in m rec)) (sym (memory_along rec (length rec) es rules may));
 }
 

@@ -5,6 +5,7 @@ use Rattle.ray_cmd.specs.declared.fault.RecordingFault.{RecordingFault}
 use Rattle.ray_cmd.specs.declared.fault.RecordingFault.TheVariants as recordings
 use Rattle.ray_cmd.specs.declared.refusal.Refusal.{Refusal}
 use Rattle.ray_cmd.specs.Recordings.{recording_of}
+use Rattle.ray_rules.specs.Order.{barriers}
 use Rattle.ray_rules.specs.Verdict.{rule_refusal}
 use Rattle.ray_action.specs.Running as action
 use Rattle.ray_action.specs.Running.{Text, Unknown}
@@ -41,7 +42,7 @@ run_with rec (Some refusal) = ending_before (run_below rec refusal.command) (Ref
 
 -- a run of a recording
 abbrev pub ran : List Command → Ending
-ran rec = run_with rec (rule_refusal rec)
+ran rec = run_with rec (rule_refusal (barriers rec) rec)
 
 -- a refusal, and where there is none another ending
 abbrev pub refused_or : Option Refusal → Ending → Ending
@@ -50,7 +51,7 @@ refused_or (Some refusal) otherwise = Err (Refused refusal)
 
 -- what rules say of a recording: `ok`, or its refusal
 abbrev pub checked : List Command → Ending
-checked rec = refused_or (rule_refusal rec) (Ok (codes "ok\n"))
+checked rec = refused_or (rule_refusal (barriers rec) rec) (Ok (codes "ok\n"))
 
 -- what a recording is asked for. How many workers there are makes no difference
 abbrev pub ending_of : Asked → List Command → Ending

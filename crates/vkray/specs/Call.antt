@@ -5,6 +5,7 @@ use Rattle.ray_cmd.specs.declared.command.Command.{Command}
 use Rattle.ray_cmd.specs.Recordings.{recording_of}
 use Rattle.ray_io.specs.Faults.{HasRisen}
 use Rattle.ray_io.specs.ReadAll.{LeavesAllBut}
+use Rattle.ray_rules.specs.Order.{barriers}
 use Rattle.ray_rules.specs.Verdict.{rule_refusal}
 use Rattle.ray_action.specs.Running.{Text}
 use Rattle.ray_exec.specs.Runs.{run_below}
@@ -156,12 +157,12 @@ pub record IsGoodCall (asked : Asked) (words : List (String Global)) (reading : 
   pub source_holds : ¬ HasRisen reading.faults_before reading.faults_after
   pub sink_holds : ¬ HasFailed writing
   pub reads : recording_of input ≡ Ok commands
-  pub rules : rule_refusal commands ≡ None
+  pub rules : rule_refusal (barriers commands) commands ≡ None
 
 -- the recording of a scene is read as these commands, which break no rule V1 to V32
 pub record IsGoodScene (scene : Scene) (commands : List Command) : Type 0 where
   pub reads : recording_of (text_of_scene scene) ≡ Ok commands
-  pub rules : rule_refusal commands ≡ None
+  pub rules : rule_refusal (barriers commands) commands ≡ None
 
 -- a recording whose run has this text
 pub record Runs (commands : List Command) (text : List ℕ) : Type 0 where

@@ -1,11 +1,12 @@
-ghost use Rattle.std.specs.Prelude.{◌≡◌, ◌≤◌, IfOk, OnOk, Some, length};
+ghost use Rattle.std.specs.Prelude.{◌≡◌, ◌≤◌, OnOk, Some, length};
 ghost use Rattle.ray_cmd.specs.Recordings.{recording_of, Answers};
-ghost use Rattle.ray_cmd.specs.Sources.{AreSourced};
 ghost use Rattle.ray_scene.specs.Grid.{IsScene};
 ghost use Rattle.ray_action.specs.Memory.{Location, nothing_live};
 ghost use Rattle.ray_memory.specs.State.{memory_of};
 ghost use Rattle.ray_exec.specs.Runs.{memory_below, run_below, IsRun};
-ghost use Rattle.ray_permitted.specs.Rules.{BreakNoRule};
+ghost use Rattle.ray_ready.specs.Accepted.{refused_from};
+ghost use Rattle.ray_rules.specs.Order.{barriers};
+ghost use Rattle.ray_rules.specs.Verdict.{rule_refusal};
 ghost use Rattle.vkray.specs.Answer.{answer_of, checked, counted, ending_of, ran, run_with};
 ghost use Rattle.vkray.specs.Answer.{self_answer};
 ghost use Rattle.vkray.specs.Endings.{Ends, StopsSo, AreWorkers, IsWithinLimits};
@@ -43,8 +44,7 @@ pub(crate) fn execute<R: Threads + Sync, G: Gate + Sync>(
 
 // Reads the bytes as a recording. They are dropped before anything is done with it.
 fn read_whole(alloc: Global, bytes: Vec<u8>) -> Result<Recording, RecordingFault>
-    ensures answer { Answers result (recording_of bytes.items) }
-    ensures sources { IfOk result AreSourced }
+    ensures { Answers result (recording_of bytes.items) }
 {
     read_recording(alloc, bytes.as_slice())
 }
@@ -57,7 +57,6 @@ fn execute_recording<R: Threads + Sync, G: Gate + Sync>(
     recording: &Recording,
     gate: &G,
 ) -> Result<Vec<u8>, Stop>
-    requires sourced { AreSourced recording.now }
     requires limits { IsWithinLimits asked }
     ensures { Ends (ending_of asked recording.now) result }
 {
@@ -112,7 +111,6 @@ fn count<R: Threads + Sync, G: Gate + Sync>(
     workers: u32,
     gate: &G,
 ) -> Result<Vec<u8>, Stop>
-    requires sourced { AreSourced recording.now }
     requires workers { AreWorkers workers }
     ensures { Ends (counted rays recording.now) result }
 {
@@ -131,7 +129,6 @@ fn run<R: Threads + Sync, G: Gate + Sync>(
     workers: u32,
     gate: &G,
 ) -> Result<Vec<u8>, Stop>
-    requires sourced { AreSourced recording.now }
     requires workers { AreWorkers workers }
     ensures { Ends (ran recording.now) result }
 {
@@ -149,7 +146,6 @@ fn run_in<R: Threads + Sync, G: Gate + Sync>(
     gate: &G,
 ) -> Result<Vec<u8>, Stop>
     requires new { (l : Location) → memory_of state.old l ≡ nothing_live l }
-    requires sourced { AreSourced recording.now }
     requires workers { AreWorkers workers }
     ensures run { Ends (ran recording.now) result }
     ensures left { OnOk result ((l : Location) → memory_of state.new l
@@ -180,7 +176,8 @@ fn run_to<R: Threads + Sync, G: Gate + Sync>(
 ) -> Stop
     requires new { (l : Location) → memory_of state.old l ≡ nothing_live l }
     requires within { refusal.command ≤ length recording.now }
-    requires rules { BreakNoRule recording.now refusal.command }
+    requires rules { refusal.command ≤ refused_from (length recording.now)
+        (rule_refusal (barriers recording.now) recording.now) }
     requires workers { AreWorkers workers }
     ensures { StopsSo (run_with recording.now (Some refusal)) result }
 {
@@ -202,7 +199,8 @@ fn run_until<R: Threads + Sync, G: Gate + Sync>(
 ) -> Result<Vec<u8>, RunFault>
     requires new { (l : Location) → memory_of state.old l ≡ nothing_live l }
     requires within { until ≤ length recording.now }
-    requires rules { BreakNoRule recording.now until }
+    requires rules { until ≤ refused_from (length recording.now)
+        (rule_refusal (barriers recording.now) recording.now) }
     requires workers { AreWorkers workers }
     ensures run { IsRun (run_below recording.now until) result }
     ensures left { OnOk result ((l : Location) → memory_of state.new l

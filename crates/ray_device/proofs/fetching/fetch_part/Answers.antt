@@ -1,11 +1,11 @@
-use Rattle.std.proofs.Common.{ℕ, OnOk, ◌+◌, ◌≤◌, ◌<◌, ◌*◌, ◌∙◌, length, map, ap, subst, sym}
+use Rattle.std.proofs.Common.{ℕ, ◌+◌, ◌≤◌, ◌<◌, ◌*◌, ◌∙◌, length, map, ap, subst, sym}
 use Rattle.ray_cmd.specs.declared.command.Command.{Command}
 use Rattle.ray_cmd.specs.declared.command.Command.TheVariants as commands
 use Rattle.ray_action.specs.Memory.{ContentsAt, StructureAt, bytes_at}
 use Rattle.ray_action.specs.Outcomes.{Outcome, bytes_outcome, deserialize_outcome, serialize_outcome}
 use Rattle.ray_action.specs.Pieces.{cull_mask}
 use Rattle.ray_memory.specs.State.{memory_of}
-use Rattle.ray_device.specs.Fetching.{IsFetched}
+use Rattle.ray_device.specs.Fetching.{IsFetched, OnAnswered}
 use Rattle.ray_device.specs.Infos.{info_now}
 use Rattle.ray_device.specs.Parts.{part_given}
 use Rattle.ray_device.specs.Pieces.{piece_count}
@@ -81,7 +81,7 @@ returns-in-Trace-clause-bound g c =
     let s = c.args.state.now in
     let k = c.args.part in
     let t = c.in-Trace in
-    subst (λ (most : ℕ). OnOk c.traced_rays.result (c.traced_rays.new.steps ≤ c.args.steps.now + most))
+    subst (λ (most : ℕ). OnAnswered c.traced_rays.result (c.traced_rays.new.steps ≤ c.args.steps.now + most))
     ((λ i. most_traced s t.top (c.rays_of_part.ensures i) (64 * k) (c.rays_in_part.ensures i) t.flags (cull_mask t.mask) (c.as_slice-in-Trace.ensures.items i))
     ∙ (most_is s t.top t.rays t.count t.hits t.flags t.mask t.script k ∙ ap (λ x. most_tested s x k) (sym t.is)))
     c.traced_rays.ensures.bound

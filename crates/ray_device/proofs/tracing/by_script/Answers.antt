@@ -3,7 +3,8 @@ use Rattle.ray_action.specs.Outcomes.{Outcome}
 use Rattle.ray_top.specs.Trees.{without_tree}
 use Rattle.ray_memory.specs.State.{memory_of}
 use Rattle.ray_device.specs.Fetching.{IsFetched}
-use Rattle.ray_device.specs.Tracing.{bottoms_of, rays_outcome, traced_through}
+use Rattle.ray_action.specs.Traceable.{bottoms_of}
+use Rattle.ray_device.specs.Tracing.{rays_outcome, traced_through}
 use Rattle.ray_device.proofs.tracing.by_script.Goals as goal
 
 pub returns-clause-value : goal.returns-clause-value

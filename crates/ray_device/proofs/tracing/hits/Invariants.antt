@@ -1,5 +1,5 @@
 use Rattle.ray_top.specs.Trees.{without_tree}
-use Rattle.ray_walk.specs.Standing.{structures_in}
+use Rattle.ray_candidates.specs.Standing.{structures_in}
 use Rattle.ray_device.specs.Bounds.{most_of_rays}
 use Rattle.ray_device.specs.Tracing.{AreSoFar, rays_outcome}
 use Rattle.ray_device.proofs.tracing.hits.Given as goal

@@ -1,8 +1,8 @@
 use Rattle.std.proofs.Common.{◌≡◌, Some, None, subst, arith}
 use Rattle.ray_memory.specs.State.{memory_of}
+use Rattle.ray_exec.specs.Waves.{AreRun}
 use Rattle.ray_exec.specs.Progress.{IsDone}
 use Rattle.ray_exec.proofs.Ends.{begins, ends_in_memory, ends_in_text, ends_refused}
-use Rattle.ray_exec.proofs.OneWave.{AreRun}
 use Rattle.ray_exec.proofs.in_waves.run_in_waves.Goals as goal
 
 pub loop-wave-init : goal.loop-wave-init
@@ -14,7 +14,7 @@ returns-in-Some-clause-run g c =
     let rec = c.args.rec.now in
     let rows = c.args.order.now in
     let n = c.args.until in
-    let run : AreRun rec rows n = record { rules = c.requires.rules; within = c.requires.within; order = c.requires.order; ordered = c.requires.ordered } in
+    let run : AreRun rec rows n = c.requires.run in
     let last : c.loop-wave.wave ≡ n =
     (let f = c.loop-wave-test.false in let e = c.loop-wave.auto.wave-end in let s = c.len-wave-end.ensures in
     let many = c.in-Ok.ensures.many in let size = c.in-Ok.waves.ok.0 in omega (arith, f, e, s, many, size)) in
@@ -27,7 +27,7 @@ returns-clause-run g c =
     let rec = c.args.rec.now in
     let rows = c.args.order.now in
     let n = c.args.until in
-    let run : AreRun rec rows n = record { rules = c.requires.rules; within = c.requires.within; order = c.requires.order; ordered = c.requires.ordered } in
+    let run : AreRun rec rows n = c.requires.run in
     let last : c.loop-wave.wave ≡ n =
     (let f = c.loop-wave-test.false in let e = c.loop-wave.auto.wave-end in let s = c.len-wave-end.ensures in
     let many = c.in-Ok.ensures.many in let size = c.in-Ok.waves.ok.0 in omega (arith, f, e, s, many, size)) in
@@ -40,7 +40,7 @@ returns-clause-left g c =
     let rec = c.args.rec.now in
     let rows = c.args.order.now in
     let n = c.args.until in
-    let run : AreRun rec rows n = record { rules = c.requires.rules; within = c.requires.within; order = c.requires.order; ordered = c.requires.ordered } in
+    let run : AreRun rec rows n = c.requires.run in
     let last : c.loop-wave.wave ≡ n =
     (let f = c.loop-wave-test.false in let e = c.loop-wave.auto.wave-end in let s = c.len-wave-end.ensures in
     let many = c.in-Ok.ensures.many in let size = c.in-Ok.waves.ok.0 in omega (arith, f, e, s, many, size)) in

@@ -1,17 +1,18 @@
 use Rattle.std.proofs.Common.{◌+◌, subst, sym, ◌∙◌}
 use Rattle.ray_memory.specs.State.{memory_of}
+use Rattle.ray_exec.specs.Waves.{AreRun}
 use Rattle.ray_exec.specs.Given.{AreReady}
 use Rattle.ray_exec.specs.Progress.{IsDone}
 use Rattle.ray_exec.specs.Settled.{AreApart, IsLeftBy, settled}
 use Rattle.ray_exec.proofs.Filling.{commands_within}
 use Rattle.ray_exec.proofs.GoingOn.{goes_on, pieces_are}
-use Rattle.ray_exec.proofs.OneWave.{AreRun, wave_apart, wave_ready}
+use Rattle.ray_exec.proofs.OneWave.{wave_apart, wave_ready}
 use Rattle.ray_ready.specs.Accepted.{refused_from}
 use Rattle.ray_exec.proofs.in_waves.run_wave.Goals as goal
 
 pub pieces_below-requires : goal.pieces_below-requires
 pieces_below-requires g c = record {
-  within = commands_within c.args.rec.now c.args.order.now c.args.until c.args.wave c.commands_of-commands.result.now c.commands_of-commands.ensures c.requires.within;
+  within = commands_within c.args.rec.now c.args.order.now c.args.until c.args.wave c.commands_of-commands.result.now c.commands_of-commands.ensures c.requires.run.within;
 }
 
 pub fetch_wave-requires-clause-ready : goal.fetch_wave-requires-clause-ready
@@ -20,7 +21,7 @@ fetch_wave-requires-clause-ready g c κs within =
     let rows = c.args.order.now in
     let n = c.args.until in
     let v = c.args.wave in
-    let run : AreRun rec rows n = record { rules = c.requires.rules; within = c.requires.within; order = c.requires.order; ordered = c.requires.ordered } in
+    let run : AreRun rec rows n = c.requires.run in
     subst (AreReady rec (memory_of c.args.state.now))
     (sym (c.as_slice.ensures.value ∙ pieces_are rec rows n v c.bound_by.result c.args.stop c.commands_of-commands.result.now c.in_ok-pieces.pieces.items
     c.commands_of-commands.ensures c.bound_by.ensures c.in_ok-pieces.ensures))
@@ -32,7 +33,7 @@ settle-requires-clause-ready g c =
     let rows = c.args.order.now in
     let n = c.args.until in
     let v = c.args.wave in
-    let run : AreRun rec rows n = record { rules = c.requires.rules; within = c.requires.within; order = c.requires.order; ordered = c.requires.ordered } in
+    let run : AreRun rec rows n = c.requires.run in
     subst (AreReady rec (memory_of c.args.state.now))
     (sym (c.as_slice-2.ensures.value ∙ pieces_are rec rows n v c.bound_by.result c.args.stop c.commands_of-commands.result.now c.in_ok-pieces.pieces.items
     c.commands_of-commands.ensures c.bound_by.ensures c.in_ok-pieces.ensures))
@@ -44,7 +45,7 @@ settle-requires-clause-apart g c =
     let rows = c.args.order.now in
     let n = c.args.until in
     let v = c.args.wave in
-    let run : AreRun rec rows n = record { rules = c.requires.rules; within = c.requires.within; order = c.requires.order; ordered = c.requires.ordered } in
+    let run : AreRun rec rows n = c.requires.run in
     subst (AreApart rec)
     (sym (c.as_slice-2.ensures.value ∙ pieces_are rec rows n v c.bound_by.result c.args.stop c.commands_of-commands.result.now c.in_ok-pieces.pieces.items
     c.commands_of-commands.ensures c.bound_by.ensures c.in_ok-pieces.ensures))
@@ -58,7 +59,7 @@ returns g c =
     let v = c.args.wave in
     let m = memory_of c.args.state.now in
     let text = c.args.text.now.items in
-    let run : AreRun rec rows n = record { rules = c.requires.rules; within = c.requires.within; order = c.requires.order; ordered = c.requires.ordered } in
+    let run : AreRun rec rows n = c.requires.run in
     subst (IsDone rec rows n (v + 1) (memory_of c.settle.new.state) c.settle.new.text.items) (sym c.least.ensures)
     (goes_on rec rows n v m (memory_of c.settle.new.state) text c.settle.new.text.items c.args.stop c.in_ok-met.met run c.requires.done
     (subst (λ pieces. IsLeftBy (settled rec m pieces m text) (memory_of c.settle.new.state) c.settle.new.text.items c.in_ok-met.met)

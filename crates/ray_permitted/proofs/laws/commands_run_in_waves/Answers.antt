@@ -1,5 +1,5 @@
 use Rattle.ray_schedule.proofs.Whole.{waves_run}
-use Rattle.ray_permitted.specs.Work.{work_of}
+use Rattle.ray_permitted.specs.Work.{work_in}
 use Rattle.ray_permitted.proofs.Fetching.{local_work}
 use Rattle.ray_permitted.proofs.Finding.{waves_are_ready, waves_read_the_same}
 use Rattle.ray_permitted.proofs.Runs.{outcomes_tell}
@@ -7,7 +7,7 @@ use Rattle.ray_permitted.proofs.laws.commands_run_in_waves.Goals as goal
 
 pub returns : goal.returns
 returns c = record {
-  waves = λ rec n. waves_run (work_of rec n) (local_work rec n);
+  waves = λ rec order n. waves_run (work_in rec order n) (local_work rec order n);
   reads = waves_read_the_same;
   ready = waves_are_ready;
   outcomes = outcomes_tell;

@@ -1,11 +1,11 @@
-use Rattle.std.proofs.Common.{◌∙◌, None, Some, sym, arith}
-use Rattle.vkray.proofs.Unrefused.{unrefused}
+use Rattle.std.proofs.Common.{◌≤◌, ◌∙◌, None, Some, subst, sym, length, arith}
+use Rattle.ray_ready.specs.Accepted.{refused_from}
 use Rattle.vkray.proofs.executing.run_in.Goals as goal
 
 pub run_to-requires-clause-rules : goal.run_to-requires-clause-rules
 run_to-requires-clause-rules g c κs within =
-    unrefused c.args.recording.now (Some c.in-Some.refusal) c.in-Some.refusal.command (sym c.in-Some.is ∙ c.in-Ok.ensures.value) c.requires.sourced (omega arith)
+    subst (λ r. c.in-Some.refusal.command ≤ refused_from (length c.args.recording.now) r) (sym c.in-Some.is ∙ c.in-Ok.ensures.value) (omega arith)
 
 pub run_until-requires-clause-rules : goal.run_until-requires-clause-rules
 run_until-requires-clause-rules g c κs within =
-    unrefused c.args.recording.now None _ (sym c.in-None.is ∙ c.in-Ok.ensures.value) c.requires.sourced (omega arith)
+    subst (λ r. c.len.result ≤ refused_from (length c.args.recording.now) r) (sym c.in-None.is ∙ c.in-Ok.ensures.value) (omega (arith, c.len.ensures))

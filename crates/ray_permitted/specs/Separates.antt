@@ -1,0 +1,42 @@
+-- What a run needs of an order of commands. The order that barriers and waits give on one queue is one
+-- that will do. (Vulkan, "Synchronization and Cache Control": execution dependencies; own: the form.)
+use Rattle.std.specs.Prelude.{ℕ, ◌≡◌, ◌<◌, ◌||◌, List, Bool, true}
+use Rattle.std.specs.List.{list_any}
+use Rattle.ray_cmd.specs.declared.command.Command.{Command}
+use Rattle.ray_rules.specs.declared.kind.Kind.TheVariants.{Device, HostCommand}
+use Rattle.ray_rules.specs.declared.stage.Stage.{Stage}
+use Rattle.ray_rules.specs.declared.touch.Touch.{Touch}
+use Rattle.ray_rules.specs.Hazards.{accesses_at, touches_share}
+use Rattle.ray_rules.specs.Order.{kind_at, last_wait}
+
+-- whether some of the touches by command number i and some by command number j share something
+abbrev pub some_share : List Command → ℕ → ℕ → List Touch → List Touch → Bool
+some_share rec i j ones others =
+    list_any (λ other. list_any (λ one. touches_share rec i j one other) ones) others
+
+-- whether the accesses of two commands share something that one of the commands writes
+abbrev pub accesses_conflict : List Command → ℕ → ℕ → Bool
+accesses_conflict rec i j =
+    some_share rec i j (accesses_at rec i).writes (accesses_at rec j).reads
+    || (some_share rec i j (accesses_at rec i).writes (accesses_at rec j).writes
+    || some_share rec i j (accesses_at rec i).reads (accesses_at rec j).writes)
+
+-- an order of the first n commands puts none before itself or an earlier one
+abbrev pub GoesForward : ℕ → (ℕ → ℕ → Bool) → Type 0
+GoesForward n before = (i j : ℕ) → i < n → j < n → before i j ≡ true → i < j
+
+-- an order separates the first n commands of a recording. It goes forward; it puts a command of the host
+-- before all later commands, a device command before what the host and the device do behind a later `wait`,
+-- and a device command before a later one whose accesses conflict with its own
+pub record Separates (rec : List Command) (n : ℕ) (before : ℕ → ℕ → Bool) : Type 0 where
+  pub forward : GoesForward n before
+  pub host : (i j : ℕ) → i < j → j < n → kind_at rec i ≡ HostCommand → before i j ≡ true
+  pub host_waits :
+      (i j : ℕ) (stage : Stage) → i < last_wait rec j → j < n → kind_at rec i ≡ Device stage
+      → kind_at rec j ≡ HostCommand → before i j ≡ true
+  pub device_waits :
+      (i j : ℕ) (stage to : Stage) → i < last_wait rec j → j < n → kind_at rec i ≡ Device stage
+      → kind_at rec j ≡ Device to → before i j ≡ true
+  pub conflicts :
+      (i j : ℕ) (stage to : Stage) → i < j → j < n → kind_at rec i ≡ Device stage
+      → kind_at rec j ≡ Device to → accesses_conflict rec i j ≡ true → before i j ≡ true
