@@ -65,6 +65,7 @@ pages:
 	checks/stands_on.py --write
 	checks/rules.py --write
 	checks/index.py --write
+	checks/headline.py --write
 
 test:
 	rt ci

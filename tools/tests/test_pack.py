@@ -53,6 +53,31 @@ class Recordings(unittest.TestCase):
         status, text = vkray("check", given=made.text().encode())
         self.assertEqual((status, text.split()[2]), (1, "V25"))
 
+    def test_barriers_go_by_what_commands_access(self):
+        made = Recording(barriers=False)
+        made.barrier("copy_structure serialize", "build")
+        made.barrier("fill", "copy read", [0, 3])
+        first, second = made.commands[1:]
+        self.assertEqual(first, {
+            "op": "barrier", "src_stages": ["structure_copy"], "src_access": ["structure_write", "transfer_write"],
+            "dst_stages": ["build"], "dst_access": ["shader_read", "structure_read", "structure_write"]})
+        self.assertEqual(second, {
+            "op": "barrier", "src_stages": ["transfer"], "src_access": ["transfer_write"], "dst_stages": ["transfer", "host"],
+            "dst_access": ["transfer_read", "transfer_write", "host_read"], "buffers": [0, 3]})
+
+    @needs_program
+    def test_barriers_that_name_buffers(self):
+        for named, wanted in (([0, 1], (0, "ok\n")), ([0], (1, "refused 8 V25 with 5\n"))):
+            made = Recording(barriers=False)
+            one, other, both = (made.buffer(["transfer_src", "transfer_dst"], size=16) for _ in range(3))
+            for buffer in (one, other):
+                made.device("fill", buffer=buffer, offset=0, size=8, value=7)
+            made.barrier("fill", "copy", named)
+            for place, buffer in enumerate((one, other)):
+                regions = [{"src_offset": 0, "dst_offset": 8 * place, "size": 8}]
+                made.device("copy", src=buffer, dst=both, regions=regions)
+            self.assertEqual(vkray("check", given=made.text().encode()), wanted)
+
     @needs_program
     def test_boxes_by_hand(self):
         lines = hits_of("scene", DATA / "boxes.json").splitlines()

@@ -1,4 +1,4 @@
-"""The pictures of docs/pictures are what the tools make; vkraydraw refuses what it can't draw."""
+"""The pictures of docs/pictures are what the tools make; vkraydraw tells what barriers name."""
 
 import json
 import pathlib
@@ -6,7 +6,8 @@ import re
 import tempfile
 import unittest
 
-from helpers import DATA, TOP, hits_of, needs_program, packed, tool, vkray
+from helpers import CASES, DATA, TOP, hits_of, needs_program, packed, tool, vkray
+from vkraydraw.chain import chain, told_buffers
 from vkraypack import Camera, with_rays
 from vkraypack.recording import recording_text
 from vkrayhits import read_hits
@@ -58,3 +59,16 @@ class Pictures(unittest.TestCase):
         words = ("gltf", DATA / "mirrored.gltf", "--scale", "100", "--image", "16x12")
         status, _, told = self.drawn("owners", packed(*words), hits_of(*words))
         self.assertEqual((status, told), (1, "vkraydraw: " + told.split(": ")[1] + ": a ray doesn't go straight down\n"))
+
+
+class Chains(unittest.TestCase):
+    def test_barriers_that_name_buffers(self):
+        case = json.loads((CASES / "limited-barriers" / "example-two-uploads.json").read_text(encoding="utf-8"))
+        drawn = chain(case["recording"], "ok\n")
+        self.assertEqual(re.findall(r">(buffers [^<]*)<", drawn), ["buffers 0", "buffers 3", "buffers 3"])
+        self.assertEqual(drawn.count(">structure_copy<"), 1)
+
+    def test_what_a_barrier_names_is_told_in_order_and_once(self):
+        self.assertEqual(told_buffers([7, 1, 7]), "buffers 1, 7")
+        self.assertEqual(told_buffers(range(9)), "buffers 0, 1, 2, 3 and 5 more")
+        self.assertEqual(told_buffers([]), "no buffers")

@@ -8,7 +8,9 @@
     print(recording.text())
 
 Structures and scratch memory get the sizes that they need, and a full barrier stands between each two
-commands of the device. What a recording means, and whether it is refused, is for vkray to say.
+commands of the device; with `Recording(barriers=False)` those alone that `barrier` puts, as in
+`recording.barrier("copy", "build", [buffer])`. What a recording means, and whether it is refused, is for
+vkray to say.
 """
 
 from .camera import Camera, with_rays

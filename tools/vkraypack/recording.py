@@ -3,6 +3,7 @@
 import json
 
 from . import records
+from .accesses import between
 from .records import Instance, PackError, Ray
 
 EVERYTHING = {
@@ -21,7 +22,7 @@ class Recording:
     A command of the device begins the command buffer where none is begun, and stands behind a full
     barrier where another is before it. A read ends, submits and waits. Buffers and structures are made
     before the command buffer in which they are first used. With barriers=False no barrier comes by
-    itself, and `device("barrier", ..)` puts one where it is wanted.
+    itself, and `barrier` or `device("barrier", ..)` puts one where it is wanted.
     """
 
     def __init__(self, barriers=True):
@@ -82,6 +83,15 @@ class Recording:
             self.commands.append({"op": "barrier", **EVERYTHING})
         self._unordered = op != "barrier"
         self.commands.append({"op": op, **members})
+
+    def barrier(self, before, after, buffers=None):
+        """Puts a barrier from what some commands write to all that others access, at their stages.
+
+        Both are names of commands, as "copy" or "copy update"; "read" stands for the host. With a list of
+        buffers its accesses are of these alone, and of no structure; it orders all the same.
+        """
+        limit = {} if buffers is None else {"buffers": list(buffers)}
+        self.device("barrier", **between(before, after), **limit)
 
     def triangles(self, vertices, triangles, opaque=True):
         """Returns a geometry of triangles: three numbers a vertex, three vertex numbers a triangle."""
