@@ -9,28 +9,29 @@ use Rattle.ray_query.specs.declared.found.Found.{Found}
 use Rattle.ray_nearest.specs.declared.node.WalkNode.{WalkNode}
 use Rattle.ray_nearest.specs.declared.turn.Turn.{Turn}
 use Rattle.ray_nearest.specs.declared.turn.Turn.TheVariants.{Node, Candidate}
-use Rattle.ray_nearest.specs.Adding.{Adds, AddsFound, AddsNode, AddsNodes, AddsOne, HasValue, IsOpened, Passes}
+use Rattle.ray_nearest.specs.Adding.{Adds, AddsFound, AddsNode, AddsNodes, AddsOne, IsLow, IsOpened, MayWait, Passes}
 use Rattle.ray_nearest.specs.Scene.{SceneValue}
 use Rattle.ray_query.specs.Limits.{is_open}
 use Rattle.ray_query.specs.Limits.{is_within}
 use Rattle.ray_nearest.specs.Turns.{turn_within}
-use Rattle.ray_nearest.proofs.Orders.{within-value}
+use Rattle.ray_query.proofs.Orders.{beyond-farther}
+use Rattle.ray_nearest.proofs.Waits.{waits-low}
 
 -- ---- one
 
-shut : (limit entry : Option Ratio) (e : Ratio) → HasValue entry e → is_within limit e ≡ false → is_open limit entry ≡ false
-shut limit None e value far = absurd value
-shut limit (Some a) e value far = sym (within-value limit e a value) ∙ far
+shut : (limit entry : Option Ratio) (e : Ratio) → IsLow entry e → is_within limit e ≡ false → is_open limit entry ≡ false
+shut limit None e low far = refl
+shut limit (Some a) e low far = beyond-farther limit e a low far
 
 module _ (limit : Option Ratio) (old new : List Turn) where
-  -- the turn of a node was pushed, at a ratio of its entry's value
-  pub pushed_node : (entry : WalkNode → Option Ratio) (n : WalkNode) (e : Ratio) → HasValue (entry n) e
+  -- the turn of a node was pushed, at a ratio at which it may wait
+  pub pushed_node : (entry : WalkNode → Option Ratio) (n : WalkNode) (e : Ratio) → MayWait (entry n) n e
       → IsPermutation (turn_within limit (Node e n) ++ old) new → AddsOne (AddsNode limit entry n) old new
-  pushed_node entry n e value moved = by (is_within limit e) refl moved
+  pushed_node entry n e waits moved = by (is_within limit e) refl moved
     where
       by : (b : Bool) → is_within limit e ≡ b → IsPermutation ((if b then Node e n ∷ [] else []) ++ old) new → AddsOne (AddsNode limit entry n) old new
-      by true in_ p = (Node e n ∷ [], inr (e, value, refl), p)
-      by false far p = ([], inl (refl, shut limit (entry n) e value far), p)
+      by true in_ p = (Node e n ∷ [], inr (e, waits, refl), p)
+      by false far p = ([], inl (refl, shut limit (entry n) e (waits-low n (entry n) e waits) far), p)
 
   -- what was found was pushed
   pub pushed_found : (f : Found) → IsPermutation (turn_within limit (Candidate f) ++ old) new → AddsOne (AddsFound limit f) old new

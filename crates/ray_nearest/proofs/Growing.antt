@@ -220,6 +220,7 @@ module _ (IsNode : WalkNode → Type 0) (p : SceneParts) (parts : AreParts IsNod
     below = λ n known. all_members IsNode (p.below n) (λ c m. (child n known c m).known);
     every = every;
     size = size;
+    quiet = parts.quiet;
     apart = apart;
     holds = λ n known. all_members (Holds (p.entry n)) ((scene_of p).every n)
         (throughout (λ n f. Holds (p.entry n) f) (λ n known. each_member (Holds (p.entry n)) (p.finds n) (parts.holds n known))

@@ -1,4 +1,5 @@
 pub mod Orders
+pub mod Waits
 mod Popping
 mod Pending
 mod Moving

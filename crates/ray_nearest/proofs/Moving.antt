@@ -147,8 +147,8 @@ module _ (IsNode : WalkNode → Type 0) (s : SceneValue) (st : QueryState) where
         (λ f m. beyond-passed st.committed f (shut-beyond (distance_of st.committed) (s.entry n) f
         (Each-member (Holds (s.entry n)) (s.every n) f (Each-from_All (Holds (s.entry n)) (s.every n) (scene.holds n known)) m) shut))
         (subst (λ us. IsPermutation (us ++ old) new) none moved)
-    moves_node n old new known (ts, inr (e, value, one), moved) =
-        moves_with (Node e n) old new (known, value) (subst (λ us. IsPermutation (us ++ old) new) one moved)
+    moves_node n old new known (ts, inr (e, waits, one), moved) =
+        moves_with (Node e n) old new (known, waits) (subst (λ us. IsPermutation (us ++ old) new) one moved)
 
     moves_found : (f : Found) (old new : List Turn) → AddsOne (AddsFound (distance_of st.committed) f) old new
         → Moves IsNode s st (f ∷ []) (λ c. 0) 1 old new

@@ -20,6 +20,7 @@ use Rattle.ray_query.specs.Laws.{LeavesOut, OverStays}
 use Rattle.ray_query.specs.Machine.{QueryValue, query_of}
 use Rattle.ray_query.specs.Play.{QueryState, play, play_one, start}
 use Rattle.ray_nearest.specs.declared.node.WalkNode.{WalkNode}
+use Rattle.ray_nearest.specs.declared.node.WalkNode.TheVariants.{TopInner, TopLeaf, Inner, Leaf}
 use Rattle.ray_nearest.specs.declared.turn.Turn.{Turn}
 use Rattle.ray_nearest.specs.declared.turn.Turn.TheVariants.{Node, Candidate}
 use Rattle.ray_nearest.specs.Adding.{AddsNodes, HasValue, IsOpened}
@@ -213,11 +214,17 @@ module _ (IsNode : WalkNode → Type 0) (s : SceneValue) where
       node_open limit None e value in_ = absurd value
       node_open limit (Some a) e value in_ = sym (within-value limit e a value) ∙ in_
 
-      node_taken : (e : Ratio) (n : WalkNode) (rest new : List Turn) (q : QueryValue) (now : ℕ)
-          → is_within (distance_of q.state.committed) e ≡ true → All (λ y. is_before y (Node e n) ≡ false) rest
+      -- its marks are what is left to show
+      opened_by : (e : Ratio) (n : WalkNode) (rest new : List Turn) (q : QueryValue) (now : ℕ) (marks : List Ratio)
           → IsOpened (distance_of q.state.committed) s n rest new
-          → IsUnderway IsNode s meaning ray flags begun (Node e n ∷ rest) q now → IsUnderway IsNode s meaning ray flags begun new q (now + s.tests n)
-      node_taken e n rest new q now in_ first opened u =
+          → IsUnderway IsNode s meaning ray flags begun (Node e n ∷ rest) q now
+          → (((f : Found) → Member f (pending s new) → Member f (pending s (Node e n ∷ rest)))
+          → Each (λ m. (f : Found) → Member f (pending s new) → IsBehind m f) marks)
+          → Each (λ m. IsReached m q.state) marks
+          → (((limit : Option Ratio) → sum_by (unopened s limit) new ≤ sum_by (s.opened limit) (s.below n) + sum_by (unopened s limit) rest)
+          → (limit : Option Ratio) → Each (Reaches limit) marks → (now + s.tests n) + sum_by (unopened s limit) new ≤ begun + opened_in s limit)
+          → IsUnderway IsNode s meaning ray flags begun new q (now + s.tests n)
+      opened_by e n rest new q now marks opened u behind reached bound =
           let fits : Fits IsNode s (Node e n) = All-head (Fits IsNode s) (Node e n) rest u.fit in
           let moves : Moves IsNode s q.state (s.every n) (λ c. sum_by (s.opened c) (s.below n)) (length (s.finds n) + sum_by s.size (s.below n)) rest new =
           moves_opened IsNode s q.state scene n rest new fits.0 opened in
@@ -238,26 +245,68 @@ module _ (IsNode : WalkNode → Type 0) (s : SceneValue) where
                 play-same leaves meaning ray flags q.state (pending s new) (pending s (Node e n ∷ rest)) (AreApart-pending new once)
                 (AreApart-pending (Node e n ∷ rest) u.once)
                 (λ f plays m. back f m) (λ f plays m. moves.kept f plays (Member-append (s.every n) (pending s rest) f m)) ∙ u.same;
-            marks = e ∷ u.marks;
-            beyond = (
-              (λ f m. all-farther (Node e n) rest u.fit first f (back f m)),
-              Each-by (λ m. (f : Found) → Member f (pending s (Node e n ∷ rest)) → IsBehind m f) (λ m. (f : Found) → Member f (pending s new) → IsBehind m f) u.marks
-                  (λ m h f among. h f (back f among)) u.beyond,
-            );
-            reached = (in_, u.reached);
-            bound = λ limit reaches.
-                let cost : sum_by (unopened s limit) new ≤ sum_by (s.opened limit) (s.below n) + sum_by (unopened s limit) rest = moves.cost limit in
-                let sum : sum_by (unopened s limit) (Node e n ∷ rest) ≡ s.opened limit n + sum_by (unopened s limit) rest = sum_by-cons (unopened s limit) (Node e n) rest in
-                let most : now + sum_by (unopened s limit) (Node e n ∷ rest) ≤ begun + opened_in s limit = u.bound limit reaches.1 in
-                let part : s.tests n + sum_by (s.opened limit) (s.below n) ≤ s.opened limit n =
-                scene.opened n limit fits.0 (node_open limit (s.entry n) e fits.1 reaches.0) in
-                omega (arith, cost, sum, most, part);
+            marks = marks;
+            beyond = behind back;
+            reached = reached;
+            bound = bound moves.cost;
             rising = let up : begun ≤ now = u.rising in omega (arith, up);
           }
         where
           joined : (f : Found) → Member f (s.every n) ⊎ Member f (pending s rest) → Member f (pending s (Node e n ∷ rest))
           joined f (inl m) = Member-append_left (s.every n) (pending s rest) f m
           joined f (inr m) = Member-append_right (s.every n) (pending s rest) f m
+
+      -- what was behind the marks so far still is
+      still_behind : (items new : List Turn) (marks : List Ratio) → ((f : Found) → Member f (pending s new) → Member f (pending s items))
+          → Each (λ m. (f : Found) → Member f (pending s items) → IsBehind m f) marks → Each (λ m. (f : Found) → Member f (pending s new) → IsBehind m f) marks
+      still_behind items new marks back behind =
+          Each-by (λ m. (f : Found) → Member f (pending s items) → IsBehind m f) (λ m. (f : Found) → Member f (pending s new) → IsBehind m f) marks
+          (λ m h f among. h f (back f among)) behind
+
+      -- a leaf waited at its entry, which is one mark more
+      leaf_taken : (e : Ratio) (n : WalkNode) (rest new : List Turn) (q : QueryValue) (now : ℕ) → HasValue (s.entry n) e
+          → is_within (distance_of q.state.committed) e ≡ true → All (λ y. is_before y (Node e n) ≡ false) rest
+          → IsOpened (distance_of q.state.committed) s n rest new
+          → IsUnderway IsNode s meaning ray flags begun (Node e n ∷ rest) q now → IsUnderway IsNode s meaning ray flags begun new q (now + s.tests n)
+      leaf_taken e n rest new q now value in_ first opened u =
+          let fits : Fits IsNode s (Node e n) = All-head (Fits IsNode s) (Node e n) rest u.fit in
+          opened_by e n rest new q now (e ∷ u.marks) opened u
+          (λ back. ((λ f m. all-farther (Node e n) rest u.fit first f (back f m)), still_behind (Node e n ∷ rest) new u.marks back u.beyond))
+          (in_, u.reached)
+          (λ costs limit reaches.
+          let cost : sum_by (unopened s limit) new ≤ sum_by (s.opened limit) (s.below n) + sum_by (unopened s limit) rest = costs limit in
+          let sum : sum_by (unopened s limit) (Node e n ∷ rest) ≡ s.opened limit n + sum_by (unopened s limit) rest = sum_by-cons (unopened s limit) (Node e n) rest in
+          let most : now + sum_by (unopened s limit) (Node e n ∷ rest) ≤ begun + opened_in s limit = u.bound limit reaches.1 in
+          let part : s.tests n + sum_by (s.opened limit) (s.below n) ≤ s.opened limit n =
+          scene.opened n limit fits.0 (node_open limit (s.entry n) e value reaches.0) in
+          omega (arith, cost, sum, most, part))
+
+      -- at each other node nothing is tested, so that it needs none
+      quiet_taken : (e : Ratio) (n : WalkNode) (rest new : List Turn) (q : QueryValue) (now : ℕ) → s.tests n ≡ 0
+          → IsOpened (distance_of q.state.committed) s n rest new
+          → IsUnderway IsNode s meaning ray flags begun (Node e n ∷ rest) q now → IsUnderway IsNode s meaning ray flags begun new q (now + s.tests n)
+      quiet_taken e n rest new q now quiet opened u =
+          let fits : Fits IsNode s (Node e n) = All-head (Fits IsNode s) (Node e n) rest u.fit in
+          opened_by e n rest new q now u.marks opened u
+          (λ back. still_behind (Node e n ∷ rest) new u.marks back u.beyond)
+          u.reached
+          (λ costs limit reaches.
+          let cost : sum_by (unopened s limit) new ≤ sum_by (s.opened limit) (s.below n) + sum_by (unopened s limit) rest = costs limit in
+          let sum : sum_by (unopened s limit) (Node e n ∷ rest) ≡ s.opened limit n + sum_by (unopened s limit) rest = sum_by-cons (unopened s limit) (Node e n) rest in
+          let most : now + sum_by (unopened s limit) (Node e n ∷ rest) ≤ begun + opened_in s limit = u.bound limit reaches in
+          let part : sum_by (s.opened limit) (s.below n) ≤ s.opened limit n = scene.nested n limit fits.0 in
+          omega (arith, cost, sum, most, part, quiet))
+
+      node_taken : (e : Ratio) (n : WalkNode) (rest new : List Turn) (q : QueryValue) (now : ℕ)
+          → is_within (distance_of q.state.committed) e ≡ true → All (λ y. is_before y (Node e n) ≡ false) rest
+          → IsOpened (distance_of q.state.committed) s n rest new
+          → IsUnderway IsNode s meaning ray flags begun (Node e n ∷ rest) q now → IsUnderway IsNode s meaning ray flags begun new q (now + s.tests n)
+      node_taken e (TopInner n) rest new q now in_ first opened u = quiet_taken e (TopInner n) rest new q now (scene.quiet (TopInner n)) opened u
+      node_taken e (TopLeaf n) rest new q now in_ first opened u = quiet_taken e (TopLeaf n) rest new q now (scene.quiet (TopLeaf n)) opened u
+      node_taken e (Inner i n) rest new q now in_ first opened u = quiet_taken e (Inner i n) rest new q now (scene.quiet (Inner i n)) opened u
+      node_taken e (Leaf i n) rest new q now in_ first opened u =
+          let fits : Fits IsNode s (Node e (Leaf i n)) = All-head (Fits IsNode s) (Node e (Leaf i n)) rest u.fit in
+          leaf_taken e (Leaf i n) rest new q now fits.1 in_ first opened u
 
       -- a candidate was played
       played : Found → QueryValue → QueryValue

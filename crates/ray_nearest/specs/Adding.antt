@@ -1,11 +1,13 @@
 -- What opening a node adds to the turns that wait.
-use Rattle.std.specs.Prelude.{ℕ, zero, suc, ◌≡◌, ◌++◌, ◌⊎◌, false, Option, Some, None, List, [], ◌∷◌}
+use Rattle.std.specs.Prelude.{ℕ, zero, suc, ◌≡◌, ◌++◌, ◌⊎◌, true, false, Option, Some, None, List, [], ◌∷◌}
 use Rattle.std.specs.List.Sorted.{IsPermutation}
+use Rattle.std.specs.Ordering.{is_le}
 use Rattle.std.specs.declared.cmp.Ordering.TheVariants.{Equal}
 use Rattle.ray_geom.specs.declared.ratio.Ratio.{Ratio}
 use Rattle.ray_geom.specs.Ratio.{ratio_cmp, ratio_of}
 use Rattle.ray_query.specs.declared.found.Found.{Found}
 use Rattle.ray_nearest.specs.declared.node.WalkNode.{WalkNode}
+use Rattle.ray_nearest.specs.declared.node.WalkNode.TheVariants.{TopInner, TopLeaf, Inner, Leaf}
 use Rattle.ray_nearest.specs.declared.turn.Turn.{Turn}
 use Rattle.ray_nearest.specs.declared.turn.Turn.TheVariants.{Node, Candidate}
 use Rattle.ray_nearest.specs.Scene.{SceneValue}
@@ -17,10 +19,22 @@ abbrev pub HasValue : Option Ratio → Ratio → Type 0
 HasValue None e = ⊥
 HasValue (Some a) e = ratio_cmp e a ≡ Equal
 
--- what a node adds: its turn, at its entry; or none, where the ray doesn't meet its box within the limit
+-- a ratio is no greater than an entry, if there is one
+abbrev pub IsLow : Option Ratio → Ratio → Type 0
+IsLow None e = Unit {0}
+IsLow (Some a) e = is_le (ratio_cmp e a) ≡ true
+
+-- at which ratios a node may wait: a leaf, whose primitives are tested, at its entry; each other one at any that is no greater (own)
+abbrev pub MayWait : Option Ratio → WalkNode → Ratio → Type 0
+MayWait entry (TopInner n) e = IsLow entry e
+MayWait entry (TopLeaf n) e = IsLow entry e
+MayWait entry (Inner i n) e = IsLow entry e
+MayWait entry (Leaf i n) e = HasValue entry e
+
+-- what a node adds: its turn; or none, where the ray doesn't meet its box within the limit
 abbrev pub AddsNode : Option Ratio → (WalkNode → Option Ratio) → WalkNode → List Turn → Type 0
 AddsNode limit entry n ts =
-    ((ts ≡ []) × (is_open limit (entry n) ≡ false)) ⊎ ((e : Ratio) × HasValue (entry n) e × (ts ≡ Node e n ∷ []))
+    ((ts ≡ []) × (is_open limit (entry n) ≡ false)) ⊎ ((e : Ratio) × MayWait (entry n) n e × (ts ≡ Node e n ∷ []))
 
 -- what a thing that is found adds: its turn; or none, where it is beyond the limit
 abbrev pub AddsFound : Option Ratio → Found → List Turn → Type 0

@@ -6,7 +6,7 @@ use Rattle.ray_geom.specs.declared.ratio.Ratio.{Ratio}
 use Rattle.ray_query.specs.declared.found.Found.{Found}
 use Rattle.ray_nearest.specs.declared.node.WalkNode.{WalkNode}
 use Rattle.ray_query.specs.Limits.{Holds, is_open}
-use Rattle.ray_nearest.specs.Scene.{SceneValue}
+use Rattle.ray_nearest.specs.Scene.{IsQuiet, SceneValue}
 use Rattle.ray_query.specs.Limits.{IsInOrder}
 
 -- what is right at each node: as in `SceneValue`, with a rank that falls from a node to those below
@@ -76,3 +76,4 @@ pub record AreParts (IsNode : WalkNode → Type 0) (p : SceneParts) : Type 0 whe
   pub below : (n : WalkNode) → IsNode n → All (IsBelow IsNode p n) (p.below n)
   pub holds : (n : WalkNode) → IsNode n → All (Holds (p.entry n)) (p.finds n)
   pub in_order : (n : WalkNode) → IsNode n → All IsInOrder (p.finds n)
+  pub quiet : (n : WalkNode) → IsQuiet p.tests n

@@ -9,6 +9,7 @@ use Rattle.ray_geom.specs.declared.ratio.Ratio.{Ratio}
 use Rattle.ray_geom.specs.Ratio.{ratio_of}
 use Rattle.ray_query.specs.declared.found.Found.{Found}
 use Rattle.ray_nearest.specs.declared.node.WalkNode.{WalkNode}
+use Rattle.ray_nearest.specs.declared.node.WalkNode.TheVariants.{TopInner, TopLeaf, Inner, Leaf}
 use Rattle.ray_query.specs.KeyOrder.{AreApart}
 use Rattle.ray_query.specs.Limits.{Holds, IsInOrder, is_open}
 
@@ -39,6 +40,13 @@ found_in s = flat_map s.every s.roots
 abbrev pub opened_in : SceneValue → Option Ratio → ℕ
 opened_in s limit = sum_by (s.opened limit) s.roots
 
+-- nothing is tested right at a node, unless it is a leaf
+abbrev pub IsQuiet : (WalkNode → ℕ) → WalkNode → Type 0
+IsQuiet tests (TopInner n) = tests (TopInner n) ≡ 0
+IsQuiet tests (TopLeaf n) = tests (TopLeaf n) ≡ 0
+IsQuiet tests (Inner i n) = tests (Inner i n) ≡ 0
+IsQuiet tests (Leaf i n) = Unit {0}
+
 -- the laws of a scene, over the nodes that it knows
 pub record IsScene (IsNode : WalkNode → Type 0) (s : SceneValue) : Type 0 where
   -- it knows its roots and what is below a node
@@ -47,6 +55,8 @@ pub record IsScene (IsNode : WalkNode → Type 0) (s : SceneValue) : Type 0 wher
   -- what is found from a node down is found right there or below it, and a node is more than all that
   pub every : (n : WalkNode) → IsNode n → s.every n ≡ s.finds n ++ flat_map s.every (s.below n)
   pub size : (n : WalkNode) → IsNode n → 1 + (length (s.finds n) + sum_by s.size (s.below n)) ≤ s.size n
+  -- primitives are tested at leaves alone
+  pub quiet : (n : WalkNode) → IsQuiet s.tests n
   -- no key is found twice
   pub apart : AreApart (found_in s)
   -- a node's box holds what is found from there down, and a candidate leaves where it enters or later

@@ -16,6 +16,7 @@ pub mod WideParts
 pub mod WideAnswer
 pub mod BoxLimits
 pub mod LeftOut
+mod Told
 pub mod Pushing
 mod Bits
 pub mod Together

@@ -17,6 +17,7 @@ use Rattle.ray_bottom.proofs.Places.{items-few}
 use Rattle.ray_nearest.specs.declared.node.WalkNode.{WalkNode}
 use Rattle.ray_nearest.specs.declared.node.WalkNode.TheVariants.{TopInner, TopLeaf, Inner, Leaf}
 use Rattle.ray_nearest.specs.Parts.{AreParts, IsBelow, Nests}
+use Rattle.ray_nearest.specs.Scene.{IsQuiet}
 use Rattle.ray_walk.specs.Sound.{IsWalkable}
 use Rattle.ray_walk.specs.Traced.{Traced, IsNode, below, children, children_of, entry, parts_of, placement_at, rank, rank_of_placement, ref, ref_by, root_in, roots_by, roots_of, top_children, top_ref, top_ref_by}
 use Rattle.ray_candidates.specs.Placements.{Placement, items_at}
@@ -152,8 +153,15 @@ module _ (s : Traced) (w : IsWalkable s) where
     below = λ n known. both n (below s n) (lower-below n known) (nests_below s w n known);
     holds = holds_at s w;
     in_order = in_order_at s w;
+    quiet = quiet;
   }
     where
+      quiet : (n : WalkNode) → IsQuiet (parts_of s).tests n
+      quiet (TopInner n) = refl
+      quiet (TopLeaf n) = refl
+      quiet (Inner i n) = refl
+      quiet (Leaf i n) = tt
+
       top-root : (ns : List Node) → s.top.tree.nodes ≡ ns → All (IsNode s) (root_in ns (top_ref s.top.tree 0))
       top-root [] is = All-nil (IsNode s)
       top-root (x ∷ xs) is =

@@ -22,6 +22,7 @@ use Rattle.ray_top.specs.Trees as tops
 use Rattle.ray_nearest.specs.declared.node.WalkNode.{WalkNode}
 use Rattle.ray_nearest.specs.declared.node.WalkNode.TheVariants.{TopInner, TopLeaf, Inner, Leaf}
 use Rattle.ray_nearest.specs.Parts.{AreParts, IsBelow, Nests}
+use Rattle.ray_nearest.specs.Scene.{IsQuiet}
 use Rattle.ray_query.proofs.Members.{Member}
 use Rattle.ray_walk.specs.declared.level.Level.TheVariants.{World, Object}
 use Rattle.ray_walk.specs.Sound.{IsWalkable}
@@ -237,4 +238,11 @@ module _ (s : Traced) (w : IsWalkable s) where
     below = under;
     holds = λ n known. holds_at s w (narrow s n) (narrow-known n known);
     in_order = λ n known. in_order_at s w (narrow s n) (narrow-known n known);
+    quiet = quiet-wide;
   }
+    where
+      quiet-wide : (n : WalkNode) → IsQuiet (wide_parts s).tests n
+      quiet-wide (TopInner n) = refl
+      quiet-wide (TopLeaf n) = refl
+      quiet-wide (Inner i n) = refl
+      quiet-wide (Leaf i n) = tt

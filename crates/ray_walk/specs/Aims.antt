@@ -13,6 +13,7 @@ use Rattle.ray_wide.specs.Wides.{WideValue, WideOver, child_at, children_in, lan
 use Rattle.ray_lanes.specs.declared.lanes.Lanes8.{Lanes8}
 use Rattle.ray_lanes.specs.declared.lanes.Window.{Window}
 use Rattle.ray_lanes.specs.Overlap.{HasBit, Overlaps}
+use Rattle.ray_slabs.specs.Bounds.{AreBounds}
 use Rattle.ray_window.specs.Meets.{Meets}
 use Rattle.ray_window.specs.Windows.{window_of}
 use Rattle.ray_leaves.specs.declared.leaf_item.ItemPoints.{ItemPoints}
@@ -27,13 +28,15 @@ use Rattle.ray_walk.specs.declared.aim.Seen.{Seen}
 use Rattle.ray_walk.specs.declared.trees.Trees.{Trees}
 use Rattle.ray_candidates.specs.Placements.{entry_in}
 use Rattle.ray_tree.specs.Trees.{no_box}
+use Rattle.ray_walk.specs.Bounding.{whole}
 use Rattle.ray_walk.specs.WideScene.{child}
 
 -- ---- a ray with its window
 
--- what was seen last is the window up to its limit
+-- what was seen last is the window up to its limit, and the slabs are those of the ray
 pub record IsAimed (aim : Aim) : Type 0 where
   pub seen_is : IfSome aim.seen (λ (s : Seen). s.window ≡ window_of aim.ray s.limit)
+  pub slabs_are : IfSome aim.slabs (AreBounds aim.ray whole None)
 
 -- two limits have the same numbers
 abbrev pub IsSameLimit : Option Ratio → Option Ratio → Type 0

@@ -3,3 +3,4 @@ pub mod WideScene
 pub mod Sound
 pub mod Aims
 pub mod Scenes
+pub mod Bounding

@@ -4,6 +4,7 @@ ghost use Rattle.ray_walk.specs.Aims.{IsAimed, IsSameLimit};
 
 use ray_geom::{ObjectRay, Ratio};
 use ray_lanes::Window;
+use ray_slabs::Slabs;
 use ray_wide::WideLeaf;
 use ray_window::window_of;
 
@@ -17,6 +18,8 @@ pub(crate) struct Aim {
     /// The leaf of the structure that was met last as a child of a wide node, by its window at
     /// least. Most often it is opened next.
     pub(crate) recent: Option<WideLeaf>,
+    /// Its slabs, where they were made.
+    pub(crate) slabs: Option<Slabs>,
 }
 
 /// The window of a ray up to a limit.
@@ -37,6 +40,7 @@ impl Aim {
             ray,
             seen: None,
             recent: None,
+            slabs: None,
         }
     }
 }

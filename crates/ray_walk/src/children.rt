@@ -1,19 +1,22 @@
 //! What is below a wide node of a structure, and its root.
-ghost use Rattle.std.specs.Prelude.{◌≡◌, ◌<◌, IfSome, OnOk, length};
+ghost use Rattle.std.specs.Prelude.{◌≡◌, ◌<◌, IfSome, None, OnOk, length};
 ghost use Rattle.std.specs.List.{flat_map};
 ghost use Rattle.ray_geom.specs.Boxes.{IsBox};
 ghost use Rattle.ray_geom.specs.Vector.{vec3};
 ghost use Rattle.ray_lanes.specs.Overlap.{of_box};
-ghost use Rattle.ray_nearest.specs.Adding.{AddsNode, AddsOne};
+ghost use Rattle.ray_nearest.specs.Adding.{AddsNode, AddsOne, IsLow};
+ghost use Rattle.ray_slabs.specs.Bounds.{AreBounds};
 ghost use Rattle.ray_tree.specs.Trees.{box_at};
 ghost use Rattle.ray_wide.specs.Subtrees.{IsWideLeaf};
 ghost use Rattle.ray_wide.specs.Wides.{children_in, lane_box, lanes_in};
 ghost use Rattle.ray_window.specs.Windows.{window_of};
 ghost use Rattle.ray_walk.specs.Aims.{AddsThrough, AreMet, AreTrees, HasBox, HasLane};
+ghost use Rattle.ray_walk.specs.Bounding.{whole};
 ghost use Rattle.ray_candidates.specs.Placements.{entry_in};
 ghost use Rattle.ray_tree.specs.Trees.{no_box};
 ghost use Rattle.ray_walk.specs.WideScene.{child, inner_at, leaf_at};
 
+use crate::bounding::{Bounded, bound_box};
 use crate::level::Level;
 use crate::set_bits::next_bit;
 use crate::trees::Trees;
@@ -21,6 +24,7 @@ use ray_geom::{Box3, ObjectRay, Ratio, Vec3};
 use ray_lanes::{Lanes8, Window};
 use ray_nearest::{NoMemory, Turns, WalkNode};
 use ray_prune::reach_box;
+use ray_slabs::Slabs;
 use ray_wide::{WideLeaf, WideRef};
 
 // Adds the turns of the children of a wide node, of which the ray meets the boxes within the
@@ -33,10 +37,12 @@ pub(crate) fn push_children(
     w: u32,
     met: u8,
     limit: Option<Ratio>,
+    slabs: &Option<Slabs>,
     recent: &mut Option<WideLeaf>,
     turns: &mut Turns,
 ) -> Result<(), NoMemory>
     requires trees { AreTrees trees.now.tree.now trees.now.wide.now }
+    requires slabs { IfSome slabs.now (AreBounds trees.now.ray.now whole None) }
     requires window { _window.now ≡ window_of trees.now.ray.now limit }
     requires node { w < length trees.now.wide.now.nodes }
     requires met { AreMet (lanes_in trees.now.wide.now.nodes w) _window.now met }
@@ -52,7 +58,7 @@ pub(crate) fn push_children(
     let mut k = next_bit(met, 0);
     while k < 8 {
         let below = children[k as usize].get();
-        push_below(trees, lanes, k, limit, below, recent, turns)?;
+        push_below(trees, lanes, k, limit, below, slabs, recent, turns)?;
         k = next_bit(met, k + 1);
     }
     Ok(())
@@ -65,10 +71,12 @@ fn push_below(
     k: u32,
     limit: Option<Ratio>,
     below: WideRef,
+    slabs: &Option<Slabs>,
     recent: &mut Option<WideLeaf>,
     turns: &mut Turns,
 ) -> Result<(), NoMemory>
     requires few { k < 8 }
+    requires slabs { IfSome slabs.now (AreBounds trees.now.ray.now whole None) }
     requires lane { HasLane trees.now.tree.now trees.now.wide.now lanes.now k below }
     requires recent { IfSome recent.old (IsWideLeaf trees.now.tree.now.nodes) }
     ensures added { OnOk result (AddsThrough limit trees.now
@@ -80,9 +88,12 @@ fn push_below(
         WideRef::Leaf(leaf) => {
             *recent = Some(leaf);
             let node = leaf_at(trees.level, leaf.node);
-            push_lane(trees, lanes, k, limit, node, turns)
+            push_lane(trees, lanes, k, limit, node, slabs, turns)
         }
-        WideRef::Inner(w) => push_lane(trees, lanes, k, limit, inner_at(trees.level, w), turns),
+        WideRef::Inner(w) => {
+            let node = inner_at(trees.level, w);
+            push_lane(trees, lanes, k, limit, node, slabs, turns)
+        }
     }
 }
 
@@ -93,14 +104,40 @@ fn push_lane(
     k: u32,
     limit: Option<Ratio>,
     node: WalkNode,
+    slabs: &Option<Slabs>,
     turns: &mut Turns,
 ) -> Result<(), NoMemory>
     requires few { k < 8 }
     requires limits { IsBox (lane_box lanes.now k) }
+    requires slabs { IfSome slabs.now (AreBounds trees.now.ray.now whole None) }
     ensures { let box = lane_box lanes.now k in OnOk result (AddsOne
         (AddsNode limit (λ n. entry_in trees.now.ray.now box) node) turns.old turns.new) }
 {
-    push_met(turns, limit, trees.ray, &lane_box(lanes, k), node)
+    let bounds = lane_box(lanes, k);
+    match bound_box(trees.ray, slabs, &bounds) {
+        Bounded::Missed => Ok(()),
+        Bounded::From(low) => push_from(turns, limit, trees.ray, &bounds, low, node),
+        Bounded::Unknown => push_met(turns, limit, trees.ray, &bounds, node),
+    }
+}
+
+// The same where the box isn't entered before a distance. It is tested exactly for a leaf alone.
+fn push_from(
+    turns: &mut Turns,
+    limit: Option<Ratio>,
+    ray: &ObjectRay,
+    bounds: &Box3,
+    low: Ratio,
+    node: WalkNode,
+) -> Result<(), NoMemory>
+    requires { IsLow (entry_in ray.now bounds.now) low }
+    ensures { OnOk result
+        (AddsOne (AddsNode limit (λ n. entry_in ray.now bounds.now) node) turns.old turns.new) }
+{
+    match node {
+        WalkNode::Leaf { .. } => push_met(turns, limit, ray, bounds, node),
+        _ => turns.push_node(limit, low, node),
+    }
 }
 
 // The box of a lane.

@@ -29,6 +29,6 @@ returns-in-Inner-clause-added c =
     let lane = subst (λ (b : WideRef). HasLane t.tree.now t.wide.now c.args.lanes.now c.args.k b) c.in-Inner.is c.requires.lane in
     on_ok_weaker c.push_lane-in-Inner.result
     (λ one. subst (λ (b : WideRef). AddsThrough c.args.limit t (child t.level b) old new) (sym c.in-Inner.is)
-    (pushed-inner t c.args.limit old new c.in-Inner.w (top_at t.wide.now.tops c.in-Inner.w) c.inner_at.result c.inner_at.ensures refl
-    (subst (λ (b : BoxValue). AddsOne (AddsNode c.args.limit (λ m. entry_in t.ray.now b) c.inner_at.result) old new) lane.same one)))
+    (pushed-inner t c.args.limit old new c.in-Inner.w (top_at t.wide.now.tops c.in-Inner.w) c.inner_at-node.result c.inner_at-node.ensures refl
+    (subst (λ (b : BoxValue). AddsOne (AddsNode c.args.limit (λ m. entry_in t.ray.now b) c.inner_at-node.result) old new) lane.same one)))
     c.push_lane-in-Inner.ensures
