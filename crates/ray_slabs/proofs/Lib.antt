@@ -8,3 +8,6 @@ mod Standing
 mod Rising
 mod Whole
 mod Joining
+mod Lanes
+mod PerLane
+mod Eighths

@@ -4,3 +4,6 @@ pub mod Slopes
 pub mod Bounds
 pub mod Sides
 pub mod Ranges
+pub mod Rows
+pub mod AxisRows
+pub mod Eights

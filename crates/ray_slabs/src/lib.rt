@@ -14,12 +14,15 @@
 #![tactic(auto)]
 
 mod axis;
+mod axis_rows;
 mod bound;
 mod crossing;
+mod eights;
 mod keys;
 mod planes;
 mod range;
 mod rounding;
+mod rows;
 mod shift;
 mod side;
 mod slab_test;
@@ -28,5 +31,6 @@ mod slabs_of;
 mod slope;
 
 pub use crate::bound::Bound;
+pub use crate::eights::Bounds8;
 pub use crate::planes::{Planes, stored_plane};
 pub use crate::slabs::Slabs;

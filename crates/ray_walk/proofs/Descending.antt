@@ -7,14 +7,11 @@ use Rattle.std.proofs.lemmas.List.Concat.{flat_map-cons}
 use Rattle.std.proofs.lemmas.List.Elements.{All-nil, All-cons, All-head, All-tail}
 use Rattle.std.proofs.lemmas.List.Sorted.{IsPermutation-refl}
 use Rattle.ray_geom.specs.declared.ratio.Ratio.{Ratio}
-use Rattle.ray_geom.specs.ObjectRay.{IsObjectRay, object_of}
+use Rattle.ray_geom.specs.ObjectRay.{object_of}
 use Rattle.ray_geom.specs.Transform.{identity_value}
-use Rattle.ray_lanes.specs.declared.lanes.Window.{Window}
-use Rattle.ray_lanes.specs.Overlap.{Overlaps}
 use Rattle.ray_wide.specs.declared.node.WideRef.{WideRef}
 use Rattle.ray_wide.specs.declared.node.WideRef.TheVariants as wides
-use Rattle.ray_wide.specs.Wides.{IsChild, WideValue, child_at, children_in, lanes_in}
-use Rattle.ray_window.specs.Windows.{window_of}
+use Rattle.ray_wide.specs.Wides.{IsChild, WideValue, child_at, children_in}
 use Rattle.ray_nearest.specs.declared.node.WalkNode.{WalkNode}
 use Rattle.ray_nearest.specs.declared.node.WalkNode.TheVariants.{Inner, TopInner}
 use Rattle.ray_nearest.specs.declared.turn.Turn.{Turn}
@@ -24,11 +21,11 @@ use Rattle.ray_query.specs.Limits.{is_open}
 use Rattle.ray_nearest.proofs.Added.{each_itself, passed_by}
 use Rattle.ray_walk.specs.declared.level.Level.TheVariants.{World, Object}
 use Rattle.ray_walk.specs.declared.trees.Trees.{Trees}
-use Rattle.ray_walk.specs.Aims.{AddsThrough, AreLeftOut, AreMet, AreTrees, IsAlone, LeadsOn, LeadsTo, entry_by, entry_through}
+use Rattle.ray_walk.specs.Aims.{AddsThrough, AreLeftOut, AreTrees, IsAlone, LeadsOn, LeadsTo, LeavesOut, entry_by, entry_through}
 use Rattle.ray_candidates.specs.Placements.{Placement}
 use Rattle.ray_walk.specs.Traced.{Traced, placement_at}
 use Rattle.ray_walk.specs.WideScene.{below_by, child, inner_at, wide_below, wide_entry, wide_scene}
-use Rattle.ray_walk.proofs.LeftOut.{child-out, is-child}
+use Rattle.ray_walk.proofs.LeftOut.{is-child}
 use Rattle.ray_walk.proofs.Pushing.{Adds-as, object-entries, world-entries}
 use Rattle.ray_walk.proofs.Walking.{All-append}
 
@@ -40,16 +37,13 @@ module _ (limit : Option Ratio) (t : Trees) where
   leads-more (suc k) w v u (x, first, rest) on = (x, first, leads-more k x v u rest on)
 
   -- where one bit alone is set, a wide node leads on to its child
-  module _ (trees : AreTrees t.tree.now t.wide.now) (ray : IsObjectRay t.ray.now) (window : Window) (is : window ≡ window_of t.ray.now limit)
-      (w met u : ℕ) (small : w < length t.wide.now.nodes) (met_is : AreMet (lanes_in t.wide.now.nodes w) window met)
+  module _ (trees : AreTrees t.tree.now t.wide.now) (w met u : ℕ) (small : w < length t.wide.now.nodes) (outs : LeavesOut limit t w met)
       (one : IsAlone (children_in t.wide.now.nodes w) met u) where
     eight : length (children_in t.wide.now.nodes w) ≡ 8
     eight = (trees.over.collapsed.each w small).eight
 
     out : (j : ℕ) → j < 8 → (j ≡ one.place → ⊥) → AreLeftOut limit t (child t.level (child_at (children_in t.wide.now.nodes w) j))
-    out j few not =
-        child-out t.tree.now t.wide.now trees t.ray.now ray limit t.level w j small few
-        (λ o. one.alone j few not ((met_is j few).1 (subst (λ (x : Window). Overlaps (lanes_in t.wide.now.nodes w) x j) (sym is) o)))
+    out j few not = outs j few (λ bit. one.alone j few not bit)
 
     pub leads-on : LeadsOn limit t w u
     leads-on =

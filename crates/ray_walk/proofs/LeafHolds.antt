@@ -1,5 +1,5 @@
 -- The box of a leaf holds what is found there.
-use Rattle.std.proofs.Common.{◌≡◌, ◌∙◌, sym, subst, ℕ, ◌<◌, Option, Some, option_and_then, All, length}
+use Rattle.std.proofs.Common.{◌≡◌, sym, subst, ℕ, ◌<◌, Option, Some, option_and_then, All, length}
 use Rattle.ray_geom.specs.Scene.{IsRay}
 use Rattle.ray_query.specs.declared.found.Found.{Found}
 use Rattle.ray_nearest.specs.declared.node.WalkNode.TheVariants.{Leaf}

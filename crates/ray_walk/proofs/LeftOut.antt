@@ -143,16 +143,18 @@ module _ (tree : TreeValue) (wide : WideValue) (trees : AreTrees tree wide) wher
   pub lane-at : (w k : ℕ) → w < length wide.nodes → k < 8 → HasLane tree wide (lanes_in wide.nodes w) k (child_at (children_in wide.nodes w) k)
   lane-at w k small few = lane-by w k small few (child_at (children_in wide.nodes w) k) refl (is-child w k small few) (box-at w k small few)
 
-  module _ (object : ObjectRayValue) (ray : IsObjectRay object) (limit : Option Ratio) (level : Level) (w k : ℕ) (small : w < length wide.nodes) (few : k < 8)
-      (none : Overlaps (lanes_in wide.nodes w) (window_of object limit) k → ⊥) where
+  -- where the box of a lane isn't met within the limit, its child is left out
+  module _ (object : ObjectRayValue) (limit : Option Ratio) (level : Level) (w k : ℕ) (small : w < length wide.nodes) (few : k < 8)
+      (shut : IsBox (lane_box (lanes_in wide.nodes w) k) → is_open limit (entry_in object (lane_box (lanes_in wide.nodes w) k)) ≡ false) where
     abbrev IsOut : WalkNode → Type 0
     IsOut n = is_open limit (entry_by tree wide object n) ≡ false
 
     out-at : (c : WideRef) → child_at (children_in wide.nodes w) k ≡ c → is_there c ≡ true → node_for wide.tops c < length tree.nodes
         → is_open limit (entry_in object (box_at tree no_box (node_for wide.tops c))) ≡ false
     out-at c is there within =
-        unmet object (box_at tree no_box (node_for wide.tops c)) ray (trees.limits (node_for wide.tops c) within) limit (lanes_in wide.nodes w) k
-        (lane-is tree wide.tops (lanes_in wide.nodes w) k c (subst (IsLane tree wide.tops (lanes_in wide.nodes w) k) is (trees.over.lanes w k small few)) there) none
+        let same : lane_box (lanes_in wide.nodes w) k ≡ box_at tree no_box (node_for wide.tops c) =
+        lane-is tree wide.tops (lanes_in wide.nodes w) k c (subst (IsLane tree wide.tops (lanes_in wide.nodes w) k) is (trees.over.lanes w k small few)) there in
+        subst (λ b. is_open limit (entry_in object b) ≡ false) same (shut (subst IsBox (sym same) (trees.limits (node_for wide.tops c) within)))
 
     out-by : (c : WideRef) → child_at (children_in wide.nodes w) k ≡ c → HasBox tree wide c → All IsOut (child level c)
     out-by wides.Empty is box = All-nil IsOut
@@ -163,5 +165,12 @@ module _ (tree : TreeValue) (wide : WideValue) (trees : AreTrees tree wide) wher
         All-cons IsOut (inner_at level v) []
         (ap (is_open limit) (entry-inner tree wide object level v) ∙ out-at (wides.Inner v) is refl box.1) (All-nil IsOut)
 
-    pub child-out : All IsOut (child level (child_at (children_in wide.nodes w) k))
-    child-out = out-by (child_at (children_in wide.nodes w) k) refl (box-at w k small few)
+    pub child-shut : All IsOut (child level (child_at (children_in wide.nodes w) k))
+    child-shut = out-by (child_at (children_in wide.nodes w) k) refl (box-at w k small few)
+
+  pub child-out : (object : ObjectRayValue) → IsObjectRay object → (limit : Option Ratio) (level : Level) (w k : ℕ) → w < length wide.nodes → k < 8
+      → (Overlaps (lanes_in wide.nodes w) (window_of object limit) k → ⊥)
+      → All (λ n. is_open limit (entry_by tree wide object n) ≡ false) (child level (child_at (children_in wide.nodes w) k))
+  child-out object ray limit level w k small few none =
+      child-shut object limit level w k small few
+      (λ is. unmet object (lane_box (lanes_in wide.nodes w) k) ray is limit (lanes_in wide.nodes w) k refl none)

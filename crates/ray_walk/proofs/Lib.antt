@@ -17,6 +17,7 @@ pub mod WideAnswer
 pub mod BoxLimits
 pub mod LeftOut
 mod Told
+mod Narrowing
 pub mod Pushing
 mod Bits
 pub mod Together

@@ -1,6 +1,5 @@
 -- A box that holds what is inside another nests it.
 use Rattle.std.proofs.Common.{ℕ}
-use Rattle.ray_geom.specs.declared.ratio.Ratio.{Ratio}
 use Rattle.ray_geom.specs.Boxes.{BoxValue, IsPart}
 use Rattle.ray_geom.specs.ObjectRay.{ObjectRayValue}
 use Rattle.ray_prune.specs.BoxSpan.{IsInside}

@@ -1,34 +1,28 @@
 -- What slabs tell of where a ray enters a box.
-use Rattle.std.proofs.Common.{ℕ, ℤ, pos, neg_ℤ, ◌≡◌, ◌+◌, ◌*◌, ◌-◌, ◌^◌, ◌<◌, ◌≤◌, ◌+ℤ◌, ◌≤ℤ◌, rules, Bool, true, false, Option, Some, None, option_map, List, [], inl, refl, sym, ap, subst, ◌∙◌, arith}
-use Rattle.std.specs.Prelude.{cond, int_le, IfSome, negsuc, ◌&&◌}
-use Rattle.std.specs.Int.{int_max, int_min}
-use Rattle.std.specs.Ordering.{is_le, nat_cmp}
+use Rattle.std.proofs.Common.{ℕ, ℤ, pos, ◌≡◌, ◌+◌, ◌*◌, ◌^◌, ◌≤◌, ◌+ℤ◌, ◌≤ℤ◌, Option, Some, None, option_map, refl, sym, ap, subst, slice_index_or, arith}
+use Rattle.std.specs.Prelude.{IfSome}
+use Rattle.std.specs.Int.{int_max}
 use Rattle.std.proofs.lemmas.Int.{clamps, ints}
-use Rattle.std.proofs.lemmas.List.Sorted.{IsPermutation-refl}
 use Rattle.std.proofs.Math.Nat.{mul-le-mul_right, div-mul-le_self}
 use Rattle.ray_geom.specs.declared.ratio.Ratio.{Ratio}
-use Rattle.ray_geom.specs.Ratio.{ratio_cmp}
 use Rattle.ray_geom.specs.Boxes.{BoxValue, IsBox, IsPart}
 use Rattle.ray_geom.specs.ObjectRay.{ObjectRayValue}
 use Rattle.ray_prune.specs.declared.reach.Reach.{Reach}
-use Rattle.ray_prune.specs.BoxReach.{natural_part, reach_of}
+use Rattle.ray_prune.specs.BoxReach.{reach_of}
 use Rattle.ray_prune.specs.BoxSpan.{IsReach}
 use Rattle.ray_prune.proofs.Entries.{reach_of-some}
-use Rattle.ray_slabs.specs.declared.bound.Bound.{Bound}
+use Rattle.ray_lanes.specs.declared.lanes.Lanes8.{Lanes8}
 use Rattle.ray_slabs.specs.declared.slabs.Slabs.{Slabs}
-use Rattle.ray_slabs.specs.Axes.{near_of}
-use Rattle.ray_slabs.specs.Bounds.{AreBounds, IsKept, bound_by, bound_of, entry_key, exit_key, planes_of}
+use Rattle.ray_slabs.specs.Bounds.{AreBounds, IsKept, entry_key, exit_key, planes_of}
+use Rattle.ray_slabs.specs.Eights.{IsBoundAt, any_key}
 use Rattle.ray_slabs.specs.Keys.{key_at, local_key}
+use Rattle.ray_wide.specs.Wides.{lane_box}
 use Rattle.ray_nearest.specs.declared.node.WalkNode.{WalkNode}
 use Rattle.ray_nearest.specs.declared.node.WalkNode.TheVariants.{TopInner, TopLeaf, Inner, Leaf}
-use Rattle.ray_nearest.specs.declared.turn.Turn.{Turn}
-use Rattle.ray_nearest.specs.Adding.{AddsNode, AddsOne, IsLow, MayWait}
-use Rattle.ray_query.specs.Limits.{is_open}
-use Rattle.ray_candidates.specs.Placements.{entry_in}
+use Rattle.ray_nearest.specs.Adding.{IsLow, MayWait}
 use Rattle.ray_candidates.proofs.Opened.{le_tells}
-use Rattle.ray_walk.specs.declared.bounding.Bounded.{Bounded}
-use Rattle.ray_walk.specs.declared.bounding.Bounded.TheVariants.{Missed, From, Unknown}
-use Rattle.ray_walk.specs.Bounding.{IsBounded, IsFromKey, IsTold, most, whole}
+use Rattle.ray_walk.specs.declared.bounding.Eight.{Eight}
+use Rattle.ray_walk.specs.Bounding.{IsEight, IsEightAt, IsFromKey, IsMadeBy, whole}
 
 -- each box is in the box of all coordinates
 part-of-whole : (box : BoxValue) → IsBox box → IsPart box whole
@@ -42,7 +36,7 @@ part-of-whole box is = record {
 key_not_below : (a b c : ℤ) → pos 0 ≤ℤ int_max (int_max (int_max (pos 0) a) b) c
 key_not_below a b c = omega (arith, ints, clamps)
 
-short-key : (base key : ℕ) → local_key base key ≤ℤ most
+short-key : (base key : ℕ) → local_key base key ≤ℤ any_key
 short-key base key = omega (arith, ints, clamps)
 
 -- where the key of n / d is no less than a number, a distance of that number is no greater than n / d
@@ -57,64 +51,47 @@ below-key shift n d number low below num den = by (key_at shift n d) below (div-
         let third : n * low.den ≡ n * 2 ^ 38 = ap (λ x. n * x) den in
         omega (arith, first, second, third, whole_)
 
-natural : (base k : ℕ) (key : ℤ) → pos 0 ≤ℤ key → (pos base +ℤ key) ≤ℤ pos k → base + natural_part key ≤ k
-natural base k (pos x) p h = omega (arith, ints)
-natural base k (negsuc x) p h = absurd (omega (arith, ints))
-
 -- ---- what is told
 
 module _ (object : ObjectRayValue) (box : BoxValue) (is : IsBox box) (slabs : Slabs) (bounds : AreBounds object whole None slabs) where
   abbrev in-key : ℤ
   in-key = entry_key slabs (planes_of box)
 
-  abbrev out-key : ℤ
-  out-key = exit_key slabs most (planes_of box)
-
-  not_below : pos 0 ≤ℤ in-key
-  not_below =
-      key_not_below (near_of slabs.x (planes_of box).lo_x (planes_of box).hi_x) (near_of slabs.y (planes_of box).lo_y (planes_of box).hi_y)
-      (near_of slabs.z (planes_of box).lo_z (planes_of box).hi_z)
-
   kept : (r : Reach) → IsReach object box r → IsKept slabs box r.entry.num r.entry.den
   kept r some = bounds.kept box r.entry.num r.entry.den is (part-of-whole box is) r.entry.positive some.entry tt
 
-  ordered : (b : Bool) → int_le in-key out-key ≡ b → in-key ≤ℤ out-key → b ≡ true
-  ordered true same h = refl
-  ordered false same h = absurd (search rules)
-
-  none-if : (b : Bool) → int_le in-key out-key ≡ b → (o : Option Bound) → bound_by slabs.exact in-key out-key ≡ o → o ≡ None → in-key ≤ℤ out-key → ⊥
-  none-if b same o is_ none h = search rules
-
-  missed-by : (o : Option Reach) → IfSome o (IsReach object box) → bound_of slabs most (planes_of box) ≡ None
+  missed-by : (o : Option Reach) → IfSome o (IsReach object box) → (in-key ≤ℤ exit_key slabs any_key (planes_of box) → ⊥)
       → option_map (λ (r : Reach). r.entry) o ≡ None
-  missed-by None some told = refl
-  missed-by (Some r) some told =
-      absurd (none-if (int_le in-key out-key) refl (bound_of slabs most (planes_of box)) refl told
-      ((kept r some).kept most (short-key slabs.base (key_at slabs.shift r.entry.num r.entry.den))))
+  missed-by None some not = refl
+  missed-by (Some r) some not =
+      absurd (not ((kept r some).kept any_key (short-key slabs.base (key_at slabs.shift r.entry.num r.entry.den))))
 
-  key-is : (b : Bool) → (bound : Bound) → cond b (Some record { key = in-key; sure = slabs.exact && int_le (in-key +ℤ pos 6) out-key }) None ≡ Some bound → bound.key ≡ in-key
-  key-is true bound told = search rules
-  key-is false bound told = absurd (cc)
-
-  low-by : (o : Option Reach) → IfSome o (IsReach object box) → (bound : Bound) → bound.key ≡ in-key → (low : Ratio) → IsFromKey slabs.base bound.key slabs.shift low
+  low-by : (o : Option Reach) → IfSome o (IsReach object box) → (key : ℕ) → pos key ≡ in-key → (low : Ratio) → IsFromKey slabs.base key slabs.shift low
       → IsLow (option_map (λ (r : Reach). r.entry) o) low
-  low-by None some bound told low from = tt
-  low-by (Some r) some bound told low from =
+  low-by None some key is_key low from = tt
+  low-by (Some r) some key is_key low from =
+      let below : (pos slabs.base +ℤ pos key) ≤ℤ pos (key_at slabs.shift r.entry.num r.entry.den) =
+      subst (λ z. (pos slabs.base +ℤ z) ≤ℤ pos (key_at slabs.shift r.entry.num r.entry.den)) (sym is_key) (kept r some).lower in
       le_tells (low.num * r.entry.den) (r.entry.num * low.den)
-      (below-key slabs.shift r.entry.num r.entry.den (slabs.base + natural_part bound.key) low
-      (natural slabs.base (key_at slabs.shift r.entry.num r.entry.den) bound.key
-      (subst (λ z. pos 0 ≤ℤ z) (sym told) not_below)
-      (subst (λ z. (pos slabs.base +ℤ z) ≤ℤ pos (key_at slabs.shift r.entry.num r.entry.den)) (sym told) (kept r some).lower))
-      from.num from.den)
+      (below-key slabs.shift r.entry.num r.entry.den (slabs.base + key) low (natural slabs.base key (key_at slabs.shift r.entry.num r.entry.den) below) from.num from.den)
+    where
+      natural : (b x k : ℕ) → (pos b +ℤ pos x) ≤ℤ pos k → b + x ≤ k
+      natural b x k h = omega (arith, ints)
 
-  pub told : (o : Option Bound) → bound_of slabs most (planes_of box) ≡ o → (b : Bounded) → IsTold slabs o b → IsBounded object box b
-  told None same Missed is_told = missed-by (reach_of object box) (reach_of-some object box) same
-  told None same (From low) is_told = absurd is_told
-  told None same Unknown is_told = tt
-  told (Some bound) same Missed is_told = absurd is_told
-  told (Some bound) same (From low) is_told =
-      low-by (reach_of object box) (reach_of-some object box) bound (key-is (int_le in-key out-key) bound same) low is_told
-  told (Some bound) same Unknown is_told = tt
+  pub eight-at : (k : ℕ) (eight : Eight) → IsBoundAt slabs box k record { met = eight.met; keys = eight.keys } → eight.base ≡ slabs.base → eight.shift ≡ slabs.shift
+      → IsEightAt object box k eight
+  eight-at k eight told base shift = record {
+    missed = λ not. missed-by (reach_of object box) (reach_of-some object box) (λ h. not (told.kept.1 h));
+    low = λ low from. low-by (reach_of object box) (reach_of-some object box) (slice_index_or eight.keys k 0) told.key low
+        (subst (λ b. IsFromKey b (slice_index_or eight.keys k 0) slabs.shift low) base
+        (subst (λ s. IsFromKey eight.base (slice_index_or eight.keys k 0) s low) shift from));
+  }
+
+-- of all eight
+pub eight-is : (object : ObjectRayValue) (slabs : Slabs) → AreBounds object whole None slabs → (lanes : Lanes8) (eight : Eight) → IsMadeBy slabs lanes eight
+    → IsEight object lanes eight
+eight-is object slabs bounds lanes eight made k few is =
+    eight-at object (lane_box lanes k) is slabs bounds k eight (made.bounds k few is) made.base made.shift
 
 -- ---- where nodes wait
 
@@ -124,7 +101,3 @@ low-waits (TopInner n) entry e low not = low
 low-waits (TopLeaf n) entry e low not = low
 low-waits (Inner i n) entry e low not = low
 low-waits (Leaf i n) entry e low not = absurd (not i n refl)
-
--- a box that isn't met adds nothing
-pub missed-none : (limit entry : Option Ratio) (n : WalkNode) (turns : List Turn) → entry ≡ None → AddsOne (AddsNode limit (λ m. entry) n) turns turns
-missed-none limit entry n turns none = ([], inl (refl, ap (is_open limit) none), IsPermutation-refl turns)

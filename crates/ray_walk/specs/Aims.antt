@@ -9,7 +9,7 @@ use Rattle.ray_tree.specs.Trees.{TreeValue, box_at}
 use Rattle.ray_wide.specs.declared.node.WideRef.{WideRef}
 use Rattle.ray_wide.specs.declared.node.WideRef.TheVariants as wides
 use Rattle.ray_wide.specs.Subtrees.{IsWideLeaf}
-use Rattle.ray_wide.specs.Wides.{WideValue, WideOver, child_at, children_in, lane_box, lanes_in, top_at}
+use Rattle.ray_wide.specs.Wides.{WideValue, WideOver, child_at, children_in, lane_box, top_at}
 use Rattle.ray_lanes.specs.declared.lanes.Lanes8.{Lanes8}
 use Rattle.ray_lanes.specs.declared.lanes.Window.{Window}
 use Rattle.ray_lanes.specs.Overlap.{HasBit, Overlaps}
@@ -112,12 +112,17 @@ abbrev pub LeadsTo : Option Ratio → Trees → ℕ → ℕ → ℕ → Type 0
 LeadsTo limit t zero w v = w ≡ v
 LeadsTo limit t (suc k) w v = (u : ℕ) × LeadsOn limit t w u × LeadsTo limit t k u v
 
--- where a way down from wide node w ends, with the children that the window overlaps there
-pub record IsDown (limit : Option Ratio) (t : Trees) (window : Window) (w at met : ℕ) : Type 0 where
+-- of a wide node, the children whose bits aren't set are left out
+abbrev pub LeavesOut : Option Ratio → Trees → ℕ → ℕ → Type 0
+LeavesOut limit t w met =
+    (j : ℕ) → j < 8 → (HasBit met j → ⊥) → AreLeftOut limit t (child t.level (child_at (children_in t.wide.now.nodes w) j))
+
+-- where a way down from wide node w ends, with the children that are left there
+pub record IsDown (limit : Option Ratio) (t : Trees) (w at met : ℕ) : Type 0 where
   pub node : at < length t.wide.now.nodes
   pub levels : ℕ
   pub leads : LeadsTo limit t levels w at
-  pub met_is : AreMet (lanes_in t.wide.now.nodes at) window met
+  pub out : LeavesOut limit t at met
 
 -- ---- primitives
 

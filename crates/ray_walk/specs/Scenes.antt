@@ -1,22 +1,16 @@
 -- Words of private calls alone, which a reader of the public contracts needs not: a scene of the program, and an instance as it is
 -- looked at.
-use Rattle.std.specs.Prelude.{ℕ, ◌≡◌, ◌==◌, Bool, false, Option, Some, None, IfSome, List, [], slice_get}
+use Rattle.std.specs.Prelude.{ℕ, ◌≡◌, ◌==◌, Bool, false, Option, Some, None, IfSome, List}
 use Rattle.std.specs.List.{flat_map}
-use Rattle.ray_geom.specs.Scene.{RayValue}
 use Rattle.ray_geom.specs.ObjectRay.{object_of}
 use Rattle.ray_geom.specs.Transform.{identity_value}
 use Rattle.ray_flags.specs.Admission.{AsksBoth}
-use Rattle.ray_flags.specs.declared.ray_flags.RayFlags.{RayFlags}
-use Rattle.ray_geometries.specs.declared.geometry.Geometry.{Geometry}
 use Rattle.ray_leaves.specs.declared.prim_place.PrimPlace.{PrimPlace}
-use Rattle.ray_bottom.specs.Meeting.{MeetValue}
 use Rattle.ray_geom.specs.declared.ratio.Ratio.{Ratio}
-use Rattle.ray_query.specs.declared.found.Found.{Found}
 use Rattle.ray_nearest.specs.declared.node.WalkNode.{WalkNode}
 use Rattle.ray_nearest.specs.declared.turn.Turn.{Turn}
 use Rattle.ray_nearest.specs.Adding.{Adds, AddsFound, AddsNode}
 use Rattle.ray_wide.specs.Subtrees.{IsWideLeaf}
-use Rattle.ray_candidates.specs.Candidates.{admitted, found_at, placed}
 use Rattle.ray_walk.specs.declared.aim.Aim.{Aim}
 use Rattle.ray_walk.specs.declared.held.Held.{Held}
 use Rattle.ray_walk.specs.declared.held.Looked.{Looked}

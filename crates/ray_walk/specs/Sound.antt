@@ -1,24 +1,12 @@
 -- What a walk knows of the structures that it looks at: each bottom structure is within the limits, with a tree over its primitives. (Own.)
-use Rattle.std.specs.Prelude.{ℕ, ◌≡◌, Option, Some, option_and_then, List, slice_get}
-use Rattle.ray_geom.specs.Boxes.{BoxValue}
 use Rattle.ray_geom.specs.Scene.{IsRay}
-use Rattle.ray_geom.specs.Transform.{IsMatrix}
-use Rattle.ray_contents.specs.Bounds.{KeepsBounds}
-use Rattle.ray_primitives.specs.Primitives.{box_of_triangle}
-use Rattle.ray_tree.specs.Trees.{TreeOver, item_box}
+use Rattle.ray_tree.specs.Trees.{TreeOver}
 use Rattle.ray_wide.specs.Wides.{WideOver}
-use Rattle.ray_geometries.specs.declared.geometry.Geometry.{Geometry}
-use Rattle.ray_geometries.specs.declared.shapes.Shapes.{Shapes}
-use Rattle.ray_geometries.specs.declared.shapes.Shapes.TheVariants.{Triangles, Boxes}
-use Rattle.ray_leaves.specs.declared.prim_place.PrimPlace.{PrimPlace}
-use Rattle.ray_geometries.specs.Contents.{bounds_of}
-use Rattle.ray_bottom.specs.Slots.{AreSound, IsSound}
-use Rattle.ray_bottom.specs.Trees.{items_of, place_at}
+use Rattle.ray_bottom.specs.Slots.{AreSound}
 use Rattle.ray_top.specs.Contents.{IsTop}
 use Rattle.ray_top.specs.Trees.{without_tree as top_without_tree, items_of as top_items}
 use Rattle.ray_candidates.specs.Standing.{AreStanding, structures_in}
 use Rattle.ray_walk.specs.Traced.{Traced}
-use Rattle.ray_candidates.specs.Placements.{Placement}
 
 -- what is known of all that a walk looks at
 pub record IsWalkable (s : Traced) : Type 0 where

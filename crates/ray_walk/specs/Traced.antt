@@ -1,25 +1,19 @@
 -- What a walk looks at where a ray is traced: the nodes of the top structure's tree, and below its leaves those of the trees of
 -- the bottom structures, each as its instance places it. It is a scene of ray_nearest, told by its parts. The program goes over the wide
 -- nodes of the same trees (`WideScene`). (Own; Vulkan leaves open how candidates are looked for.)
-use Rattle.std.specs.Prelude.{ℕ, pos, ◌≡◌, ◌<◌, ◌+◌, ◌^◌, if◌then◌else◌, Option, Some, None, option_map, option_and_then, List, [], ◌∷◌, length, take, drop, slice_get}
+use Rattle.std.specs.Prelude.{ℕ, ◌≡◌, ◌<◌, ◌+◌, ◌^◌, if◌then◌else◌, Option, Some, None, option_map, option_and_then, List, [], ◌∷◌, length}
 use Rattle.std.specs.List.{flat_map}
 use Rattle.ray_geom.specs.declared.ratio.Ratio.{Ratio}
-use Rattle.ray_geom.specs.Boxes.{BoxValue, box_value}
-use Rattle.ray_geom.specs.Vector.{vec3}
 use Rattle.ray_geom.specs.Scene.{RayValue}
 use Rattle.ray_geom.specs.Transform.{identity_value}
-use Rattle.ray_geom.specs.ObjectRay.{ObjectRayValue, object_of}
-use Rattle.ray_prune.specs.declared.reach.Reach.{Reach}
-use Rattle.ray_prune.specs.BoxReach.{reach_of}
+use Rattle.ray_geom.specs.ObjectRay.{object_of}
 use Rattle.ray_flags.specs.declared.ray_flags.RayFlags.{RayFlags}
 use Rattle.ray_tree.specs.declared.node.Node.{Node}
 use Rattle.ray_tree.specs.declared.node.Node.TheVariants as nodes
 use Rattle.ray_tree.specs.Shapes.{node_at}
 use Rattle.ray_tree.specs.Trees.{TreeValue, shape_at, box_at, no_box}
 use Rattle.ray_tree.specs.Waits.{weight}
-use Rattle.ray_geometries.specs.declared.geometry.Geometry.{Geometry}
 use Rattle.ray_leaves.specs.declared.prim_place.PrimPlace.{PrimPlace}
-use Rattle.ray_bottom.specs.Trees.{BottomWithTree, place_at}
 use Rattle.ray_bottom.specs.Slots.{Slots, structure_at}
 use Rattle.ray_top.specs.Instances.{InstanceValue}
 use Rattle.ray_top.specs.Trees.{TopWithTree}

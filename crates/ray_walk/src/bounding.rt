@@ -1,30 +1,33 @@
 //! Bounds of where a ray enters boxes, in fixed point, so that few boxes are tested exactly.
-ghost use Rattle.std.specs.Prelude.{◌≡◌, ◌≤◌, ◌^◌, IfSome, None};
-ghost use Rattle.ray_slabs.specs.Bounds.{AreBounds, bound_of, planes_of};
-ghost use Rattle.ray_prune.specs.BoxReach.{natural_part};
-ghost use Rattle.ray_walk.specs.Bounding.{IsBounded, IsFromKey, IsTold, most, whole};
+ghost use Rattle.std.specs.Prelude.{◌≡◌, ◌<◌, ◌≤◌, ◌^◌, IfSome, None, slice_index_or};
+ghost use Rattle.ray_slabs.specs.Bounds.{AreBounds};
+ghost use Rattle.ray_walk.specs.Bounding.{IsEight, IsFromKey, IsMadeBy, IsNarrowed, whole};
 
 use ray_geom::{Box3, ObjectRay, Ratio, Vec3};
-use ray_slabs::{Bound, Slabs};
+use ray_lanes::Lanes8;
+use ray_slabs::Slabs;
 
-/// What is known of where a ray enters a box before that is tested exactly.
+/// What the slabs of a ray tell of eight boxes.
 #[derive(Clone, Copy)]
-pub(crate) enum Bounded {
-    /// It doesn't meet the box.
-    Missed,
-    /// It doesn't enter the box before this distance.
-    From(Ratio),
-    /// Nothing.
-    Unknown,
+pub(crate) struct Eight {
+    /// A bit for each box that may be met.
+    pub(crate) met: u8,
+    /// The key of each box.
+    pub(crate) keys: [u32; 8],
+    /// From where keys are counted.
+    pub(crate) base: u64,
+    /// How fine they are.
+    pub(crate) shift: u32,
 }
 
-/// Makes the slabs of a ray, if there are none yet and they are worth it: where so many boxes are
-/// left that each is likely to be tested.
+/// Makes the slabs of a ray, if there are none yet and they are worth it: where its window leaves
+/// many of eight boxes.
+#[inline(always)]
 pub(crate) fn make_slabs(ray: &ObjectRay, slabs: &mut Option<Slabs>, met: u8)
     requires { IfSome slabs.old (AreBounds ray.now whole None) }
     ensures { IfSome slabs.new (AreBounds ray.now whole None) }
 {
-    if slabs.is_none() && met.count_ones() > 1 {
+    if met.count_ones() > 3 && slabs.is_none() {
         *slabs = slabs_of(ray);
     }
 }
@@ -55,44 +58,65 @@ fn whole() -> Box3
     Box3::of_corners(lo, hi)
 }
 
-/// What the slabs of a ray tell of a box.
-pub(crate) fn bound_box(_ray: &ObjectRay, slabs: &Option<Slabs>, b: &Box3) -> Bounded
+/// What the slabs of a ray tell of eight boxes, if there are any.
+#[inline(always)]
+pub(crate) fn eight_of(
+    _ray: &ObjectRay,
+    slabs: &Option<Slabs>,
+    lanes: &Lanes8,
+) -> Option<Eight>
     requires { IfSome slabs.now (AreBounds _ray.now whole None) }
-    ensures { IsBounded _ray.now b.now result }
+    ensures { IfSome result (IsEight _ray.now lanes.now) }
 {
-    let _lo = b.lo();
     match slabs {
-        Some(slabs) => told(slabs, b),
-        None => Bounded::Unknown,
+        Some(slabs) => Some(eight_by(slabs, lanes)),
+        None => None,
     }
 }
 
-// What slabs tell of a box.
-fn told(slabs: &Slabs, b: &Box3) -> Bounded
-    ensures { IsTold slabs.now (bound_of slabs.now most (planes_of b.now)) result }
+// What slabs tell of eight boxes.
+#[inline(always)]
+fn eight_by(slabs: &Slabs, lanes: &Lanes8) -> Eight
+    ensures { IsMadeBy slabs.now lanes.now result }
 {
-    match slabs.test(b, i32::MAX) {
-        Some(bound) => Bounded::From(from_key(slabs.base(), bound.key, slabs.shift())),
-        None => Bounded::Missed,
+    let bounds = slabs.test8(lanes);
+    let keys = bounds.keys;
+    Eight {
+        met: bounds.met,
+        keys,
+        base: slabs.base(),
+        shift: slabs.shift(),
     }
+}
+
+/// The bits of the boxes that are left: of those that the window overlaps, such as may be met.
+#[inline(always)]
+pub(crate) fn narrowed(met: u8, eight: &Option<Eight>) -> u8
+    ensures { IsNarrowed met eight.now result }
+{
+    match eight {
+        Some(eight) => met & eight.met,
+        None => met,
+    }
+}
+
+/// A distance before which a ray doesn't enter one of eight boxes.
+pub(crate) fn low_of(eight: &Eight, k: u32) -> Ratio
+    requires { k < 8 }
+    ensures { let e = eight.now in IsFromKey e.base (slice_index_or e.keys k 0) e.shift result }
+{
+    from_key(eight.base, eight.keys[k as usize], eight.shift)
 }
 
 // A distance that is no greater than that of a key.
-fn from_key(base: u64, key: i32, shift: u32) -> Ratio
+fn from_key(base: u64, key: u32, shift: u32) -> Ratio
     ensures { IsFromKey base key shift result }
 {
-    let keys = base.saturating_add(u64::from(size(key)));
+    let keys = base.saturating_add(u64::from(key));
     Ratio {
         num: short(u128::from(keys) * u128::from(scale(shift))),
         den: 1 << 38,
     }
-}
-
-// A key, or 0 where it is less.
-fn size(key: i32) -> u32
-    ensures { result ≡ natural_part key }
-{
-    key.max(0) as u32
 }
 
 // How fine keys are, or 0.

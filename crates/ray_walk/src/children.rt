@@ -1,65 +1,59 @@
 //! What is below a wide node of a structure, and its root.
-ghost use Rattle.std.specs.Prelude.{◌≡◌, ◌<◌, IfSome, None, OnOk, length};
+ghost use Rattle.std.specs.Prelude.{◌≡◌, ◌<◌, IfSome, OnOk, length};
 ghost use Rattle.std.specs.List.{flat_map};
 ghost use Rattle.ray_geom.specs.Boxes.{IsBox};
 ghost use Rattle.ray_geom.specs.Vector.{vec3};
 ghost use Rattle.ray_lanes.specs.Overlap.{of_box};
-ghost use Rattle.ray_nearest.specs.Adding.{AddsNode, AddsOne, IsLow};
-ghost use Rattle.ray_slabs.specs.Bounds.{AreBounds};
+ghost use Rattle.ray_nearest.specs.Adding.{AddsNode, AddsOne};
 ghost use Rattle.ray_tree.specs.Trees.{box_at};
 ghost use Rattle.ray_wide.specs.Subtrees.{IsWideLeaf};
 ghost use Rattle.ray_wide.specs.Wides.{children_in, lane_box, lanes_in};
-ghost use Rattle.ray_window.specs.Windows.{window_of};
-ghost use Rattle.ray_walk.specs.Aims.{AddsThrough, AreMet, AreTrees, HasBox, HasLane};
-ghost use Rattle.ray_walk.specs.Bounding.{whole};
+ghost use Rattle.ray_walk.specs.Aims.{AddsThrough, AreTrees, HasBox, HasLane, LeavesOut};
+ghost use Rattle.ray_walk.specs.Bounding.{IsEight};
 ghost use Rattle.ray_candidates.specs.Placements.{entry_in};
 ghost use Rattle.ray_tree.specs.Trees.{no_box};
 ghost use Rattle.ray_walk.specs.WideScene.{child, inner_at, leaf_at};
 
-use crate::bounding::{Bounded, bound_box};
+use crate::bounding::{Eight, low_of};
+use crate::descent::Met;
 use crate::level::Level;
 use crate::set_bits::next_bit;
 use crate::trees::Trees;
 use ray_geom::{Box3, ObjectRay, Ratio, Vec3};
-use ray_lanes::{Lanes8, Window};
+use ray_lanes::Lanes8;
 use ray_nearest::{NoMemory, Turns, WalkNode};
 use ray_prune::reach_box;
-use ray_slabs::Slabs;
 use ray_wide::{WideLeaf, WideRef};
 
 // Adds the turns of the children of a wide node, of which the ray meets the boxes within the
-// limit. Of those whose lanes the window doesn't overlap, whose bits aren't set, nothing more is
-// asked. The last leaf among the others is kept, since its places stand here, beside its box, and
+// limit. Of those whose bits aren't set nothing more is asked. The last leaf among the others is kept, since its places stand here, beside its box, and
 // are far away else.
 pub(crate) fn push_children(
     trees: &Trees<'_, '_>,
-    _window: &Window,
     w: u32,
-    met: u8,
+    met: &Met,
     limit: Option<Ratio>,
-    slabs: &Option<Slabs>,
     recent: &mut Option<WideLeaf>,
     turns: &mut Turns,
 ) -> Result<(), NoMemory>
     requires trees { AreTrees trees.now.tree.now trees.now.wide.now }
-    requires slabs { IfSome slabs.now (AreBounds trees.now.ray.now whole None) }
-    requires window { _window.now ≡ window_of trees.now.ray.now limit }
     requires node { w < length trees.now.wide.now.nodes }
-    requires met { AreMet (lanes_in trees.now.wide.now.nodes w) _window.now met }
+    requires out { LeavesOut limit trees.now w met.now.bits }
+    requires eight { IfSome met.now.eight
+        (IsEight trees.now.ray.now (lanes_in trees.now.wide.now.nodes w)) }
     requires recent { IfSome recent.old (IsWideLeaf trees.now.tree.now.nodes) }
     ensures added { let children = children_in trees.now.wide.now.nodes w in
         OnOk result (AddsThrough limit trees.now
         (flat_map (child trees.now.level) children) turns.old turns.new) }
     ensures recent { IfSome recent.new (IsWideLeaf trees.now.tree.now.nodes) }
 {
-    let _det = trees.ray.det();
     let children = trees.wide.children(w);
     let lanes = trees.wide.lanes(w);
-    let mut k = next_bit(met, 0);
+    let mut k = next_bit(met.bits, 0);
     while k < 8 {
         let below = children[k as usize].get();
-        push_below(trees, lanes, k, limit, below, slabs, recent, turns)?;
-        k = next_bit(met, k + 1);
+        push_below(trees, lanes, k, limit, below, &met.eight, recent, turns)?;
+        k = next_bit(met.bits, k + 1);
     }
     Ok(())
 }
@@ -71,12 +65,12 @@ fn push_below(
     k: u32,
     limit: Option<Ratio>,
     below: WideRef,
-    slabs: &Option<Slabs>,
+    eight: &Option<Eight>,
     recent: &mut Option<WideLeaf>,
     turns: &mut Turns,
 ) -> Result<(), NoMemory>
     requires few { k < 8 }
-    requires slabs { IfSome slabs.now (AreBounds trees.now.ray.now whole None) }
+    requires eight { IfSome eight.now (IsEight trees.now.ray.now lanes.now) }
     requires lane { HasLane trees.now.tree.now trees.now.wide.now lanes.now k below }
     requires recent { IfSome recent.old (IsWideLeaf trees.now.tree.now.nodes) }
     ensures added { OnOk result (AddsThrough limit trees.now
@@ -88,11 +82,11 @@ fn push_below(
         WideRef::Leaf(leaf) => {
             *recent = Some(leaf);
             let node = leaf_at(trees.level, leaf.node);
-            push_lane(trees, lanes, k, limit, node, slabs, turns)
+            push_lane(trees, lanes, k, limit, node, eight, turns)
         }
         WideRef::Inner(w) => {
             let node = inner_at(trees.level, w);
-            push_lane(trees, lanes, k, limit, node, slabs, turns)
+            push_lane(trees, lanes, k, limit, node, eight, turns)
         }
     }
 }
@@ -104,40 +98,58 @@ fn push_lane(
     k: u32,
     limit: Option<Ratio>,
     node: WalkNode,
-    slabs: &Option<Slabs>,
+    eight: &Option<Eight>,
     turns: &mut Turns,
 ) -> Result<(), NoMemory>
     requires few { k < 8 }
     requires limits { IsBox (lane_box lanes.now k) }
-    requires slabs { IfSome slabs.now (AreBounds trees.now.ray.now whole None) }
+    requires eight { IfSome eight.now (IsEight trees.now.ray.now lanes.now) }
     ensures { let box = lane_box lanes.now k in OnOk result (AddsOne
         (AddsNode limit (λ n. entry_in trees.now.ray.now box) node) turns.old turns.new) }
 {
-    let bounds = lane_box(lanes, k);
-    match bound_box(trees.ray, slabs, &bounds) {
-        Bounded::Missed => Ok(()),
-        Bounded::From(low) => push_from(turns, limit, trees.ray, &bounds, low, node),
-        Bounded::Unknown => push_met(turns, limit, trees.ray, &bounds, node),
+    match eight {
+        Some(eight) => push_from(trees, lanes, k, limit, node, eight, turns),
+        None => push_exact(trees, lanes, k, limit, node, turns),
     }
 }
 
-// The same where the box isn't entered before a distance. It is tested exactly for a leaf alone.
+// The same by what slabs tell of the boxes: it is tested exactly for a leaf alone.
 fn push_from(
-    turns: &mut Turns,
+    trees: &Trees<'_, '_>,
+    lanes: &Lanes8,
+    k: u32,
     limit: Option<Ratio>,
-    ray: &ObjectRay,
-    bounds: &Box3,
-    low: Ratio,
     node: WalkNode,
+    eight: &Eight,
+    turns: &mut Turns,
 ) -> Result<(), NoMemory>
-    requires { IsLow (entry_in ray.now bounds.now) low }
-    ensures { OnOk result
-        (AddsOne (AddsNode limit (λ n. entry_in ray.now bounds.now) node) turns.old turns.new) }
+    requires few { k < 8 }
+    requires limits { IsBox (lane_box lanes.now k) }
+    requires eight { IsEight trees.now.ray.now lanes.now eight.now }
+    ensures { let box = lane_box lanes.now k in OnOk result (AddsOne
+        (AddsNode limit (λ n. entry_in trees.now.ray.now box) node) turns.old turns.new) }
 {
     match node {
-        WalkNode::Leaf { .. } => push_met(turns, limit, ray, bounds, node),
-        _ => turns.push_node(limit, low, node),
+        WalkNode::Leaf { .. } => push_exact(trees, lanes, k, limit, node, turns),
+        _ => turns.push_node(limit, low_of(eight, k), node),
     }
+}
+
+// The same by an exact test.
+fn push_exact(
+    trees: &Trees<'_, '_>,
+    lanes: &Lanes8,
+    k: u32,
+    limit: Option<Ratio>,
+    node: WalkNode,
+    turns: &mut Turns,
+) -> Result<(), NoMemory>
+    requires few { k < 8 }
+    requires limits { IsBox (lane_box lanes.now k) }
+    ensures { let box = lane_box lanes.now k in OnOk result (AddsOne
+        (AddsNode limit (λ n. entry_in trees.now.ray.now box) node) turns.old turns.new) }
+{
+    push_met(turns, limit, trees.ray, &lane_box(lanes, k), node)
 }
 
 // The box of a lane.

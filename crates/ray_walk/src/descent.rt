@@ -1,13 +1,17 @@
 //! The way down through wide nodes of which a ray meets one child alone: such nodes are passed by.
-ghost use Rattle.std.specs.Prelude.{◌≡◌, ◌<◌, IfSome, length};
+ghost use Rattle.std.specs.Prelude.{◌≡◌, ◌<◌, IfSome, None, length};
+ghost use Rattle.ray_slabs.specs.Bounds.{AreBounds};
 ghost use Rattle.ray_wide.specs.Wides.{children_in, lanes_in};
 ghost use Rattle.ray_window.specs.Windows.{window_of};
-ghost use Rattle.ray_walk.specs.Aims.{AreMet, AreTrees, IsAlone, IsDown};
+ghost use Rattle.ray_walk.specs.Aims.{AreTrees, IsAlone, IsDown, LeavesOut};
+ghost use Rattle.ray_walk.specs.Bounding.{IsEight, whole};
 
+use crate::bounding::{Eight, eight_of, make_slabs, narrowed};
 use crate::set_bits::next_bit;
 use crate::trees::Trees;
 use ray_geom::Ratio;
 use ray_lanes::{Window, overlap8};
+use ray_slabs::Slabs;
 use ray_wide::{Child, WideRef};
 
 /// Where a way down ends.
@@ -15,52 +19,82 @@ use ray_wide::{Child, WideRef};
 pub(crate) struct Down {
     /// The number of the wide node.
     pub(crate) at: u32,
-    /// A bit for each of its children whose lanes the window overlaps.
-    pub(crate) met: u8,
+    /// What is left of it.
+    pub(crate) met: Met,
 }
 
-// What a window meets of a wide node.
+/// What is left of a wide node.
 #[derive(Clone, Copy)]
 pub(crate) struct Met {
-    // A bit for each of its children whose lanes the window overlaps.
-    pub(crate) met: u8,
+    /// A bit for each of its children that may be met.
+    pub(crate) bits: u8,
+    /// What the slabs of the ray tell of these.
+    pub(crate) eight: Option<Eight>,
     // The child whose bit is set, where no other is and it is a wide node.
     pub(crate) alone: Option<u32>,
 }
 
-/// The wide node to which one leads: as long as the window of the ray up to the limit overlaps the
-/// lane of one child alone, and that is a wide node, it is the child; the way ends, too, at a node
-/// whose middle child is a leaf. No turn is taken for those that are passed by, and no box is tested
-/// exactly.
-pub(crate) fn descend(trees: &Trees<'_, '_>, window: &Window, w: u32, _limit: Option<Ratio>) -> Down
+/// The wide node to which one leads: as long as one child alone may be met within the limit, and
+/// that is a wide node, it is the child; the way ends, too, at a node whose middle child is a leaf.
+/// No turn is taken for those that are passed by, and no box is tested exactly. Slabs are made
+/// where they are worth it.
+pub(crate) fn descend(
+    trees: &Trees<'_, '_>,
+    window: &Window,
+    w: u32,
+    _limit: Option<Ratio>,
+    slabs: &mut Option<Slabs>,
+) -> Down
     requires trees { AreTrees trees.now.tree.now trees.now.wide.now }
     requires window { window.now ≡ window_of trees.now.ray.now _limit }
     requires node { w < length trees.now.wide.now.nodes }
-    ensures { IsDown _limit trees.now window.now w result.at result.met }
+    requires slabs { IfSome slabs.old (AreBounds trees.now.ray.now whole None) }
+    ensures down { IsDown _limit trees.now w result.at result.met.bits }
+    ensures eight { IfSome result.met.eight
+        (IsEight trees.now.ray.now (lanes_in trees.now.wide.now.nodes result.at)) }
+    ensures slabs { IfSome slabs.new (AreBounds trees.now.ray.now whole None) }
 {
     let _det = trees.ray.det();
     let mut at = w;
-    let mut seen = met_in(trees, window, at);
+    let mut seen = met_in(trees, window, at, _limit, slabs);
     while let Some(below) = seen.alone {
         at = below;
-        seen = met_in(trees, window, at);
+        seen = met_in(trees, window, at, _limit, slabs);
     }
-    Down { at, met: seen.met }
+    Down { at, met: seen }
 }
 
-// What a window meets of a wide node. It is put in place, so that the window stays in registers on
-// the way down.
+// What is left of a wide node, by the window and by slabs. It is put in place, so that the window
+// stays in registers on the way down.
 #[inline(always)]
-fn met_in(trees: &Trees<'_, '_>, window: &Window, w: u32) -> Met
-    requires { w < length trees.now.wide.now.nodes }
-    ensures met { AreMet (lanes_in trees.now.wide.now.nodes w) window.now result.met }
+fn met_in(
+    trees: &Trees<'_, '_>,
+    window: &Window,
+    w: u32,
+    _limit: Option<Ratio>,
+    slabs: &mut Option<Slabs>,
+) -> Met
+    requires trees { AreTrees trees.now.tree.now trees.now.wide.now }
+    requires window { window.now ≡ window_of trees.now.ray.now _limit }
+    requires node { w < length trees.now.wide.now.nodes }
+    requires slabs { IfSome slabs.old (AreBounds trees.now.ray.now whole None) }
+    ensures out { LeavesOut _limit trees.now w result.bits }
+    ensures eight { IfSome result.eight
+        (IsEight trees.now.ray.now (lanes_in trees.now.wide.now.nodes w)) }
     ensures alone { IfSome result.alone
-        (IsAlone (children_in trees.now.wide.now.nodes w) result.met) }
+        (IsAlone (children_in trees.now.wide.now.nodes w) result.bits) }
+    ensures slabs { IfSome slabs.new (AreBounds trees.now.ray.now whole None) }
 {
-    let met = overlap8(trees.wide.lanes(w), window);
+    let _det = trees.ray.det();
+    let lanes = trees.wide.lanes(w);
+    let met = overlap8(lanes, window);
+    make_slabs(trees.ray, slabs, met);
+    let eight = eight_of(trees.ray, slabs, lanes);
+    let bits = narrowed(met, &eight);
     Met {
-        met,
-        alone: only_child(trees.wide.children(w), met),
+        bits,
+        eight,
+        alone: only_child(trees.wide.children(w), bits),
     }
 }
 

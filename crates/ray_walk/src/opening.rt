@@ -9,7 +9,6 @@ ghost use Rattle.ray_nearest.specs.declared.node.WalkNode.TheVariants.{Inner, To
 ghost use Rattle.ray_walk.specs.declared.level.Level.TheVariants.{World, Object};
 
 use crate::aim::{Aim, window_at};
-use crate::bounding::make_slabs;
 use crate::children::{push_child, push_children};
 use crate::descent::{Down, descend};
 use crate::held::{Held, Looked, hold};
@@ -92,10 +91,8 @@ fn open_world(
     view.known();
     let window = window_at(aim, limit);
     let trees = world(view, &aim.ray);
-    let Down { at, met } = descend(&trees, &window, w, limit);
-    make_slabs(&aim.ray, &mut aim.slabs, met);
-    let (slabs, recent) = (&aim.slabs, &mut aim.recent);
-    push_children(&trees, &window, at, met, limit, slabs, recent, turns)
+    let Down { at, met } = descend(&trees, &window, w, limit, &mut aim.slabs);
+    push_children(&trees, at, &met, limit, &mut aim.recent, turns)
 }
 
 // ---- instances
@@ -242,10 +239,8 @@ fn open_object(
     view.known();
     let window = window_at(aim, limit);
     let trees = object(i, looked, &aim.ray);
-    let Down { at, met } = descend(&trees, &window, w, limit);
-    make_slabs(&aim.ray, &mut aim.slabs, met);
-    let (slabs, recent) = (&aim.slabs, &mut aim.recent);
-    push_children(&trees, &window, at, met, limit, slabs, recent, turns)
+    let Down { at, met } = descend(&trees, &window, w, limit, &mut aim.slabs);
+    push_children(&trees, at, &met, limit, &mut aim.recent, turns)
 }
 
 // ---- all nodes

@@ -4,37 +4,31 @@ use Rattle.std.specs.Prelude.{false, slice_index_or}
 use Rattle.std.proofs.lemmas.List.Elements.{All-nil}
 use Rattle.std.proofs.lemmas.Bool.Decides.{nat_tests}
 use Rattle.ray_lanes.specs.declared.lanes.Lanes8.{Lanes8}
-use Rattle.ray_lanes.specs.declared.lanes.Window.{Window}
-use Rattle.ray_lanes.specs.Overlap.{HasBit, Overlaps}
+use Rattle.ray_lanes.specs.Overlap.{HasBit}
 use Rattle.ray_wide.specs.declared.node.WideRef.{WideRef}
 use Rattle.ray_wide.specs.declared.node.WideRef.TheVariants as wides
 use Rattle.ray_wide.specs.Subtrees.{wide_leaf}
-use Rattle.ray_wide.specs.Wides.{child_at, children_in, lanes_in}
-use Rattle.ray_window.specs.Windows.{window_of}
+use Rattle.ray_wide.specs.Wides.{child_at, children_in}
 use Rattle.ray_nearest.specs.Adding.{AddsNode}
 use Rattle.ray_query.specs.Limits.{is_open}
-use Rattle.ray_walk.specs.Aims.{AddsThrough, AreLeftOut, AreMet, AreTrees, HasLane, entry_through}
+use Rattle.ray_walk.specs.Aims.{AddsThrough, AreLeftOut, AreTrees, HasLane, LeavesOut, entry_through}
 use Rattle.ray_geom.specs.declared.ratio.Ratio.{Ratio}
-use Rattle.ray_geom.specs.ObjectRay.{IsObjectRay}
 use Rattle.ray_walk.specs.declared.trees.Trees.{Trees}
 use Rattle.ray_walk.specs.WideScene.{child}
-use Rattle.ray_walk.proofs.LeftOut.{any-default, child-out, lane-at}
+use Rattle.ray_walk.proofs.LeftOut.{any-default, lane-at}
 use Rattle.ray_walk.proofs.Pushing.{Adds-flat, Adds-skip, left-out}
 use Rattle.ray_walk.proofs.children.push_children.Goals as goal
 
 -- a child whose bit isn't set is left out
-out : (trees : Trees) (window : Window) (w : ℕ) (limit : Option Ratio) (met : ℕ) (cs : List WideRef) → AreTrees trees.tree.now trees.wide.now
-    → IsObjectRay trees.ray.now → window ≡ window_of trees.ray.now limit → w < length trees.wide.now.nodes
-    → AreMet (lanes_in trees.wide.now.nodes w) window met → cs ≡ children_in trees.wide.now.nodes w
+out : (trees : Trees) (w : ℕ) (limit : Option Ratio) (met : ℕ) (cs : List WideRef) → AreTrees trees.tree.now trees.wide.now → w < length trees.wide.now.nodes
+    → LeavesOut limit trees w met → cs ≡ children_in trees.wide.now.nodes w
     → (j : ℕ) → j < 8 → (HasBit met j → ⊥) → AreLeftOut limit trees (child trees.level (slice_index_or cs j (wides.Leaf (wide_leaf 0 0 0))))
-out trees window w limit met cs over ray_is window_is node met_is cs_is j few clear =
+out trees w limit met cs over node outs cs_is j few clear =
     let nodes = trees.wide.now.nodes in
     let eight = (over.over.collapsed.each w node).eight in
     let at = any-default (children_in nodes w) j wides.Empty (wides.Leaf (wide_leaf 0 0 0)) (omega (arith, eight, few))
     ∙ ap (λ (xs : List WideRef). slice_index_or xs j (wides.Leaf (wide_leaf 0 0 0))) (sym cs_is) in
-    subst (λ (b : WideRef). AreLeftOut limit trees (child trees.level b)) at
-    (child-out trees.tree.now trees.wide.now over trees.ray.now ray_is limit trees.level w j node few
-    (λ o. clear ((met_is j few).1 (subst (λ (x : Window). Overlaps (lanes_in nodes w) x j) (sym window_is) o))))
+    subst (λ (b : WideRef). AreLeftOut limit trees (child trees.level b)) at (outs j few clear)
 
 pub push_below-requires-clause-lane : goal.push_below-requires-clause-lane
 push_below-requires-clause-lane c =
@@ -65,8 +59,7 @@ loop-k-init c =
       most = most;
       so_far = subst (λ n. AddsThrough c.args.limit t (flat_map (child t.level) (take n children)) c.args.turns.now c.args.turns.now) (omega arith)
           (Adds-skip t c.args.limit children (wides.Leaf (wide_leaf 0 0 0)) c.args.turns.now c.args.turns.now 0 first (omega (arith, full, most))
-          (λ j after below. out t c.args._window.now w c.args.limit c.args.met children c.requires.trees
-          c.det-det.ensures.limits c.requires.window c.requires.node c.requires.met c.children-children.ensures
+          (λ j after below. out t w c.args.limit c.args.met.now.bits children c.requires.trees c.requires.node c.requires.out c.children-children.ensures
           j (omega (arith, below, most)) (c.next_bit-k.ensures.clear j after (omega (arith, below))))
           (left-out t c.args.limit c.args.turns.now c.args.turns.now [] (All-nil (λ m. is_open c.args.limit (entry_through t m) ≡ false)) c.args.turns.now));
       recent = c.requires.recent;
@@ -95,8 +88,7 @@ loop-k-preserved c =
       most = most;
       so_far = subst (λ n. AddsThrough c.args.limit t (flat_map (child t.level) (take n children)) before now) gap
           (Adds-skip t c.args.limit children (wides.Leaf (wide_leaf 0 0 0)) before now (k + 1) (next - (k + 1)) (omega (arith, full, most, later))
-          (λ j after below. out t c.args._window.now w c.args.limit c.args.met children c.requires.trees
-          c.det-det.ensures.limits c.requires.window c.requires.node c.requires.met c.children-children.ensures
+          (λ j after below. out t w c.args.limit c.args.met.now.bits children c.requires.trees c.requires.node c.requires.out c.children-children.ensures
           j (omega (arith, below, gap, most)) (c.next_bit-k-in-loop-k.ensures.clear j after (omega (arith, below, gap)))) pushed);
       recent = c.push_below.ensures.recent;
     }

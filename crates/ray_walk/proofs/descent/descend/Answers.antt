@@ -10,19 +10,20 @@ loop-seen-preserved c =
     let t = c.args.trees.now in
     let limit = c.args._limit in
     let at = c.loop-seen.at in
-    let met = c.loop-seen.seen.met in
+    let met = c.loop-seen.seen.bits in
     let below = c.in-Some.below in
     let way = c.loop-seen.invariant.down in
-    let ray = c.det-det.ensures.limits in
     let one = subst (λ (o : Option ℕ). IfSome o (IsAlone (children_in t.wide.now.nodes at) met)) c.in-Some.is c.loop-seen.invariant.alone in
-    let after = later limit t c.requires.trees ray c.args.window.now c.requires.window at met below way.node way.met_is one in
-    let on = leads-on limit t c.requires.trees ray c.args.window.now c.requires.window at met below way.node way.met_is one in
+    let after = later limit t c.requires.trees at met below way.node way.out one in
+    let on = leads-on limit t c.requires.trees at met below way.node way.out one in
     record {
       down = record {
         node = after.1;
         levels = suc way.levels;
         leads = leads-more limit t way.levels c.args.w at below way.leads on;
-        met_is = c.met_in-seen-in-Some.ensures.met;
+        out = c.met_in-seen-in-Some.ensures.out;
       };
       alone = c.met_in-seen-in-Some.ensures.alone;
+      eight = c.met_in-seen-in-Some.ensures.eight;
+      slabs = c.met_in-seen-in-Some.ensures.slabs;
     }

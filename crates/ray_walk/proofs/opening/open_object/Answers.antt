@@ -34,7 +34,7 @@ returns-clause-opened c =
     let old = c.args.turns.now in
     let new = c.push_children.new.turns in
     let told = c.object-trees.ensures in
-    let way = c.descend-at.ensures in
+    let way = c.descend-at.ensures.down in
     let ways = object-ways s t i p c.requires.looked.placed told.tree told.wide (told.ray ∙ (c.window_at-window.ensures.ray ∙ c.requires.looked.ray_is)) told.level in
     on_ok_weaker c.push_children.result
     (λ added. below-inner s c.args.limit i c.args.w old new

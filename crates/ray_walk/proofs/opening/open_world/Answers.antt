@@ -26,7 +26,7 @@ returns-clause-opened c =
     let old = c.args.turns.now in
     let new = c.push_children.new.turns in
     let told = c.world-trees.ensures in
-    let way = c.descend-at.ensures in
+    let way = c.descend-at.ensures.down in
     let ways = world-ways s t told.tree told.wide (told.ray ∙ (c.window_at-window.ensures.ray ∙ c.requires.aim.ray_is)) told.level in
     on_ok_weaker c.push_children.result
     (λ added. below-top s c.args.limit c.args.w old new
