@@ -9,7 +9,7 @@ use Rattle.ray_cmd.specs.declared.command.Command.{Command}
 use Rattle.ray_cmd.specs.declared.fault.RecordingFault.TheVariants.{NotJson, BadShape, NoMemory}
 use Rattle.ray_cmd.specs.Counting.{listed_in, less}
 use Rattle.ray_cmd.specs.Grammar.{command_of}
-use Rattle.ray_cmd.specs.Recordings.{◌>>=◌, Reading, most_commands, most_members, or_bad, commands_from, recording_in, Answers}
+use Rattle.ray_cmd.specs.Recordings.{◌>>=◌, Reading, most_commands, most_members, or_bad, commands_from, recording_if, Answers}
 use Rattle.ray_cmd.specs.Recorded.{IsSpelled, listed_before, IsRecordingOf, IsFirstBad}
 
 -- what is taken and what is left
@@ -213,7 +213,7 @@ found_first ds k f =
 first_bad_is : (ds : Items) (k : ℕ) → commands_from 0 most_members ds ≡ Err (BadShape k) → IsFirstBad ds k
 first_bad_is ds k h = found_first ds k (found 0 most_members ds k (omega arith) h)
 
-spelled : (o : Option Data) (cs : List Command) → recording_in o ≡ Ok cs → (ds : Items) × (o ≡ Some (array ds)) × IsRecordingOf ds cs
+spelled : (o : Option Data) (cs : List Command) → recording_if o ≡ Ok cs → (ds : Items) × (o ≡ Some (array ds)) × IsRecordingOf ds cs
 spelled None cs h = absurd (cc)
 spelled (Some null) cs h = absurd (cc)
 spelled (Some (boolean b)) cs h = absurd (cc)
@@ -223,17 +223,44 @@ spelled (Some (array ds)) cs h = (ds, refl, recording_is ds cs h)
 spelled (Some (object ms)) cs h = absurd (cc)
 
 -- what is said of a recording
-pub recorded : (o : Option Data) (answer : Reading) → Answers answer (recording_in o)
+pub recorded : (o : Option Data) (answer : Reading) → Answers answer (recording_if o)
     → IfOk answer (λ cs. (ds : Items) × (o ≡ Some (array ds)) × IsRecordingOf ds cs)
 recorded o (Ok cs) h = spelled o cs h
 recorded o (Err fault) h = tt
 
 -- what is said of the number of a bad shape
-pub refused : (o : Option Data) (answer : Reading) → Answers answer (recording_in o)
+pub refused : (o : Option Data) (answer : Reading) → Answers answer (recording_if o)
     → (i : ℕ) (ds : Items) → answer ≡ Err (BadShape i) → o ≡ Some (array ds) → IsFirstBad ds i
 refused o (Ok cs) h i ds is read = absurd (cc)
 refused o (Err NotJson) h i ds is read = absurd (cc)
 refused o (Err NoMemory) h i ds is read = absurd (cc)
 refused o (Err (BadShape k)) h i ds is read =
     let e : k ≡ i = cc in
-    first_bad_is ds i (sym (ap recording_in read) ∙ h ∙ ap (λ n. Err (BadShape n)) e)
+    first_bad_is ds i (sym (ap recording_if read) ∙ h ∙ ap (λ n. Err (BadShape n)) e)
+
+-- ---- a value is JSON
+
+rest_is : (c : Command) (r : Reading) → (r ≡ Err NotJson → ⊥) → (r >>= λ commands. Ok (c ∷ commands)) ≡ Err NotJson → ⊥
+rest_is c (Ok others) is h = absurd (cc)
+rest_is c (Err fault) is h = is h
+
+step_is : (full : Bool) (o : Option Command) (q : Option ℕ) (i : ℕ) (next : ℕ → Reading)
+    → ((rest : ℕ) → next rest ≡ Err NotJson → ⊥) → step full o q i next ≡ Err NotJson → ⊥
+step_is true o q i next is h = absurd (cc)
+step_is false o None i next is h = absurd (cc)
+step_is false None (Some rest) i next is h = absurd (cc)
+step_is false (Some c) (Some rest) i next is h = rest_is c (next rest) (is rest) h
+
+items_are : (i left : ℕ) (ds : Items) → commands_from i left ds ≡ Err NotJson → ⊥
+unfolding commands_from
+items_are i left no_items h = absurd (cc)
+items_are i left (item d ds) h =
+    step_is (nat_le most_commands i) (command_of d) (less (listed_in d) left) i (λ rest. commands_from (i + 1) rest ds)
+    (λ rest. items_are (i + 1) rest ds) h
+
+-- so what items are read as is never that they are none
+pub is_json : (ds : Items) (answer : Reading) → Answers answer (commands_from 0 most_members ds) → answer ≡ Err NotJson → ⊥
+is_json ds (Ok cs) h e = absurd (cc)
+is_json ds (Err NotJson) h e = items_are 0 most_members ds h
+is_json ds (Err (BadShape i)) h e = absurd (cc)
+is_json ds (Err NoMemory) h e = absurd (cc)

@@ -1,4 +1,4 @@
--- The reading of bytes as a recording. (Own.)
+-- The reading of a JSON value, and of bytes, as a recording. (Own.)
 use Rattle.std.specs.Prelude.{ℕ, ◌+◌, ◌^◌, ◌≡◌, List, [], ◌∷◌, Option, Some, None, Result, Ok, Err, nat_le, if◌then◌else◌}
 use Rattle.serde_json.specs.Data.{Data, null, boolean, number, string, array, object, Items, no_items, item}
 use Rattle.ray_cmd.specs.declared.command.Command.{Command}
@@ -8,7 +8,7 @@ use Rattle.ray_cmd.specs.Counting.{listed_in, less}
 use Rattle.ray_cmd.specs.Grammar.{command_of}
 use Rattle.ray_cmd.specs.Json.{json_of}
 
--- a recording's commands, or why bytes are none
+-- a recording's commands, or why there is none
 abbrev pub Reading : Type 0
 Reading = Result (List Command) RecordingFault
 
@@ -41,23 +41,23 @@ commands_from i left (item d ds) =
     commands_from (i + 1) rest ds >>= λ commands.
     Ok (command ∷ commands)
 
--- the commands that a value spells: it is an array of them
-abbrev pub commands_of : Data → Reading
-commands_of null = Err (BadShape 0)
-commands_of (boolean b) = Err (BadShape 0)
-commands_of (number n) = Err (BadShape 0)
-commands_of (string s) = Err (BadShape 0)
-commands_of (array ds) = commands_from 0 most_members ds
-commands_of (object ms) = Err (BadShape 0)
+-- the recording that a value spells: it is an array of its commands
+abbrev pub recording_of : Data → Reading
+recording_of null = Err (BadShape 0)
+recording_of (boolean b) = Err (BadShape 0)
+recording_of (number n) = Err (BadShape 0)
+recording_of (string s) = Err (BadShape 0)
+recording_of (array ds) = commands_from 0 most_members ds
+recording_of (object ms) = Err (BadShape 0)
 
--- the recording of a JSON value
-abbrev pub recording_in : Option Data → Reading
-recording_in None = Err NotJson
-recording_in (Some d) = commands_of d
+-- the recording of a JSON value that may not be there
+abbrev pub recording_if : Option Data → Reading
+recording_if None = Err NotJson
+recording_if (Some d) = recording_of d
 
 -- the recording that bytes spell
-abbrev pub recording_of : List ℕ → Reading
-recording_of bytes = recording_in (json_of bytes)
+abbrev pub recording_in : List ℕ → Reading
+recording_in bytes = recording_if (json_of bytes)
 
 -- the answer is what is spelled; want of memory is free
 abbrev pub Answers : {A : Type 0} → Result A RecordingFault → Result A RecordingFault → Type 0

@@ -1,9 +1,10 @@
 //! The recording: reads a JSON text as the commands of a recording, or says which command is the
 //! first that has no shape of a command.
 //!
-//! The layers above use [`read_recording`], whose clause `answer` says by `recording_of` of
+//! The layers above use [`read_recording`], whose clause `answer` says by `recording_in` of
 //! `specs/Recordings` exactly which texts it reads and as what; its clauses `ok` and `bad_shape` say
-//! the same of each item, by the words of `specs/Recorded`. The grammar of a command is `command_of`
+//! the same of each item, by the words of `specs/Recorded`. [`recording_of`] is the same of a JSON
+//! value that was read. The grammar of a command is `command_of`
 //! of `specs/Grammar`, a line a member; it goes from the data of a JSON value to a [`Command`], and
 //! names no program. A command is data: an enum with one variant a command and its members as
 //! fields.
@@ -48,7 +49,7 @@ pub use crate::index::Index;
 pub use crate::info::Info;
 pub use crate::place::Place;
 pub use crate::read_form::ReadForm;
-pub use crate::reading::read_recording;
+pub use crate::reading::{read_recording, recording_of};
 pub use crate::recording::Recording;
 pub use crate::refusal::Refusal;
 pub use crate::region::Region;

@@ -1,10 +1,10 @@
-ghost use Rattle.std.specs.Prelude.{ℕ, ◌≡◌, ◌⊎◌, Some, Err, IfOk, IfErr};
+ghost use Rattle.std.specs.Prelude.{ℕ, ◌≡◌, ◌≢◌, ◌⊎◌, Some, Err, IfOk, IfErr};
 ghost use Rattle.serde_json.specs.Data.{Items, array};
 ghost use Rattle.serde_json.specs.View.{view, items_view};
 ghost use Rattle.ray_cmd.specs.Json.{json_of};
 ghost use Rattle.ray_cmd.specs.Counting.{listed_in, less};
 ghost use Rattle.ray_cmd.specs.Grammar.{command_of};
-ghost use Rattle.ray_cmd.specs.Recordings.{most_members, or_bad, commands_from, recording_of, Answers};
+ghost use Rattle.ray_cmd.specs.Recordings.{most_members, or_bad, commands_from, recording_in, recording_of, Answers};
 ghost use Rattle.ray_cmd.specs.Recorded.{IsRecordingOf, IsFirstBad};
 
 use crate::command::Command;
@@ -29,7 +29,7 @@ const MOST_MEMBERS: u64 = 1 << 26;
 /// bad. `NoMemory` may come on any input: the whole JSON value is read before the first command is,
 /// and it can take many times the memory of the bytes.
 pub fn read_recording(alloc: Global, bytes: &[u8]) -> Result<Recording, RecordingFault>
-    ensures answer { Answers result (recording_of bytes.now) }
+    ensures answer { Answers result (recording_in bytes.now) }
     ensures ok { IfOk result (λ cs. (ds : Items) × (json_of bytes.now ≡ Some (array ds)) × IsRecordingOf ds cs) }
     ensures bad_shape { (i : ℕ) (ds : Items) → result ≡ Err (RecordingFault.BadShape i)
         → json_of bytes.now ≡ Some (array ds) → IsFirstBad ds i }
@@ -39,9 +39,21 @@ pub fn read_recording(alloc: Global, bytes: &[u8]) -> Result<Recording, Recordin
 
 // The same, as the one exact clause says it.
 fn reading(alloc: Global, bytes: &[u8]) -> Result<Recording, RecordingFault>
-    ensures { Answers result (recording_of bytes.now) }
+    ensures { Answers result (recording_in bytes.now) }
 {
     let value = json(alloc, bytes)?;
+    recording_of(alloc, &value)
+}
+
+/// Reads a JSON value as a recording, as [`read_recording`] does once it has the value. Own.
+///
+/// # Errors
+///
+/// `BadShape(i)` as there, and `NoMemory`, which may come on any value. Never `NotJson`.
+pub fn recording_of(alloc: Global, value: &Value) -> Result<Recording, RecordingFault>
+    ensures answer { Answers result (recording_of (view value.now)) }
+    ensures json { result ≢ Err RecordingFault.NotJson }
+{
     match value.as_array() {
         Some(values) => recording(alloc, values.as_slice()),
         None => Err(RecordingFault::BadShape(0)),

@@ -7,7 +7,7 @@ use Rattle.ray_rules.specs.Order.{barriers}
 use Rattle.ray_rules.specs.Verdict.{rule_refusal}
 use Rattle.ray_cmd.specs.declared.fault.RecordingFault.{RecordingFault}
 use Rattle.ray_cmd.specs.declared.fault.RecordingFault.TheVariants as recordings
-use Rattle.ray_cmd.specs.Recordings.{recording_of}
+use Rattle.ray_cmd.specs.Recordings.{recording_in}
 use Rattle.vkray.specs.declared.status.Status.{Status}
 use Rattle.vkray.specs.declared.status.Status.TheVariants as statuses
 use Rattle.vkray.specs.declared.stop.Stop.{Stop}
@@ -96,7 +96,7 @@ not-run-and-check words workers (inr three) check =
 
 pub one_answer : (words : List (String Global)) (a b : Asked) (input : List ℕ) → Asks words a → Asks words b → answer_of a input ≡ answer_of b input
 unfolding answer_of
-one_answer words (Run n) (Run m) input e f = workers-alike n m (recording_of input)
+one_answer words (Run n) (Run m) input e f = workers-alike n m (recording_in input)
 one_answer words (Run n) Check input e f = absurd (not-run-and-check words n e f)
 one_answer words Check (Run m) input e f = absurd (not-run-and-check words m f e)
 one_answer words Check Check input e f = refl

@@ -6,7 +6,7 @@ use Rattle.ray_cmd.specs.declared.fault.RecordingFault.{RecordingFault}
 use Rattle.ray_cmd.specs.declared.fault.RecordingFault.TheVariants as recordings
 use Rattle.ray_cmd.specs.declared.refusal.Refusal.{Refusal}
 use Rattle.ray_cmd.specs.Json.{json_of}
-use Rattle.ray_cmd.specs.Recordings.{recording_of}
+use Rattle.ray_cmd.specs.Recordings.{recording_in}
 use Rattle.ray_cmd.specs.Sources.{AreSourced}
 use Rattle.ray_cmd.proofs.Recorded.{recorded}
 use Rattle.ray_cmd.proofs.Sourced.{are_sourced}
@@ -66,21 +66,21 @@ read-to workers (Err recordings.NotJson) text e = absurd cc
 read-to workers (Err (recordings.BadShape command)) text e = absurd cc
 read-to workers (Err recordings.NoMemory) text e = absurd cc
 
-pub sourced : (input : List ℕ) (rec : List Command) → recording_of input ≡ Ok rec → AreSourced rec
+pub sourced : (input : List ℕ) (rec : List Command) → recording_in input ≡ Ok rec → AreSourced rec
 sourced input rec reads = are_sourced (json_of input) (Ok rec) (recorded (json_of input) (Ok rec) reads)
 
-no-rule : (input : List ℕ) (rec : List Command) (text : List ℕ) → recording_of input ≡ Ok rec → IsRunTo rec (rule_refusal (barriers rec) rec) text → BreakNoRule rec (length rec)
+no-rule : (input : List ℕ) (rec : List Command) (text : List ℕ) → recording_in input ≡ Ok rec → IsRunTo rec (rule_refusal (barriers rec) rec) text → BreakNoRule rec (length rec)
 no-rule input rec text reads run =
     unrefused rec None (length rec) (sym run.kept) (sourced input rec reads) (omega arith)
 
-every-order : (input : List ℕ) (rec : List Command) (text : List ℕ) → recording_of input ≡ Ok rec → IsRunTo rec (rule_refusal (barriers rec) rec) text → IsTextOfEveryOrder rec text
+every-order : (input : List ℕ) (rec : List Command) (text : List ℕ) → recording_in input ≡ Ok rec → IsRunTo rec (rule_refusal (barriers rec) rec) text → IsTextOfEveryOrder rec text
 every-order input rec text reads run es may =
     comes_to_the_run rec (before (barriers rec) rec) (length rec) es (orderly rec (length rec) (no-rule input rec text reads run)) may ∙ run.run
 
 of-answer : (workers : ℕ) (input text : List ℕ) (writing : Writing) → answer_of (Run workers) input ≡ Ok text → IsWritten writing text → IsTextOfInput input writing
 unfolding answer_of
 of-answer workers input text writing e written =
-    let is = read-to workers (recording_of input) text e in
+    let is = read-to workers (recording_in input) text e in
     record {
       commands = is.commands;
       text = text;

@@ -5,7 +5,7 @@ use Rattle.std.proofs.lemmas.Fmt.{decimal_injective}
 use Rattle.ray_cmd.specs.declared.command.Command.{Command}
 use Rattle.ray_cmd.specs.declared.fault.RecordingFault.{RecordingFault}
 use Rattle.ray_cmd.specs.declared.fault.RecordingFault.TheVariants as recordings
-use Rattle.ray_cmd.specs.Recordings.{recording_of}
+use Rattle.ray_cmd.specs.Recordings.{recording_in}
 use Rattle.ray_scene.specs.Grid.{IsScene}
 use Rattle.ray_rules.specs.Order.{barriers, before}
 use Rattle.ray_rules.specs.Verdict.{rule_refusal}
@@ -168,7 +168,7 @@ along rays rec line text rules run counts es may = record {
 of_line : (scene : Scene) (line : List ℕ) (writing : Writing) → self_answer scene ≡ Ok line → IsWritten writing line → AreCountsOfScene scene writing
 unfolding self_answer
 of_line scene line writing e written =
-    let is = counted_to scene.rays (recording_of (text_of_scene scene)) line e in
+    let is = counted_to scene.rays (recording_in (text_of_scene scene)) line e in
     record {
       commands = is.commands;
       line = line;

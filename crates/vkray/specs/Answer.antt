@@ -4,7 +4,7 @@ use Rattle.ray_cmd.specs.declared.command.Command.{Command}
 use Rattle.ray_cmd.specs.declared.fault.RecordingFault.{RecordingFault}
 use Rattle.ray_cmd.specs.declared.fault.RecordingFault.TheVariants as recordings
 use Rattle.ray_cmd.specs.declared.refusal.Refusal.{Refusal}
-use Rattle.ray_cmd.specs.Recordings.{recording_of}
+use Rattle.ray_cmd.specs.Recordings.{recording_in}
 use Rattle.ray_rules.specs.Order.{barriers}
 use Rattle.ray_rules.specs.Verdict.{rule_refusal}
 use Rattle.ray_action.specs.Running as action
@@ -67,7 +67,7 @@ ending_of_read ending (Err recordings.NoMemory) = Err NoMemory
 
 -- the answer to what an input is asked for
 unfoldable pub answer_of : Asked → List ℕ → Ending
-answer_of asked input = ending_of_read (ending_of asked) (recording_of input)
+answer_of asked input = ending_of_read (ending_of asked) (recording_in input)
 
 -- ---- a self run
 
@@ -82,4 +82,4 @@ counted rays rec = in_place_of_text (counts_line rays (last_shown rec)) (ran rec
 
 -- the answer to the words that ask for a self run: the recording of their scene is read and run
 unfoldable pub self_answer : Scene → Ending
-self_answer scene = ending_of_read (counted scene.rays) (recording_of (text_of_scene scene))
+self_answer scene = ending_of_read (counted scene.rays) (recording_in (text_of_scene scene))

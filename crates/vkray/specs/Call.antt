@@ -2,7 +2,7 @@
 use Rattle.std.specs.Prelude.{◌≡◌, ◌≤◌, ◌<◌, ◌+◌, ◌^◌, ℕ, List, [], ◌++◌, length, take, drop, Option, Some, None, Ok, Err, IfSome, ◌⊎◌, String}
 use Rattle.std.specs.declared.alloc.Global.{Global}
 use Rattle.ray_cmd.specs.declared.command.Command.{Command}
-use Rattle.ray_cmd.specs.Recordings.{recording_of}
+use Rattle.ray_cmd.specs.Recordings.{recording_in}
 use Rattle.ray_io.specs.Faults.{HasRisen}
 use Rattle.ray_io.specs.ReadAll.{LeavesAllBut}
 use Rattle.ray_rules.specs.Order.{barriers}
@@ -156,12 +156,12 @@ pub record IsGoodCall (asked : Asked) (words : List (String Global)) (reading : 
   pub limited : length input ≤ most_bytes
   pub source_holds : ¬ HasRisen reading.faults_before reading.faults_after
   pub sink_holds : ¬ HasFailed writing
-  pub reads : recording_of input ≡ Ok commands
+  pub reads : recording_in input ≡ Ok commands
   pub rules : rule_refusal (barriers commands) commands ≡ None
 
 -- the recording of a scene is read as these commands, which break no rule V1 to V32
 pub record IsGoodScene (scene : Scene) (commands : List Command) : Type 0 where
-  pub reads : recording_of (text_of_scene scene) ≡ Ok commands
+  pub reads : recording_in (text_of_scene scene) ≡ Ok commands
   pub rules : rule_refusal (barriers commands) commands ≡ None
 
 -- a recording whose run has this text

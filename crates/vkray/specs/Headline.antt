@@ -4,7 +4,7 @@ use Rattle.std.specs.Prelude.{ℕ, ◌≡◌, List, length, None, Ok}
 use Rattle.ray_schedule.specs.Events.{Event}
 use Rattle.ray_schedule.specs.Laws.{MayRun, after}
 use Rattle.ray_cmd.specs.declared.command.Command.{Command}
-use Rattle.ray_cmd.specs.Recordings.{recording_of}
+use Rattle.ray_cmd.specs.Recordings.{recording_in}
 use Rattle.ray_rules.specs.Order.{barriers}
 use Rattle.ray_rules.specs.Verdict.{rule_refusal}
 use Rattle.ray_action.specs.Running.{Text}
@@ -38,7 +38,7 @@ AreCountsOfEveryOrder rays commands line =
 pub record AreCountsOfScene (scene : Scene) (writing : Writing) : Type 0 where
   pub commands : List Command
   pub line : List ℕ
-  pub reads : recording_of (text_of_scene scene) ≡ Ok commands
+  pub reads : recording_in (text_of_scene scene) ≡ Ok commands
   pub rules : rule_refusal (barriers commands) commands ≡ None
   pub every_order : AreCountsOfEveryOrder scene.rays commands line
   pub written : IsWritten writing line
@@ -48,7 +48,7 @@ pub record AreCountsOfScene (scene : Scene) (writing : Writing) : Type 0 where
 pub record IsTextOfInput (input : List ℕ) (writing : Writing) : Type 0 where
   pub commands : List Command
   pub text : List ℕ
-  pub reads : recording_of input ≡ Ok commands
+  pub reads : recording_in input ≡ Ok commands
   pub rules : rule_refusal (barriers commands) commands ≡ None
   pub every_order : IsTextOfEveryOrder commands text
   pub written : IsWritten writing text

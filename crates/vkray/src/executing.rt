@@ -1,5 +1,5 @@
 ghost use Rattle.std.specs.Prelude.{◌≡◌, ◌≤◌, OnOk, Some, length};
-ghost use Rattle.ray_cmd.specs.Recordings.{recording_of, Answers};
+ghost use Rattle.ray_cmd.specs.Recordings.{recording_in, Answers};
 ghost use Rattle.ray_scene.specs.Grid.{IsScene};
 ghost use Rattle.ray_action.specs.Memory.{Location, nothing_live};
 ghost use Rattle.ray_memory.specs.State.{memory_of};
@@ -44,7 +44,7 @@ pub(crate) fn execute<R: Threads + Sync, G: Gate + Sync>(
 
 // Reads the bytes as a recording. They are dropped before anything is done with it.
 fn read_whole(alloc: Global, bytes: Vec<u8>) -> Result<Recording, RecordingFault>
-    ensures { Answers result (recording_of bytes.items) }
+    ensures { Answers result (recording_in bytes.items) }
 {
     read_recording(alloc, bytes.as_slice())
 }
