@@ -6,6 +6,7 @@ use Rattle.ray_chains.specs.declared.stage.Stage.{Stage as ChainStage}
 use Rattle.ray_chains.specs.Fronts.{front}
 use Rattle.ray_chains.specs.OneQueue.{is_alone}
 use Rattle.ray_chains.specs.OneQueue as queue
+use Rattle.ray_chains.specs.QueueLaws.{source_of}
 use Rattle.ray_chains.specs.Queues.{Event, Node, Other, Visible, steps, takes_source}
 use Rattle.ray_chains.specs.Queues as queues
 use Rattle.ray_chains.specs.Tables.{has_access, has_stage}
@@ -19,7 +20,7 @@ use Rattle.ray_rules.specs.declared.access_type.AccessType.{AccessType}
 use Rattle.ray_rules.specs.declared.access_type.AccessType.TheVariants.{TransferRead, TransferWrite, ShaderRead, ShaderWrite, StructureRead, StructureWrite, HostRead, HostWrite}
 use Rattle.ray_rules.specs.declared.stage.Stage.{Stage}
 use Rattle.ray_rules.specs.declared.stage.Stage.TheVariants.{Transfer, Build, StructureCopy, Compute, Host}
-use Rattle.ray_rules.specs.Order.{Handed, acts_at, handed_after, handed_after_if, handed_at, holds_access, holds_stage, is_covered, is_device, meets_stages, not_handed, takes_write}
+use Rattle.ray_rules.specs.Order.{Handed, acts_at, handed_after, handed_after_if, handed_at, holds_access, holds_stage, is_covered, is_device, meets_stages, not_handed, takes_stage, takes_write}
 use Rattle.ray_sync.specs.Events.{access_mask, chain_access, chain_stage, event_at, event_of, stage_mask, written_by}
 
 -- the sets of a barrier have what they had
@@ -48,9 +49,9 @@ device-in Compute = refl
 device-in Host = refl
 
 -- what has been handed on is the same
-record AreSame (z : Handed) (w : queue.Handed) : Type 0 where
-  stages : (s : Stage) → z.stages s ≡ w.stages (chain_stage s)
-  pairs : (s : Stage) (x : AccessType) → z.pairs s x ≡ w.pairs (chain_stage s) (chain_access x)
+pub record AreSame (z : Handed) (w : queue.Handed) : Type 0 where
+  pub stages : (s : Stage) → z.stages s ≡ w.stages (chain_stage s)
+  pub pairs : (s : Stage) (x : AccessType) → z.pairs s x ≡ w.pairs (chain_stage s) (chain_access x)
 
 none-same : AreSame not_handed queue.not_handed
 none-same = record { stages = λ s. refl; pairs = λ s x. refl }
@@ -64,33 +65,45 @@ meets-same src z w same = λ i.
     || ((holds_stage src StructureCopy && same.stages StructureCopy i)
     || ((holds_stage src Compute && same.stages Compute i) || (holds_stage src Host && same.stages Host i))))
 
+-- a barrier takes up directly by one test what it does by the other
+abbrev pub AreAlike : (Stages → Access → Bool) → ((ChainStage → Bool) → (ChainAccess → Bool) → Bool) → Type 0
+AreAlike takes others =
+    (src : Stages) (sa : Access) → takes src sa ≡ others (has_stage (stage_mask src)) (has_access (access_mask sa))
+
+pub alike-write :
+    (stage : Stage) (access : AccessType) → AreAlike (takes_write stage access) (takes_source (written_by stage access))
+alike-write stage access src sa = λ i. sym (stage-in src stage) i && sym (access-in sa access) i
+
+pub alike-stage : (stage : Stage) → AreAlike (takes_stage stage) (takes_source (source_of 0 (chain_stage stage) None))
+alike-stage stage src sa = sym (stage-in src stage)
+
 same-after :
-    (stage : Stage) (access : AccessType) (c : Command) (z : Handed) (w : queue.Handed) → AreSame z w
-    → AreSame (handed_after (takes_write stage access) c z)
-    (queue.handed_after (takes_source (written_by stage access)) (event_of c) w)
-same-after stage access (commands.Barrier src sa dst da ids) z w same =
+    (takes : Stages → Access → Bool) (others : (ChainStage → Bool) → (ChainAccess → Bool) → Bool) → AreAlike takes others
+    → (c : Command) (z : Handed) (w : queue.Handed) → AreSame z w
+    → AreSame (handed_after takes c z) (queue.handed_after others (event_of c) w)
+same-after takes others alike (commands.Barrier src sa dst da ids) z w same =
     let taken :
-    (takes_write stage access src sa || meets_stages src z.stages)
-    ≡ (takes_source (written_by stage access) (has_stage (stage_mask src)) (has_access (access_mask sa))
+    (takes src sa || meets_stages src z.stages)
+    ≡ (others (has_stage (stage_mask src)) (has_access (access_mask sa))
     || queue.meets_stages (has_stage (stage_mask src)) w.stages) =
-    λ i. (sym (stage-in src stage) i && sym (access-in sa access) i) || meets-same src z w same i
+    λ i. alike src sa i || meets-same src z w same i
     in
     record {
       stages = λ s i. same.stages s i || (taken i && sym (stage-in dst s) i);
       pairs = λ s x i. same.pairs s x i || (taken i && (sym (stage-in dst s) i && sym (access-in da x) i));
     }
-same-after stage access commands.Wait z w same = record {
+same-after takes others alike commands.Wait z w same = record {
   stages = λ s i. same.stages s i || device-in s i;
   pairs = λ s x i. same.pairs s x i || device-in s i;
 }
-same-after stage access _ z w same = same
+same-after takes others alike _ z w same = same
 
 same-if :
-    (stage : Stage) (access : AccessType) (o : Option Command) (z : Handed) (w : queue.Handed) → AreSame z w
-    → AreSame (handed_after_if (takes_write stage access) o z)
-    (queue.handed_after (takes_source (written_by stage access)) (option_map_or event_of o Other) w)
-same-if stage access None z w same = same
-same-if stage access (Some c) z w same = same-after stage access c z w same
+    (takes : Stages → Access → Bool) (others : (ChainStage → Bool) → (ChainAccess → Bool) → Bool) → AreAlike takes others
+    → (o : Option Command) (z : Handed) (w : queue.Handed) → AreSame z w
+    → AreSame (handed_after_if takes o z) (queue.handed_after others (option_map_or event_of o Other) w)
+same-if takes others alike None z w same = same
+same-if takes others alike (Some c) z w same = same-after takes others alike c z w same
 
 same-acting :
     (b : Bool) (z y : Handed) (w v : queue.Handed) → AreSame z w → AreSame y v
@@ -98,15 +111,15 @@ same-acting :
 same-acting true z y w v one other = one
 same-acting false z y w v one other = other
 
-same-at :
-    (rec : List Command) (stage : Stage) (access : AccessType) (acts : ℕ → Bool) (i n : ℕ)
-    → AreSame (handed_at (takes_write stage access) acts rec i n)
-    (queue.handed_at (takes_source (written_by stage access)) acts (event_at rec) i n)
-same-at rec stage access acts i zero = none-same
-same-at rec stage access acts i (suc n) =
-    let before = same-at rec stage access acts i n in
+pub same-at :
+    (takes : Stages → Access → Bool) (others : (ChainStage → Bool) → (ChainAccess → Bool) → Bool) → AreAlike takes others
+    → (rec : List Command) (acts : ℕ → Bool) (i n : ℕ)
+    → AreSame (handed_at takes acts rec i n) (queue.handed_at others acts (event_at rec) i n)
+same-at takes others alike rec acts i zero = none-same
+same-at takes others alike rec acts i (suc n) =
+    let before = same-at takes others alike rec acts i n in
     same-acting (nat_lt i n) _ _ _ _
-    (same-acting (acts n) _ _ _ _ (same-if stage access (slice_get rec n) _ _ before) before) none-same
+    (same-acting (acts n) _ _ _ _ (same-if takes others alike (slice_get rec n) _ _ before) before) none-same
 
 -- there is one queue, and no submission waits
 alone-if : (o : Option Command) → is_alone (option_map_or event_of o Other) ≡ true
@@ -128,7 +141,7 @@ covered-below rec stage access thing n to x limit is i =
     let sets =
     one-queue-has-sets acts (event_at rec) (written_by stage access) i n refl (λ m. alone-if (slice_get rec m))
     in
-    (same-at rec stage access acts i n).pairs to x
+    (same-at (takes_write stage access) (takes_source (written_by stage access)) (alike-write stage access) rec acts i n).pairs to x
     ∙ (sym (sets.1 (chain_stage to) (chain_access x))
     ∙ (fronts-are-exact Node acts (steps (event_at rec) (written_by stage access)) i n
     (Visible 0 (chain_stage to) (chain_access x))

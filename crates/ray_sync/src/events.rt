@@ -6,8 +6,8 @@ use ray_chains::{AccessMask, MemoryBarrier, StageMask};
 use ray_cmd::{Access, Stages};
 use ray_rules::{AccessType, Stage};
 
-// A stage in the words of chains.
-pub(crate) fn chain_stage(stage: Stage) -> ray_chains::Stage
+/// A stage in the words of dependency chains.
+pub fn chain_stage(stage: Stage) -> ray_chains::Stage
     ensures { result ≡ chain_stage stage }
 {
     match stage {
@@ -19,8 +19,8 @@ pub(crate) fn chain_stage(stage: Stage) -> ray_chains::Stage
     }
 }
 
-// An access in the words of chains.
-pub(crate) fn chain_access(access: AccessType) -> ray_chains::AccessType
+/// An access in the words of dependency chains.
+pub fn chain_access(access: AccessType) -> ray_chains::AccessType
     ensures { result ≡ chain_access access }
 {
     match access {
@@ -64,8 +64,8 @@ fn access_mask(access: Access) -> AccessMask
     }
 }
 
-// A barrier in the words of chains.
-pub(crate) fn barrier_of(
+/// A barrier in the words of dependency chains.
+pub fn barrier_of(
     src_stages: Stages,
     src_access: Access,
     dst_stages: Stages,

@@ -6,6 +6,8 @@
 //! recording's commands, and with it [`Order::before`] and [`Order::wave`], which are `before` and
 //! `IsLongest` of ray_rules. [`covered_is_ordered`] is the law that what is covered is ordered.
 //! [`check_sync`] finds the first command that breaks V25, V26, V27 or V32, by `first_hazard`.
+//! [`barrier_of`], [`chain_stage`] and [`chain_access`] say a barrier, a stage and an access in the
+//! words of ray_chains, as `specs/Events` does.
 //!
 //! It stands on ray_rules (the definitions), ray_access (what commands read and write), ray_marks and
 //! ray_chains. The set of earlier commands that have been handed on to a stage is always those below
@@ -36,6 +38,7 @@ mod sets;
 mod starts;
 
 pub use crate::check::check_sync;
+pub use crate::events::{barrier_of, chain_access, chain_stage};
 pub use crate::front::Front;
 pub use crate::laws::covered_is_ordered;
 pub use crate::order::{Order, order_of};
