@@ -4,3 +4,4 @@ pub mod Counting
 pub mod Odds
 pub mod Refusing
 pub mod Passing
+pub mod Queued

@@ -1,6 +1,6 @@
 -- What is submitted when: the commands of a recording, and what each `submit` of them is submitted with.
 -- (Vulkan: queue submission; own: that a command belongs to the next `submit`.)
-use Rattle.std.specs.Prelude.{ℕ, zero, suc, List, Option, Some, slice_get}
+use Rattle.std.specs.Prelude.{◌<◌, All, ℕ, zero, suc, List, Option, Some, slice_get}
 use Rattle.std.specs.Option.{option_map_or}
 use Rattle.ray_cmd.specs.declared.command.Command.{Command}
 use Rattle.ray_cmd.specs.declared.command.Command.TheVariants as commands
@@ -13,6 +13,10 @@ use Rattle.ray_submits.specs.declared.submission.Submission.{Submission}
 pub record QueueCommands : Type 0 where
   pub commands : List Command
   pub submits : List Submission
+
+-- each of some submissions goes to one of the four queues
+abbrev pub HaveQueues : List Submission → Type 0
+HaveQueues submits = All (λ (s : Submission). s.queue < 4) submits
 
 -- how many `submit`s there are once a command is counted
 abbrev pub count_after : Option Command → ℕ → ℕ

@@ -1,6 +1,8 @@
+ghost use Rattle.std.specs.Prelude.{IfOk};
 ghost use Rattle.serde_json.specs.View.{view, items_view};
 ghost use Rattle.ray_submits.specs.Reading.{Answers, or_bad, submits_from, submits_of};
 ghost use Rattle.ray_submits.specs.Shapes.{submission_of};
+ghost use Rattle.ray_submits.specs.Submits.{HaveQueues};
 
 use crate::fault::QueueFault;
 use crate::submission::{Submission, read_submission};
@@ -13,7 +15,8 @@ const MOST_ENTRIES: usize = 67_108_864;
 
 // The submissions that a value spells.
 pub(crate) fn submits(alloc: Global, value: &Value) -> Result<Listed<Submission>, QueueFault>
-    ensures { Answers result (submits_of (view value.now)) }
+    ensures answer { Answers result (submits_of (view value.now)) }
+    ensures queues { IfOk result HaveQueues }
 {
     match value.as_array() {
         Some(values) => entries(alloc, values.as_slice()),

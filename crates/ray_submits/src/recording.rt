@@ -1,6 +1,6 @@
 ghost use Rattle.std.specs.Prelude.{◌≡◌, ◌<◌, length, option_map};
 ghost use Rattle.ray_submits.specs.Reading.{Answers, counted};
-ghost use Rattle.ray_submits.specs.Submits.{queue_in, queue_of, submission_at};
+ghost use Rattle.ray_submits.specs.Submits.{HaveQueues, queue_in, queue_of, submission_at};
 
 use crate::counts::{Counts, counts_of};
 use crate::fault::QueueFault;
@@ -22,13 +22,13 @@ pub struct QueueRecording {
 impl Model for QueueRecording {
     ghost use Rattle.std.specs.Prelude.{length, ◌≡◌};
     ghost use Rattle.ray_submits.specs.Counts.{AreCounts};
-    ghost use Rattle.ray_submits.specs.Submits.{QueueCommands};
+    ghost use Rattle.ray_submits.specs.Submits.{HaveQueues, QueueCommands};
 
     ghost Value = { QueueCommands };
 
     ghost view = { λ r. record { commands = r.recording; submits = r.submits } };
 
-    ghost invariant = { λ r. AreCounts r.recording r.counts × (length r.submits ≡ r.counts.all) };
+    ghost invariant = { λ r. AreCounts r.recording r.counts × (length r.submits ≡ r.counts.all) × HaveQueues r.submits };
 }
 
 impl QueueRecording {
@@ -60,6 +60,13 @@ impl QueueRecording {
         let count = self.counts.below[i as usize];
         self.submits.as_slice().get(count as usize)
     }
+
+    /// A law: each submission goes to one of the queues 0 to 3. It does nothing.
+    pub fn queues_law(&self)
+        ensures { HaveQueues self.now.submits }
+    {
+        let _ = &self.submits;
+    }
 }
 
 // The queue of a submission, 0 where there is none.
@@ -78,6 +85,7 @@ pub(crate) fn submitted(
     recording: Recording,
     submits: Listed<Submission>,
 ) -> Result<QueueRecording, QueueFault>
+    requires { HaveQueues submits }
     ensures { Answers result (counted recording submits) }
 {
     let counts = counts_of(alloc, &recording)?;

@@ -1,0 +1,4 @@
+pub mod Alone
+pub mod Moving
+pub mod Counting
+pub mod Marking

@@ -1,0 +1,8 @@
+use Rattle.std.proofs.Common.{◌≡◌, ◌++◌, map, take}
+use Rattle.ray_queues.specs.Marks.{mark_of}
+use Rattle.ray_queues.proofs.marks.Marks.signal.Given as goal
+
+-- the signals so far
+abbrev pub invariant-loop-point : goal.invariant-loop-point
+invariant-loop-point l =
+    l.self.list.items ≡ l.fn.self.list.items ++ map (mark_of l.n l.numbers) (take l.point-index l.signals)
