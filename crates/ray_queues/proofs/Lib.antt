@@ -2,3 +2,8 @@ pub mod Alone
 pub mod Moving
 pub mod Counting
 pub mod Marking
+pub mod Named
+pub mod Ordered
+pub mod Passing
+pub mod Raised
+pub mod Longest

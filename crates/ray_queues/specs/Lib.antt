@@ -5,3 +5,6 @@ pub mod OneQueue
 pub mod Numbers
 pub mod Sources
 pub mod Marks
+pub mod Kinds
+pub mod Keeping
+pub mod Rows

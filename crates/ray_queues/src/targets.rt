@@ -38,10 +38,9 @@ impl Targets {
         }
     }
 
-    // What has reached a queue, from 0 to 3.
-    pub(crate) fn of(self, queue: u32) -> Arrived
-        requires { queue < 4 }
-        ensures { (q : QueueCommands) (n : ℕ) → AreTargets q n self → IsArrived q queue n result }
+    // What has reached a queue, which is from 0 to 3.
+    pub(crate) fn of(&self, queue: u32) -> Arrived
+        ensures { queue < 4 → (q : QueueCommands) (n : ℕ) → AreTargets q n self.now → IsArrived q queue n result }
     {
         match queue {
             0 => self.zero,
