@@ -11,7 +11,10 @@ use Rattle.ray_queues.specs.Sources.{ArePerQueue, ArePerStage}
 -- one number
 all-stages : (number : Stage → ℕ) (k : ℕ) → ((stage : Stage) → number stage ≡ k) → ArePerStage number (all_stages k)
 all-stages number k is = record {
-  transfer = is Transfer; build = is Build; structure_copy = is StructureCopy; compute = is Compute;
+  transfer = is Transfer;
+  build = is Build;
+  structure_copy = is StructureCopy;
+  compute = is Compute;
 }
 
 pub all-queues : (number : ℕ → Stage → ℕ) (k : ℕ) → ((from : ℕ) (stage : Stage) → number from stage ≡ k)

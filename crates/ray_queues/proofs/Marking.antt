@@ -137,7 +137,11 @@ here-none (Some m) n = refl
 
 later : (q : QueueCommands) (n : ℕ) (m : Mark) → IsSent q n m → IsSent q (suc n) m
 later q n m is = record {
-  queue = is.queue; signals = is.signals; is = is.is; below = let b = is.below in omega arith; numbers = is.numbers;
+  queue = is.queue;
+  signals = is.signals;
+  is = is.is;
+  below = let b = is.below in omega arith;
+  numbers = is.numbers;
 }
 
 -- a command that is no `submit`
@@ -188,6 +192,10 @@ marks-sent q n queue old new signals numbers is carried added are = record {
       (All-append (IsSent q (suc n)) old.list.items (map (mark_of n numbers) signals)
       (λ i d below. later q n (get_or old.list.items i d) (are.sent i d below))
       (All-map (IsSent q (suc n)) (mark_of n numbers) signals (λ i d below. record {
-        queue = queue; signals = map timeline_point signals; is = is; below = omega arith; numbers = carried;
+        queue = queue;
+        signals = map timeline_point signals;
+        is = is;
+        below = omega arith;
+        numbers = carried;
       })));
 }

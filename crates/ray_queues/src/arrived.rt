@@ -1,7 +1,8 @@
 ghost use Rattle.std.specs.Prelude.{◌≡◌, ◌==◌, ℕ, List, suc};
 ghost use Rattle.ray_chains.specs.Queues.{Begin, TimelinePoint, Wait};
 ghost use Rattle.ray_queues.specs.Events.{event_at};
-ghost use Rattle.ray_queues.specs.Sources.{ArePerQueue, IsArrived, IsBarrierOn, IsBeginOn, IsEvent, number_at, number_met};
+ghost use Rattle.ray_queues.specs.Sources.{ArePerQueue, IsArrived, IsBarrierOn, IsBeginOn, IsEvent};
+ghost use Rattle.ray_queues.specs.Sources.{number_at, number_met};
 ghost use Rattle.ray_submits.specs.Submits.{QueueCommands};
 
 use crate::per_queue::PerQueue;
@@ -22,7 +23,8 @@ pub(crate) struct Arrived {
 pub(crate) enum QueueEvent {
     // A barrier of a queue.
     Barrier(u32, MemoryBarrier),
-    // The begin of a submission to a queue, and the numbers that are carried by what meets its waits.
+    // The begin of a submission to a queue, and the numbers that are carried by what meets its
+    // waits.
     Begin(u32, PerQueue),
     // A `wait` of the host.
     Wait,
@@ -84,7 +86,8 @@ impl Arrived {
 
     // The same of the queue `at` after command number `n`.
     pub(crate) fn passed(self, at: u32, n: u32, event: QueueEvent) -> Arrived
-        ensures { (q : QueueCommands) → IsEvent q n event → IsArrived q at n self → IsArrived q at (suc n) result }
+        ensures { (q : QueueCommands) → IsEvent q n event → IsArrived q at n self
+            → IsArrived q at (suc n) result }
     {
         match event {
             QueueEvent::Barrier(queue, barrier) => self.barrier_of(queue, at, n, barrier),
@@ -99,7 +102,11 @@ impl Arrived {
         ensures { (q : QueueCommands) → IsBarrierOn q n queue barrier → IsArrived q at n self
             → IsArrived q at (suc n) result }
     {
-        if queue == at { self.barrier(at, n, &barrier) } else { self }
+        if queue == at {
+            self.barrier(at, n, &barrier)
+        } else {
+            self
+        }
     }
 
     // The same of the queue `at` after the begin of a submission to a queue.
@@ -107,12 +114,17 @@ impl Arrived {
         ensures { (q : QueueCommands) (n : ℕ) → IsBeginOn q n queue numbers → IsArrived q at n self
             → IsArrived q at (suc n) result }
     {
-        if queue == at { self.begin(numbers) } else { self }
+        if queue == at {
+            self.begin(numbers)
+        } else {
+            self
+        }
     }
 
     // Below which numbers it has reached a stage.
     pub(crate) fn at(self, to: Stage) -> PerQueue
-        ensures { (q : QueueCommands) (at n : ℕ) → IsArrived q at n self → ArePerQueue (number_at q at n to) result }
+        ensures { (q : QueueCommands) (at n : ℕ) → IsArrived q at n self
+            → ArePerQueue (number_at q at n to) result }
     {
         PerQueue {
             zero: self.zero.at(to),

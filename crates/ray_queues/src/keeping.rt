@@ -76,11 +76,12 @@ fn queue_in(submission: Option<&Submission>) -> u32
     }
 }
 
-// Where a command is a `begin`, below which numbers what was done is carried by what meets the waits
-// of its submission.
+// Where a command is a `begin`, below which numbers what was done is carried by what meets the
+// waits of its submission.
 fn numbers_for(command: &Command, submission: Option<&Submission>, marks: &Marks) -> PerQueue
     ensures { command.now ≡ commands.Begin → (q : QueueCommands) (n : ℕ) → AreMarks q n marks.now
-        → ArePerQueue (number_met q n (waits_in (option_map (λ s. s.now) submission.entry))) result }
+        → ArePerQueue (number_met q n
+        (waits_in (option_map (λ s. s.now) submission.entry))) result }
 {
     match command {
         Command::Begin => met_in(submission, marks),
@@ -91,7 +92,8 @@ fn numbers_for(command: &Command, submission: Option<&Submission>, marks: &Marks
 // The same of any submission.
 fn met_in(submission: Option<&Submission>, marks: &Marks) -> PerQueue
     ensures { (q : QueueCommands) (n : ℕ) → AreMarks q n marks.now
-        → ArePerQueue (number_met q n (waits_in (option_map (λ s. s.now) submission.entry))) result }
+        → ArePerQueue (number_met q n
+        (waits_in (option_map (λ s. s.now) submission.entry))) result }
 {
     match submission {
         Some(submission) => marks.met(submission.waits.as_slice()),

@@ -1,20 +1,20 @@
 //! Commands that are submitted to several queues: the order that barriers, timeline semaphores and
-//! waits of the host give them, decided: which command is ordered before which, and the wave of each,
-//! which is the length of the longest chain of commands that ends there.
+//! waits of the host give them, decided: which command is ordered before which, and the wave of
+//! each, which is the length of the longest chain of commands that ends there.
 //!
-//! The order is a second `Ordering` of ray_rules, `queue_order` of `specs/QueueOrder`, over the nodes
-//! and steps of ray_chains; what a command is to them stands in `specs/Events`, and what is refused by
-//! it and by the rules on semaphores in `specs/Refusals`. The layer above uses [`queue_waves`], whose
-//! clause says that what it gives is that order, and with it [`QueueOrder::before`] and
-//! [`QueueOrder::waves`] (`waves_law`). [`one_queue_has_barriers`] is the law that with one queue and
-//! no semaphores it is the order of barriers and waits. The recording is that of ray_submits, whose
-//! calls are here too. Of what is refused the part on semaphores is decided, by
-//! [`check_semaphores`]; the part on hazards is only defined.
+//! The order is a second `Ordering` of ray_rules, `queue_order` of `specs/QueueOrder`, over the
+//! nodes and steps of ray_chains; what a command is to them stands in `specs/Events`, and what is
+//! refused by it and by the rules on semaphores in `specs/Refusals`. The layer above uses
+//! [`queue_waves`], whose clause says that what it gives is that order, and with it
+//! [`QueueOrder::before`] and [`QueueOrder::waves`] (`waves_law`). [`one_queue_has_barriers`] is
+//! the law that with one queue and no semaphores it is the order of barriers and waits. The
+//! recording is that of ray_submits, whose calls are here too. Of what is refused the part on
+//! semaphores is decided, by [`check_semaphores`]; the part on hazards is only defined.
 //!
 //! It stands on ray_submits (the recording and its submissions), ray_sync (what barriers are to
-//! chains), ray_chains and ray_rules (the theory of chains, the order of one queue). What the commands
-//! of a queue at a stage did has reached a stage of a queue below one number; so a number for each two
-//! stages of each two queues is all that is kept, with those that each signal carries.
+//! chains), ray_chains and ray_rules (the theory of chains, the order of one queue). What the
+//! commands of a queue at a stage did has reached a stage of a queue below one number; so a number
+//! for each two stages of each two queues is all that is kept, with those that each signal carries.
 #![tactic(auto)]
 
 mod arrived;

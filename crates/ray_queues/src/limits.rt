@@ -1,6 +1,7 @@
 ghost use Rattle.std.specs.Prelude.{◌≡◌, ◌<◌, ◌≤◌};
 ghost use Rattle.ray_rules.specs.Order.{kind_at, last_wait};
-ghost use Rattle.ray_queues.specs.Kinds.{IsLimits, at_queue, at_stage, no_limits, number_of, raised};
+ghost use Rattle.ray_queues.specs.Kinds.{IsLimits, at_queue, at_stage, no_limits, number_of};
+ghost use Rattle.ray_queues.specs.Kinds.{raised};
 ghost use Rattle.ray_queues.specs.Kinds.{raised_queue, raised_stage};
 ghost use Rattle.ray_queues.specs.Sources.{AreTargets};
 ghost use Rattle.ray_submits.specs.Submits.{HaveQueues, QueueCommands, queue_of};
@@ -137,15 +138,10 @@ fn raised_stage(numbers: PerStage, stage: DeviceStage, number: u32) -> PerStage
 
 // Below which numbers the commands of each kind are ordered before command number `n`, of this kind
 // and queue. `waited` is the last `wait` before it.
-pub(crate) fn limits_of(
-    targets: &Targets,
-    n: u32,
-    waited: u32,
-    kind: Kind,
-    queue: u32,
-) -> Limits
+pub(crate) fn limits_of(targets: &Targets, n: u32, waited: u32, kind: Kind, queue: u32) -> Limits
     ensures { (q : QueueCommands) → HaveQueues q.submits → AreTargets q n targets.now
-        → last_wait q.commands n ≡ waited → waited ≤ n → kind ≡ kind_at q.commands n → queue ≡ queue_of q n
+        → last_wait q.commands n ≡ waited → waited ≤ n → kind ≡ kind_at q.commands n → queue
+        ≡ queue_of q n
         → IsLimits q n result }
 {
     match kind {

@@ -2,7 +2,8 @@ ghost use Rattle.std.specs.Prelude.{◌≡◌, ◌++◌, ℕ, List, OnOk, if◌t
 ghost use Rattle.std.specs.List.{find};
 ghost use Rattle.std.specs.Option.{option_map};
 ghost use Rattle.ray_queues.specs.Events.{timeline_point};
-ghost use Rattle.ray_queues.specs.Marks.{AreMarks, is_enough, mark_of, number_for, number_sent, numbers_in};
+ghost use Rattle.ray_queues.specs.Marks.{AreMarks, is_enough, mark_of, number_for, number_sent};
+ghost use Rattle.ray_queues.specs.Marks.{numbers_in};
 ghost use Rattle.ray_queues.specs.Numbers.{all_stages};
 ghost use Rattle.ray_queues.specs.Sources.{ArePerQueue, IsArrived, number_met};
 ghost use Rattle.ray_submits.specs.Submits.{QueueCommands};
@@ -41,7 +42,8 @@ impl Marks {
 
     // The first signal that is enough for a wait.
     fn find(&self, wait: &SemaphorePoint) -> Option<&Mark>
-        ensures { option_map (λ m. m.now) result ≡ find (is_enough (timeline_point wait.now)) self.now.list.items }
+        ensures { option_map (λ m. m.now) result
+            ≡ find (is_enough (timeline_point wait.now)) self.now.list.items }
     {
         self.list.iter().find(|mark| is_enough(mark, wait))
     }
@@ -78,7 +80,8 @@ impl Marks {
         signals: &[SemaphorePoint],
         numbers: PerQueue,
     ) -> Result<(), NoMemory>
-        ensures { OnOk result (self.new.list.items ≡ self.old.list.items ++ map (mark_of n numbers) signals.now) }
+        ensures { OnOk result (self.new.list.items ≡ self.old.list.items
+            ++ map (mark_of n numbers) signals.now) }
     {
         for point in signals {
             self.list.push(Mark {
@@ -112,7 +115,8 @@ fn numbers_in(mark: Option<&Mark>) -> PerQueue
 // Below which numbers what was done is carried by the signals of a submission to a queue, command
 // number `n`: all of its own queue, and of the others what has reached it.
 pub(crate) fn carried(arrived: Arrived, queue: u32, n: u32) -> PerQueue
-    ensures { (q : QueueCommands) → IsArrived q queue n arrived → ArePerQueue (number_sent q queue n) result }
+    ensures { (q : QueueCommands) → IsArrived q queue n arrived
+        → ArePerQueue (number_sent q queue n) result }
 {
     let numbers = arrived.at(Stage::Transfer);
     PerQueue {

@@ -27,8 +27,8 @@ pub struct Row {
     pub(crate) wave: u32,
 }
 
-/// The order over queues of the first commands of a recording. Contracts see it as a list of what it
-/// says of each, and what that means as `IsQueueOrderOf` a recording.
+/// The order over queues of the first commands of a recording. Contracts see it as a list of what
+/// it says of each, and what that means as `IsQueueOrderOf` a recording.
 #[derive(Drop)]
 pub struct QueueOrder {
     rows: Vec<Row>,
@@ -59,7 +59,8 @@ impl QueueOrder {
     pub fn before(&self, a: u32, b: u32) -> bool
         requires first { a < length self.now }
         requires second { b < length self.now }
-        ensures { (q : QueueCommands) → IsQueueOrderOf q self.now → result ≡ before (queue_order q) q.commands a b }
+        ensures { (q : QueueCommands) → IsQueueOrderOf q self.now → result
+            ≡ before (queue_order q) q.commands a b }
     {
         let kind = self.rows[a as usize].kind;
         a < self.rows[b as usize].limits.of(kind)
@@ -84,9 +85,9 @@ impl QueueOrder {
     }
 }
 
-/// The order over queues of the commands of a recording below `until`, which is at most their number.
-/// Beside what is looked up of semaphores it takes a number of steps that is linear in `until`; for a
-/// wait it goes over all signals before it.
+/// The order over queues of the commands of a recording below `until`, which is at most their
+/// number. Beside what is looked up of semaphores it takes a number of steps that is linear in
+/// `until`; for a wait it goes over all signals before it.
 ///
 /// # Errors
 ///
@@ -118,8 +119,8 @@ pub fn queue_waves(alloc: Global, rec: &QueueRecording, until: u32) -> Result<Qu
     Ok(QueueOrder { rows, waves })
 }
 
-// The wave of a command, where these are the numbers below which commands are ordered before it: the
-// greatest of what the commands of each kind below its number make it.
+// The wave of a command, where these are the numbers below which commands are ordered before it:
+// the greatest of what the commands of each kind below its number make it.
 fn wave_of(bests: &[Limits], limits: &Limits) -> u32
     requires { HaveBests bests.now limits.now }
     ensures { result ≡ greatest_of (best_in bests.now limits.now) all_kinds }
@@ -138,7 +139,11 @@ fn wave_in(bests: &[Limits], limits: &Limits, queue: Queue, others: u32) -> u32
     ensures { result ≡ wave_in bests.now limits.now queue others }
 {
     let build = best_in(bests, limits, WaveKind::Work(queue, DeviceStage::Build));
-    let copies = best_in(bests, limits, WaveKind::Work(queue, DeviceStage::StructureCopy));
+    let copies = best_in(
+        bests,
+        limits,
+        WaveKind::Work(queue, DeviceStage::StructureCopy),
+    );
     let compute = best_in(bests, limits, WaveKind::Work(queue, DeviceStage::Compute));
     greater(
         best_in(bests, limits, WaveKind::Work(queue, DeviceStage::Transfer)),

@@ -2,7 +2,8 @@ ghost use Rattle.std.specs.Prelude.{◌≡◌, ◌&&◌, ◌==◌, List, ℕ, su
 ghost use Rattle.ray_chains.specs.Queues.{Begin, TimelinePoint, Wait};
 ghost use Rattle.ray_chains.specs.Tables.{has_stage};
 ghost use Rattle.ray_queues.specs.Events.{event_at};
-ghost use Rattle.ray_queues.specs.Sources.{ArePerStage, IsBarrierOn, IsSources, number_at, number_met};
+ghost use Rattle.ray_queues.specs.Sources.{ArePerStage, IsBarrierOn, IsSources, number_at};
+ghost use Rattle.ray_queues.specs.Sources.{number_met};
 ghost use Rattle.ray_submits.specs.Submits.{QueueCommands};
 
 use crate::per_queue::PerStage;
@@ -31,10 +32,11 @@ impl Sources {
         }
     }
 
-    // The same after a barrier of the queue, command number `n`. `own` says that the commands are of
-    // this queue.
+    // The same after a barrier of the queue, command number `n`. `own` says that the commands are
+    // of this queue.
     pub(crate) fn barrier(self, own: bool, n: u32, barrier: &MemoryBarrier) -> Sources
-        ensures { (q : QueueCommands) (from at : ℕ) → IsBarrierOn q n at barrier.now → own ≡ (at == from)
+        ensures { (q : QueueCommands) (from at : ℕ) → IsBarrierOn q n at barrier.now → own
+            ≡ (at == from)
             → IsSources q from at n self → IsSources q from at (suc n) result }
     {
         let transfers = direct(own, barrier, Stage::Transfer);
@@ -52,7 +54,8 @@ impl Sources {
     // The same after the begin of a submission to the queue, command number n, where these numbers
     // are carried by the signals that meet its waits.
     pub(crate) fn begin(self, numbers: PerStage) -> Sources
-        ensures { (q : QueueCommands) (from at n : ℕ) (waits : List TimelinePoint) → event_at q n ≡ Begin at waits
+        ensures { (q : QueueCommands) (from at n : ℕ) (waits : List TimelinePoint) → event_at q n
+            ≡ Begin at waits
             → ArePerStage (number_met q n waits from) numbers
             → IsSources q from at n self → IsSources q from at (suc n) result }
     {

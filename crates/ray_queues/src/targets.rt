@@ -28,7 +28,8 @@ impl Targets {
 
     // The same after command number `n`.
     pub(crate) fn passed(self, n: u32, event: QueueEvent) -> Targets
-        ensures { (q : QueueCommands) → IsEvent q n event → AreTargets q n self → AreTargets q (suc n) result }
+        ensures { (q : QueueCommands) → IsEvent q n event → AreTargets q n self
+            → AreTargets q (suc n) result }
     {
         Targets {
             zero: self.zero.passed(0, n, event),
@@ -40,7 +41,8 @@ impl Targets {
 
     // What has reached a queue, which is from 0 to 3.
     pub(crate) fn of(&self, queue: u32) -> Arrived
-        ensures { queue < 4 → (q : QueueCommands) (n : ℕ) → AreTargets q n self.now → IsArrived q queue n result }
+        ensures { queue < 4 → (q : QueueCommands) (n : ℕ) → AreTargets q n self.now
+            → IsArrived q queue n result }
     {
         match queue {
             0 => self.zero,

@@ -36,12 +36,14 @@ counted-more cs i below after all next c there pushed counted is = record {
   where
     there' : Some c ≡ slice_get cs i
     there' = sym there
+
     before : (k : ℕ) → k < i + 1 → (k < i) ⊎ (k ≡ i)
     before k h = choose (nat_lt k i) refl
       where
         choose : (b : Bool) → nat_lt k i ≡ b → (k < i) ⊎ (k ≡ i)
         choose true e = inl (grind (arith, nat_tests))
         choose false e = inr (let past : i ≤ k = grind (arith, nat_tests) in omega arith)
+
     at : (k : ℕ) → (k < i) ⊎ (k ≡ i) → get_or (below ++ all ∷ []) k 0 ≡ submits_below cs k
     at k (inl h) = let many = is.many in get_or-append below (all ∷ []) 0 k (omega arith) ∙ is.each k h
     at k (inr e) = let many = is.many in get_or_push below all 0 k (omega arith) ∙ (is.total ∙ ap (submits_below cs) (sym e))

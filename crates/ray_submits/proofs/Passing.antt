@@ -9,8 +9,8 @@ use Rattle.ray_cmd.specs.declared.refusal.Refusal.{Refusal}
 use Rattle.ray_rules.specs.Refusals.{or_after}
 use Rattle.ray_submits.specs.declared.semaphores.Semaphores.{Semaphores}
 use Rattle.ray_submits.specs.declared.submission.Submission.{Submission}
-use Rattle.ray_submits.specs.Seen.{AreSeen, signals_if}
-use Rattle.ray_submits.specs.Semaphores.{all_signals, first_semaphore_refusal, semaphore_refusal_of, signals_before, signals_of, submission_refusal, submit_at, submitted_by, v33, v34}
+use Rattle.ray_submits.specs.Seen.{AreSeen, signals_if, submission_refusal}
+use Rattle.ray_submits.specs.Semaphores.{all_signals, first_semaphore_refusal, semaphore_refusal_of, signals_before, signals_of, submit_at, submitted_by, v33, v34}
 use Rattle.ray_submits.specs.Submits.{QueueCommands, count_after, submits_below}
 
 -- the signals of one submission more

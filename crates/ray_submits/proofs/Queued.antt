@@ -1,5 +1,5 @@
 -- Each submission that is read goes to one of the four queues.
-use Rattle.std.proofs.Common.{◌≡◌, ◌<◌, ◌+◌, ℕ, zero, suc, Bool, true, false, List, [], ◌∷◌, All, Option, Some, None, Result, Ok, Err, refl, sym, ap, subst, arith}
+use Rattle.std.proofs.Common.{◌≡◌, ◌<◌, ◌+◌, ℕ, zero, suc, Bool, true, false, List, [], ◌∷◌, Option, Some, None, Result, Ok, Err, refl, ap, subst, arith}
 use Rattle.std.specs.Option.{option_map_or}
 use Rattle.std.specs.Prelude.{IfOk, option_and_then, codes, if◌then◌else◌, nat_lt}
 use Rattle.std.proofs.lemmas.Bool.Decides.{nat_tests}
@@ -7,7 +7,6 @@ use Rattle.serde_json.specs.Data.{Data, Items, no_items, item}
 use Rattle.serde_json.specs.Find.{get}
 use Rattle.ray_json.specs.Fields.{at, only, u32_of}
 use Rattle.ray_submits.specs.declared.fault.QueueFault.{QueueFault}
-use Rattle.ray_submits.specs.declared.fault.QueueFault.TheVariants.{BadObject, BadShape, BadSubmits, NoMemory}
 use Rattle.ray_submits.specs.declared.submission.Submission.{Submission}
 use Rattle.ray_submits.specs.Reading.{◌>>=◌, Answers, or_bad, submits_from}
 use Rattle.ray_submits.specs.Shapes.{points_of, queue_of, submission_of}

@@ -3,11 +3,13 @@ use Rattle.std.specs.Prelude.{◌≡◌, ◌<◌, ℕ, max, Bool, false, ◌&&�
 use Rattle.std.specs.BTreeMap.{get}
 use Rattle.std.specs.List.{list_any}
 use Rattle.std.specs.Ordering.{nat_cmp}
+use Rattle.ray_cmd.specs.declared.refusal.Refusal.{Refusal}
+use Rattle.ray_rules.specs.Refusals.{or_later}
 use Rattle.ray_submits.specs.declared.point.SemaphorePoint.{SemaphorePoint}
 use Rattle.ray_submits.specs.declared.semaphores.Seen.{Seen}
 use Rattle.ray_submits.specs.declared.semaphores.Semaphores.{Semaphores}
 use Rattle.ray_submits.specs.declared.submission.Submission.{Submission}
-use Rattle.ray_submits.specs.Semaphores.{Signal, signals_of}
+use Rattle.ray_submits.specs.Semaphores.{Signal, odd_of, signals_of, unmet_of}
 
 -- what is known of a semaphore, where it has been signalled
 abbrev pub seen_at : Semaphores → ℕ → Option Seen
@@ -65,3 +67,8 @@ pub record IsSeen (earlier : List Signal) (semaphore : ℕ) (seen : Option Seen)
 -- and of all semaphores
 pub record AreSeen (earlier : List Signal) (semaphores : Semaphores) : Type 0 where
   pub each : (semaphore : ℕ) → IsSeen earlier semaphore (seen_at semaphores semaphore)
+
+-- the refusal of a submission, that of command number i, by the lesser of the two rules
+abbrev pub submission_refusal : ℕ → List Signal → Option Submission → Option Refusal
+submission_refusal i earlier None = None
+submission_refusal i earlier (Some s) = or_later i 33 (unmet_of earlier s) (or_later i 34 (odd_of earlier s) None)

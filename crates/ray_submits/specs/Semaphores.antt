@@ -8,7 +8,7 @@ use Rattle.ray_cmd.specs.declared.command.Command.TheVariants as commands
 use Rattle.ray_cmd.specs.declared.place.Place.{Place}
 use Rattle.ray_cmd.specs.declared.place.Place.TheVariants.{Part}
 use Rattle.ray_cmd.specs.declared.refusal.Refusal.{Refusal}
-use Rattle.ray_rules.specs.Refusals.{least_broken, or_after, or_later}
+use Rattle.ray_rules.specs.Refusals.{least_broken, or_after}
 use Rattle.ray_submits.specs.declared.point.SemaphorePoint.{SemaphorePoint}
 use Rattle.ray_submits.specs.declared.submission.Submission.{Submission}
 use Rattle.ray_submits.specs.Submits.{QueueCommands, submission_at, submits_below}
@@ -87,11 +87,6 @@ v33 q i = of_submission (unmet_of (signals_before q i)) (submit_at q i)
 
 unfoldable pub v34 : QueueCommands → ℕ → Option Place
 v34 q i = of_submission (odd_of (signals_before q i)) (submit_at q i)
-
--- the refusal of a submission, that of command number i, by the lesser of the two
-abbrev pub submission_refusal : ℕ → List Signal → Option Submission → Option Refusal
-submission_refusal i earlier None = None
-submission_refusal i earlier (Some s) = or_later i 33 (unmet_of earlier s) (or_later i 34 (odd_of earlier s) None)
 
 -- the refusal of command number i by the lesser of the two
 abbrev pub semaphore_refusal_of : QueueCommands → ℕ → Option Refusal

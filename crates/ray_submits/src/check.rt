@@ -1,6 +1,7 @@
 ghost use Rattle.std.specs.Prelude.{◌≡◌, ◌≤◌, ◌<◌, ◌++◌, List, IfOk, None, Ok, length, option_map};
-ghost use Rattle.ray_submits.specs.Seen.{AreSeen, signals_if};
-ghost use Rattle.ray_submits.specs.Semaphores.{Signal as ASignal, first_semaphore_refusal, submission_refusal, submit_at};
+ghost use Rattle.ray_submits.specs.Seen.{AreSeen, signals_if, submission_refusal};
+ghost use Rattle.ray_submits.specs.Semaphores.{Signal as ASignal, first_semaphore_refusal};
+ghost use Rattle.ray_submits.specs.Semaphores.{submit_at};
 
 use crate::recording::QueueRecording;
 use crate::semaphores::Semaphores;
@@ -9,9 +10,9 @@ use ray_cmd::{Command, Refusal};
 use std::alloc::{AllocError as NoMemory, Global};
 
 /// The refusal of the first command below number `until` that breaks a rule on timeline semaphores,
-/// V33 or V34, by the lesser that it breaks, with the position in its waits or signals as the place.
-/// None exactly where none does. `until` is at most the number of commands. It takes n log n steps in
-/// the number n of commands, waits and signals.
+/// V33 or V34, by the lesser that it breaks, with the position in its waits or signals as the
+/// place. None exactly where none does. `until` is at most the number of commands. It takes n log n
+/// steps in the number n of commands, waits and signals.
 ///
 /// # Errors
 ///
@@ -45,17 +46,19 @@ fn submit_at(rec: &QueueRecording, n: u32) -> Option<&Submission>
     }
 }
 
-// The refusal of command number `n`, with the submission that it is. Where there is none, it goes on
-// past it.
+// The refusal of command number `n`, with the submission that it is. Where there is none, it goes
+// on past it.
 fn refusal_of(
     semaphores: &mut Semaphores,
     n: u32,
     submission: Option<&Submission>,
 ) -> Result<Option<Refusal>, NoMemory>
-    ensures refusal { IfOk result (λ refusal. (earlier : List ASignal) → AreSeen earlier semaphores.old
+    ensures refusal { IfOk result (λ refusal. (earlier : List ASignal)
+        → AreSeen earlier semaphores.old
         → refusal ≡ submission_refusal n earlier (option_map (λ s. s.now) submission.entry)) }
     ensures next { result ≡ Ok None → (earlier : List ASignal) → AreSeen earlier semaphores.old
-        → AreSeen (earlier ++ signals_if (option_map (λ s. s.now) submission.entry)) semaphores.new }
+        → AreSeen (earlier ++ signals_if (option_map (λ s. s.now) submission.entry))
+        semaphores.new }
 {
     match submission {
         Some(submission) => semaphores.pass(n, submission),

@@ -3,7 +3,8 @@ ghost use Rattle.serde_json.specs.Find.{get};
 ghost use Rattle.serde_json.specs.View.{view};
 ghost use Rattle.ray_cmd.specs.Recordings.{recording_of};
 ghost use Rattle.ray_json.specs.Fields.{only};
-ghost use Rattle.ray_submits.specs.Reading.{Answers, AnswersBy, commands_in, or_no_object, queues_of};
+ghost use Rattle.ray_submits.specs.Reading.{Answers, AnswersBy, commands_in, or_no_object};
+ghost use Rattle.ray_submits.specs.Reading.{queues_of};
 
 use crate::entries::submits;
 use crate::fault::QueueFault;
@@ -13,14 +14,14 @@ use ray_json::{ReadFault, member, only_members};
 use serde_json::Value;
 use std::alloc::Global;
 
-/// Reads a JSON value as a recording that is submitted to queues: an object of its `commands`, and of
-/// `submits`, a list whose k-th entry is what the k-th `submit` is submitted with. Own.
+/// Reads a JSON value as a recording that is submitted to queues: an object of its `commands`, and
+/// of `submits`, a list whose k-th entry is what the k-th `submit` is submitted with. Own.
 ///
 /// # Errors
 ///
-/// `BadObject` where the value is no object with exactly these members; else `BadShape(i)` as in the
-/// reading of a recording; else `BadSubmits(k)` where entry `k` is the first outside its shape, or
-/// there are more or fewer entries than `submit`s. `NoMemory` may come on any value.
+/// `BadObject` where the value is no object with exactly these members; else `BadShape(i)` as in
+/// the reading of a recording; else `BadSubmits(k)` where entry `k` is the first outside its shape,
+/// or there are more or fewer entries than `submit`s. `NoMemory` may come on any value.
 pub fn read_queues(alloc: Global, value: &Value) -> Result<QueueRecording, QueueFault>
     ensures { Answers result (queues_of (view value.now)) }
 {
@@ -34,7 +35,8 @@ pub fn read_queues(alloc: Global, value: &Value) -> Result<QueueRecording, Queue
 
 // That the value is an object with no member but these.
 fn only(value: &Value, names: &[&str]) -> Result<(), QueueFault>
-    ensures { Answers result (or_no_object (only (map (λ name. name.now) names.now) (view value.now))) }
+    ensures { Answers result
+        (or_no_object (only (map (λ name. name.now) names.now) (view value.now))) }
 {
     match only_members(value, names) {
         Ok(()) => Ok(()),

@@ -10,8 +10,8 @@ use ray_rules::{Kind, kind_of};
 use std::alloc::Global;
 use std::marker::Model;
 
-/// The commands of a recording and what each `submit` of them is submitted with, in order. Contracts
-/// see it as the two lists.
+/// The commands of a recording and what each `submit` of them is submitted with, in order.
+/// Contracts see it as the two lists.
 #[derive(Drop)]
 pub struct QueueRecording {
     recording: Recording,
@@ -28,7 +28,8 @@ impl Model for QueueRecording {
 
     ghost view = { λ r. record { commands = r.recording; submits = r.submits } };
 
-    ghost invariant = { λ r. AreCounts r.recording r.counts × (length r.submits ≡ r.counts.all) × HaveQueues r.submits };
+    ghost invariant = { λ r. AreCounts r.recording r.counts × (length r.submits ≡ r.counts.all)
+        × HaveQueues r.submits };
 }
 
 impl QueueRecording {
@@ -39,8 +40,8 @@ impl QueueRecording {
         &self.recording
     }
 
-    /// The queue of command number `i`, from 0, which has to be below the number of commands: that of
-    /// its submission, and 0 where it has none, or is done by the host.
+    /// The queue of command number `i`, from 0, which has to be below the number of commands: that
+    /// of its submission, and 0 where it has none, or is done by the host.
     pub fn queue_of(&self, i: u32) -> u32
         requires { i < length self.now.commands }
         ensures { result ≡ queue_of self.now i }

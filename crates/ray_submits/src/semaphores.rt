@@ -1,12 +1,15 @@
-ghost use Rattle.std.specs.Prelude.{◌≡◌, ◌≤◌, ◌<◌, ◌++◌, [], ℕ, List, IfOk, IfSome, None, Ok, OnOk, Some, if◌then◌else◌, length, map, not};
+ghost use Rattle.std.specs.Prelude.{◌≡◌, ◌≤◌, ◌<◌, ◌++◌, [], ℕ, List, IfOk, IfSome, None, Ok, OnOk};
+ghost use Rattle.std.specs.Prelude.{Some, if◌then◌else◌, length, map, not};
 ghost use Rattle.std.specs.BTreeMap.{get, is_at};
 ghost use Rattle.std.specs.List.{position};
 ghost use Rattle.std.specs.Option.{option_map};
 ghost use Rattle.std.specs.Ordering.{nat_cmp};
 ghost use Rattle.ray_cmd.specs.declared.place.Place.TheVariants.{Part};
 ghost use Rattle.ray_rules.specs.Refusals.{or_later};
-ghost use Rattle.ray_submits.specs.Seen.{AreSeen, elsewhere_in, is_met_in, is_odd_in, is_odd_seen, seen_after, seen_at, value_in};
-ghost use Rattle.ray_submits.specs.Semaphores.{Signal as ASignal, first_odd, odd_of, signal_by, signals_of, unmet_of};
+ghost use Rattle.ray_submits.specs.Seen.{AreSeen, elsewhere_in, is_met_in, is_odd_in, is_odd_seen};
+ghost use Rattle.ray_submits.specs.Seen.{seen_after, seen_at, value_in};
+ghost use Rattle.ray_submits.specs.Semaphores.{Signal as ASignal, first_odd, odd_of, signal_by};
+ghost use Rattle.ray_submits.specs.Semaphores.{signals_of, unmet_of};
 
 use crate::point::SemaphorePoint;
 use crate::submission::Submission;
@@ -42,15 +45,20 @@ impl Semaphores {
         }
     }
 
-    /// Goes on past the next submission, that of command number `n`, and gives the command's refusal
-    /// by the lesser of V33 and V34, where it breaks one. Where it does, or there is no memory, what
-    /// is known of semaphores afterwards isn't said.
+    /// Goes on past the next submission, that of command number `n`, and gives the command's
+    /// refusal by the lesser of V33 and V34, where it breaks one. Where it does, or there is no
+    /// memory, what is known of semaphores afterwards isn't said.
     ///
     /// # Errors
     ///
     /// For want of memory alone.
-    pub(crate) fn pass(&mut self, n: u32, submission: &Submission) -> Result<Option<Refusal>, NoMemory>
-        ensures refusal { IfOk result (λ refusal. (earlier : List ASignal) → AreSeen earlier self.old
+    pub(crate) fn pass(
+        &mut self,
+        n: u32,
+        submission: &Submission,
+    ) -> Result<Option<Refusal>, NoMemory>
+        ensures refusal { IfOk result (λ refusal. (earlier : List ASignal)
+            → AreSeen earlier self.old
             → refusal ≡ or_later n 33 (unmet_of earlier submission.now)
             (or_later n 34 (odd_of earlier submission.now) None)) }
         ensures next { result ≡ Ok None → (earlier : List ASignal) → AreSeen earlier self.old
@@ -80,7 +88,8 @@ impl Semaphores {
     // The first wait that isn't met.
     fn unmet(&self, waits: &[SemaphorePoint]) -> Option<Place>
         requires { length waits.now ≤ 67108864 }
-        ensures { result ≡ option_map Part (position (λ wait. not (is_met_in self.now wait)) waits.now) }
+        ensures { result
+            ≡ option_map Part (position (λ wait. not (is_met_in self.now wait)) waits.now) }
     {
         match self.first_unmet(waits) {
             Some(k) => Some(Place::Part(k as u32)),
@@ -117,11 +126,7 @@ impl Semaphores {
     }
 
     // Goes on past the signals of a submission to a queue, up to the first that is at odds.
-    fn odd(
-        &mut self,
-        queue: u32,
-        signals: &[SemaphorePoint],
-    ) -> Result<Option<Place>, NoMemory>
+    fn odd(&mut self, queue: u32, signals: &[SemaphorePoint]) -> Result<Option<Place>, NoMemory>
         requires { length signals.now ≤ 67108864 }
         ensures place { IfOk result (λ place. (earlier : List ASignal) → AreSeen earlier self.old
             → place ≡ option_map Part (first_odd earlier 0 (map (signal_by queue) signals.now))) }
