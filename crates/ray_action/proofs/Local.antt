@@ -69,4 +69,4 @@ seen_same Rest m z same = refl
 seen_same Impossible m z same = refl
 
 pub outcomes_local : OutcomesAreLocal
-outcomes_local action m z same = ap (λ seen. computed action seen) (seen_same action m z same)
+outcomes_local meaning action m z same = ap (λ seen. computed meaning action seen) (seen_same action m z same)

@@ -16,7 +16,6 @@ use Rattle.ray_cmd.specs.declared.info.Info.{Info}
 use Rattle.ray_cmd.specs.declared.region.Region.{Region}
 use Rattle.ray_cmd.specs.declared.spot.Spot.{Spot}
 use Rattle.ray_flags.specs.declared.ray_flags.RayFlags.{RayFlags}
-use Rattle.ray_script.specs.declared.raw_rule.RawRule.{RawRule}
 use Rattle.ray_cmd.specs.declared.stretch.Stretch.{Stretch}
 use Rattle.ray_cmd.specs.declared.structure_kind.StructureKind.{StructureKind}
 use Rattle.ray_cmd.specs.declared.structure_kind.StructureKind.TheVariants as kinds
@@ -305,9 +304,9 @@ property-within what structures dst = record {
   writes = λ l e. or_left (is_in_range (range dst.buffer dst.offset (8 * length structures)) l) false e;
 }
 
-rays-within : (rec : List Command) (z : Status) (top : ℕ) (rays hits : Spot) (count : ℕ) (flags : RayFlags) (mask : ℕ) (script : List RawRule) (k : ℕ)
-    → TouchesWithin (rays_action rec z top rays hits count flags mask script k) (ray_accesses rec z top rays hits (64 * k) (rays_of_piece count k))
-rays-within rec z top rays hits count flags mask script k =
+rays-within : (rec : List Command) (z : Status) (top : ℕ) (rays hits : Spot) (count : ℕ) (flags : RayFlags) (mask : ℕ) (k : ℕ)
+    → TouchesWithin (rays_action rec z top rays hits count flags mask k) (ray_accesses rec z top rays hits (64 * k) (rays_of_piece count k))
+rays-within rec z top rays hits count flags mask k =
     let at = range rays.buffer (rays.offset + 40 * (64 * k)) (40 * rays_of_piece count k) in
     let uses = uses_at rec z top in
     let bytes = at_bytes ShaderRead at.buffer at.from at.size ∷ [] in
@@ -358,8 +357,8 @@ touch_within rec z (commands.Property what structures dst) stage k action s e =
     subst (λ a. TouchesWithin a (property_accesses structures dst)) (one-of (property_action what structures dst) action k e) (property-within what structures dst)
 touch_within rec z (commands.Barrier src_stages src_access dst_stages dst_access buffers) stage k action s e = absurd cc
 touch_within rec z (commands.Trace top rays count hits flags mask script) stage k action s e =
-    let same : rays_action rec z top rays hits count flags mask script (0 + k) ≡ action =
-    made-of (rays_action rec z top rays hits count flags mask script) 0 (trace_pieces count) k action e in
+    let same : rays_action rec z top rays hits count flags mask (0 + k) ≡ action =
+    made-of (rays_action rec z top rays hits count flags mask) 0 (trace_pieces count) k action e in
     let plain : 0 + k ≡ k = omega arith in
     subst (λ a. TouchesWithin a (ray_accesses rec z top rays hits (64 * k) (rays_of_piece count k)))
-    (ap (rays_action rec z top rays hits count flags mask script) (sym plain) ∙ same) (rays-within rec z top rays hits count flags mask script k)
+    (ap (rays_action rec z top rays hits count flags mask) (sym plain) ∙ same) (rays-within rec z top rays hits count flags mask k)

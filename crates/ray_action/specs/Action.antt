@@ -6,7 +6,6 @@ use Rattle.std.specs.List.{flat_map}
 use Rattle.std.specs.Option.{option_to_list}
 use Rattle.ray_flags.specs.declared.build_flags.BuildFlags.{BuildFlags}
 use Rattle.ray_flags.specs.declared.ray_flags.RayFlags.{RayFlags}
-use Rattle.ray_script.specs.declared.raw_rule.RawRule.{RawRule}
 use Rattle.ray_cmd.specs.declared.asked.Asked.{Asked}
 use Rattle.ray_cmd.specs.declared.copy_mode.CopyMode.{CopyMode}
 use Rattle.ray_cmd.specs.declared.geometry.Geometry.{Geometry}
@@ -29,7 +28,7 @@ pub record Building : Type 0 where
 
 -- rays that are traced: the top structure, those that its instances may refer to, where the rays and
 -- their hits stand, the number of the first ray in its whole trace, how many there are, and how they are
--- traced
+-- traced. Who decides on their candidates is no part of it
 pub record Tracing : Type 0 where
   pub top : ℕ
   pub uses : List ℕ
@@ -39,7 +38,6 @@ pub record Tracing : Type 0 where
   pub count : ℕ
   pub flags : RayFlags
   pub mask : ℕ
-  pub script : List RawRule
 
 -- what is done at one moment. `Rest` changes nothing, as a barrier or a `wait`. `Impossible` has no meaning: it
 -- is what a command asks for that breaks the static rules, as an update without a source

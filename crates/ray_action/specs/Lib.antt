@@ -3,6 +3,7 @@ pub mod Areas
 pub mod Action
 pub mod Seeing
 pub mod Building
+pub mod Clients
 pub mod Outcomes
 pub mod Storing
 pub mod Pieces

@@ -16,10 +16,7 @@ use Rattle.ray_bytes.specs.Records.{ray_of}
 use Rattle.ray_bytes.specs.Slices.{record_at}
 use Rattle.ray_bytes.specs.StructureSizes.{compacted_size}
 use Rattle.ray_contents.specs.Gathering.{gathered}
-use Rattle.ray_script.specs.Meaning.{script_decision}
 use Rattle.ray_flags.specs.declared.ray_flags.RayFlags.{RayFlags}
-use Rattle.ray_query.specs.declared.candidate.Candidate.{Candidate}
-use Rattle.ray_query.specs.declared.decision.Decision.{Decision}
 use Rattle.ray_query.specs.Record.{record_of}
 use Rattle.ray_geometries.specs.Contents as bottoms
 use Rattle.ray_bottom.specs.Builders.{BuilderValue}
@@ -43,6 +40,7 @@ use Rattle.ray_rules.specs.declared.byte_range.ByteRange.{ByteRange}
 use Rattle.ray_action.specs.declared.form.Form.{Form}
 use Rattle.ray_action.specs.Memory.{Contents, Bottom, Top, Memory, as_bottom, as_top, number_before}
 use Rattle.ray_action.specs.Action.{Action, Tracing, MakeBuffer, MakeStructure, DestroyBuffer, DestroyStructure, ShowSizes, ShowBytes, UpdateBytes, FillBytes, CopyBytes, BuildBottom, UpdateBottom, BuildTop, UpdateTop, CopyStructure, SerializeStructure, DeserializeStructure, TellProperty, TraceRays, Rest, Impossible}
+use Rattle.ray_action.specs.Clients.{Meaning}
 use Rattle.ray_action.specs.Seeing.{Seen, SeenBytes, SeenStructures, SeenStructure, see}
 use Rattle.ray_action.specs.Building.{add_all, new_builder, update_builder, all_used, top_of, top_again}
 
@@ -209,26 +207,26 @@ ray_in rays k = option_and_then ray_within (option_map ray_of (record_at rays 0 
 
 -- the bytes of the hit of a ray, whose number in its whole trace is given, by a client of this meaning; X11 where it is beyond
 -- the limits
-abbrev pub hit_by : (Candidate → Decision) → tops.TopValue → Structures → RayFlags → ℕ → ℕ → Option RayValue → Result (List ℕ) Fault
+abbrev pub hit_by : Meaning → tops.TopValue → Structures → RayFlags → ℕ → ℕ → Option RayValue → Result (List ℕ) Fault
 hit_by meaning top bottoms flags mask number None = Err (record { rule = X11; place = Part number })
 hit_by meaning top bottoms flags mask number (Some ray) =
     Ok (hit_bytes (record_of (trace_answer meaning top.contents bottoms ray number flags mask)))
 
 -- the same of ray k of those that are traced together. One that isn't whole, which no rule speaks of, is
 -- beyond the limits
-abbrev pub hit_at : Tracing → tops.TopValue → SeenStructures → List ℕ → ℕ → Result (List ℕ) Fault
-hit_at trace top uses rays k =
-    hit_by (script_decision trace.script) top (bottoms_in uses) trace.flags trace.mask (trace.first + k) (ray_in rays k)
+abbrev pub hit_at : Meaning → Tracing → tops.TopValue → SeenStructures → List ℕ → ℕ → Result (List ℕ) Fault
+hit_at meaning trace top uses rays k =
+    hit_by meaning top (bottoms_in uses) trace.flags trace.mask (trace.first + k) (ray_in rays k)
 
 -- the bytes of all hits, or the fault of the first ray that has one
 abbrev pub hits_outcome : Result (List (List ℕ)) Fault → Outcome
 hits_outcome (Ok hits) = Gives (Bytes (flat_map (λ hit. hit) hits))
 hits_outcome (Err fault) = Breaks fault
 
--- what a trace gives, where its rays and its top structure are there
-abbrev pub trace_outcome : Tracing → SeenStructures → SeenBytes → Option tops.TopValue → Outcome
-trace_outcome trace uses (Some rays) (Some top) = hits_outcome (gathered (hit_at trace top uses rays) trace.count)
-trace_outcome trace uses _ _ = Undefined
+-- what a trace gives by a client of this meaning, where its rays and its top structure are there
+abbrev pub trace_outcome : Meaning → Tracing → SeenStructures → SeenBytes → Option tops.TopValue → Outcome
+trace_outcome meaning trace uses (Some rays) (Some top) = hits_outcome (gathered (hit_at meaning trace top uses rays) trace.count)
+trace_outcome meaning trace uses _ _ = Undefined
 
 -- ---- every action
 
@@ -237,33 +235,33 @@ abbrev pub bytes_outcome : SeenBytes → Outcome
 bytes_outcome None = Undefined
 bytes_outcome (Some bytes) = Gives (Bytes bytes)
 
--- what an action gives of what it sees
-abbrev pub computed : (action : Action) → Seen action → Outcome
-computed (MakeBuffer id size content) seen = Gives Nothing
-computed (MakeStructure id form) seen = Gives Nothing
-computed (DestroyBuffer id) seen = Gives Nothing
-computed (DestroyStructure id) seen = Gives Nothing
-computed (ShowSizes kind counts) seen = Gives Nothing
-computed (ShowBytes from form) seen = bytes_outcome seen
-computed (UpdateBytes to content) seen = Gives Nothing
-computed (FillBytes to value) seen = Gives Nothing
-computed (CopyBytes from to) seen = bytes_outcome seen
-computed (BuildBottom build flags geometries) seen =
+-- what an action gives of what it sees. A trace alone asks its client
+abbrev pub computed : Meaning → (action : Action) → Seen action → Outcome
+computed meaning (MakeBuffer id size content) seen = Gives Nothing
+computed meaning (MakeStructure id form) seen = Gives Nothing
+computed meaning (DestroyBuffer id) seen = Gives Nothing
+computed meaning (DestroyStructure id) seen = Gives Nothing
+computed meaning (ShowSizes kind counts) seen = Gives Nothing
+computed meaning (ShowBytes from form) seen = bytes_outcome seen
+computed meaning (UpdateBytes to content) seen = Gives Nothing
+computed meaning (FillBytes to value) seen = Gives Nothing
+computed meaning (CopyBytes from to) seen = bytes_outcome seen
+computed meaning (BuildBottom build flags geometries) seen =
     bottom_outcome build.info (add_all geometries seen.geometries (new_builder flags))
-computed (UpdateBottom build src geometries) seen =
+computed meaning (UpdateBottom build src geometries) seen =
     of_bottom seen.0 (λ old. bottom_outcome build.info (add_all geometries seen.1.geometries (update_builder old)))
-computed (BuildTop build flags uses instances) seen =
+computed meaning (BuildTop build flags uses instances) seen =
     top_outcome build.info (top_of flags (all_used seen.uses uses) instances seen.instances)
-computed (UpdateTop build src uses instances) seen =
+computed meaning (UpdateTop build src uses instances) seen =
     of_top seen.0 (λ old. top_outcome build.info (top_again old (all_used seen.1.uses uses) instances seen.1.instances))
-computed (CopyStructure mode src dst) seen = copy_outcome mode seen.0 seen.1
-computed (SerializeStructure src to) seen = serialize_outcome to seen
-computed (DeserializeStructure from dst uses) seen = deserialize_outcome (all_used seen.uses uses) seen.bytes seen.dst
-computed (TellProperty what structures to) seen = property_outcome (numbers_of what seen)
-computed (TraceRays trace) seen = trace_outcome trace seen.uses seen.rays (option_and_then as_top seen.top)
-computed Rest seen = Gives Nothing
-computed Impossible seen = Undefined
+computed meaning (CopyStructure mode src dst) seen = copy_outcome mode seen.0 seen.1
+computed meaning (SerializeStructure src to) seen = serialize_outcome to seen
+computed meaning (DeserializeStructure from dst uses) seen = deserialize_outcome (all_used seen.uses uses) seen.bytes seen.dst
+computed meaning (TellProperty what structures to) seen = property_outcome (numbers_of what seen)
+computed meaning (TraceRays trace) seen = trace_outcome meaning trace seen.uses seen.rays (option_and_then as_top seen.top)
+computed meaning Rest seen = Gives Nothing
+computed meaning Impossible seen = Undefined
 
--- what an action gives in a memory
-abbrev pub outcome_of : Action → Memory → Outcome
-outcome_of action memory = computed action (see action memory)
+-- what an action gives in a memory, where a client of this meaning decides
+abbrev pub outcome_of : Meaning → Action → Memory → Outcome
+outcome_of meaning action memory = computed meaning action (see action memory)

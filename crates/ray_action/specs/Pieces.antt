@@ -2,7 +2,6 @@
 use Rattle.std.specs.Prelude.{ℕ, ◌+◌, ◌*◌, ◌/◌, ◌%◌, List, [], ◌∷◌, ◌++◌, map, Option, Some, None, unwrap_or, length, slice_index_or}
 use Rattle.std.specs.List.{range_with_len}
 use Rattle.ray_flags.specs.declared.ray_flags.RayFlags.{RayFlags}
-use Rattle.ray_script.specs.declared.raw_rule.RawRule.{RawRule}
 use Rattle.ray_cmd.specs.declared.asked.Asked.{Asked}
 use Rattle.ray_cmd.specs.declared.build_mode.BuildMode.{BuildMode}
 use Rattle.ray_cmd.specs.declared.build_mode.BuildMode.TheVariants as modes
@@ -83,8 +82,8 @@ rays_range rays count k = range rays.buffer (rays.offset + 40 * (64 * k)) (40 * 
 abbrev pub hits_range : Spot → ℕ → ℕ → ByteRange
 hits_range hits count k = range hits.buffer (hits.offset + 80 * (64 * k)) (80 * rays_of_piece count k)
 
-abbrev pub rays_action : List Command → Status → ℕ → Spot → Spot → ℕ → RayFlags → ℕ → List RawRule → ℕ → Action
-rays_action rec z top rays hits count flags mask script k = TraceRays (record {
+abbrev pub rays_action : List Command → Status → ℕ → Spot → Spot → ℕ → RayFlags → ℕ → ℕ → Action
+rays_action rec z top rays hits count flags mask k = TraceRays (record {
   top = top;
   uses = uses_at rec z top;
   rays = rays_range rays count k;
@@ -93,7 +92,6 @@ rays_action rec z top rays hits count flags mask script k = TraceRays (record {
   count = rays_of_piece count k;
   flags = flags;
   mask = cull_mask mask;
-  script = script;
 })
 
 -- how many pieces a trace of so many rays has
@@ -146,7 +144,7 @@ actions_of rec z (commands.Deserialize src dst uses) = DeserializeStructure (str
 actions_of rec z (commands.Property what structures dst) = property_action what structures dst ∷ []
 actions_of rec z (commands.Barrier src_stages src_access dst_stages dst_access buffers) = Rest ∷ []
 actions_of rec z (commands.Trace top rays count hits flags mask script) =
-    map (rays_action rec z top rays hits count flags mask script) (range_with_len 0 (trace_pieces count))
+    map (rays_action rec z top rays hits count flags mask) (range_with_len 0 (trace_pieces count))
 
 -- command number i, where there is one
 abbrev pub command_at : List Command → ℕ → Command

@@ -4,7 +4,6 @@
 use Rattle.std.specs.Prelude.{ℕ, ◌≡◌, ◌≤◌, ◌^◌, List, [], ◌∷◌, Option, Some, None, true, false, All, IsSome, IfSome, length, sum}
 use Rattle.std.specs.Option.{option_and_then}
 use Rattle.ray_flags.specs.Admission.{AsksBoth}
-use Rattle.ray_script.specs.Scripts.{refused_at}
 use Rattle.ray_geometries.specs.Contents as bottoms
 use Rattle.ray_top.specs.Contents as tops
 use Rattle.ray_candidates.specs.Standing.{AreStanding}
@@ -106,14 +105,13 @@ pub record IsDeserializeReady (ids : List ℕ) (seen : SeenSerialized) : Type 0 
   pub dst : IsSome seen.dst
   pub uses : AreBottoms seen.uses ids
 
--- rays and a top structure are there, with the structures of its active instances as they were; the rules are a
--- script, and the flags don't ask that everything counts as opaque and that nothing does
+-- rays and a top structure are there, with the structures of its active instances as they were; and the
+-- flags don't ask that everything counts as opaque and that nothing does
 pub record IsTraceReady (trace : Tracing) (seen : SeenTrace) : Type 0 where
   pub rays : IsSome seen.rays
   pub top : tops.TopValue
   pub is_it : option_and_then as_top seen.top ≡ Some top
   pub standing : AreStanding top (bottoms_in seen.uses)
-  pub script : refused_at trace.script ≡ None
   pub flags : AsksBoth trace.flags → ⊥
 
 -- ---- every action

@@ -7,6 +7,7 @@ use Rattle.ray_action.specs.declared.form.Form.{Form}
 use Rattle.ray_action.specs.Memory.{Contents, Location, ByteAt, BufferAt, StructureAt, ContentsAt, Held, Memory}
 use Rattle.ray_action.specs.Areas.{is_in_range, is_contents_of}
 use Rattle.ray_action.specs.Action.{Action, MakeBuffer, MakeStructure, DestroyBuffer, DestroyStructure, ShowSizes, ShowBytes, UpdateBytes, FillBytes, CopyBytes, BuildBottom, UpdateBottom, BuildTop, UpdateTop, CopyStructure, SerializeStructure, DeserializeStructure, TellProperty, TraceRays, Rest, Impossible}
+use Rattle.ray_action.specs.Clients.{Meaning}
 use Rattle.ray_action.specs.Outcomes.{Output, Nothing, Bytes, Holds, Outcome, Gives, Breaks, Undefined, outcome_of}
 
 -- ---- what is written
@@ -138,6 +139,6 @@ left action Undefined l old = old
 abbrev pub put : Action → Outcome → Memory → Memory
 put action outcome memory l = if writes action l then left action outcome l (memory l) else memory l
 
--- the memory after an action
-abbrev pub after : Action → Memory → Memory
-after action memory = put action (outcome_of action memory) memory
+-- the memory after an action, where a client of this meaning decides
+abbrev pub after : Meaning → Action → Memory → Memory
+after meaning action memory = put action (outcome_of meaning action memory) memory

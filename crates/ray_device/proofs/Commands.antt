@@ -140,13 +140,13 @@ build-part rec z infos k found e =
     ∙ ap (λ o. unwrap_or (option_map (info_action z k) o) Rest) e)
 
 pub trace-part : (rec : List Command) (z : Status) (top : ℕ) (rays : Spot) (count : ℕ) (hits : Spot) (flags : RayFlags) (mask : ℕ) (script : List RawRule) (k : ℕ)
-    → k < (count + 63) / 64 → part_action rec z (commands.Trace top rays count hits flags mask script) k ≡ rays_action rec z top rays hits count flags mask script k
+    → k < (count + 63) / 64 → part_action rec z (commands.Trace top rays count hits flags mask script) k ≡ rays_action rec z top rays hits count flags mask k
 unfolding actions_of
 trace-part rec z top rays count hits flags mask script k within =
     ap (λ o. unwrap_or o Rest)
-    (slice_get-map (rays_action rec z top rays hits count flags mask script) (range_with_len 0 (trace_pieces count)) k
-    ∙ ap (option_map (rays_action rec z top rays hits count flags mask script)) (range-part 0 (trace_pieces count) k within))
-    ∙ ap (rays_action rec z top rays hits count flags mask script) (from-none k)
+    (slice_get-map (rays_action rec z top rays hits count flags mask) (range_with_len 0 (trace_pieces count)) k
+    ∙ ap (option_map (rays_action rec z top rays hits count flags mask)) (range-part 0 (trace_pieces count) k within))
+    ∙ ap (rays_action rec z top rays hits count flags mask) (from-none k)
 
 -- ---- stores
 
@@ -212,7 +212,7 @@ part-stores rec z (commands.Property what structures dst) k output m within s =
 part-stores rec z (commands.Barrier src_stages src_access dst_stages dst_access buffers) k output m within s =
     stores-by rec z (commands.Barrier src_stages src_access dst_stages dst_access buffers) k output m Rest (first-part _ k within) (λ l. refl)
 part-stores rec z (commands.Trace top rays count hits flags mask script) k output m within s =
-    stores-by rec z (commands.Trace top rays count hits flags mask script) k output m (rays_action rec z top rays hits count flags mask script k)
+    stores-by rec z (commands.Trace top rays count hits flags mask script) k output m (rays_action rec z top rays hits count flags mask k)
     (trace-part rec z top rays count hits flags mask script k within) (λ l. refl)
 
 -- and what that needs

@@ -8,9 +8,9 @@ use Rattle.ray_flags.specs.declared.ray_flags.RayFlags.{RayFlags}
 use Rattle.ray_bytes.specs.declared.ray_record.RayRecord.{RayRecord}
 use Rattle.ray_contents.specs.Gathering.{gathered}
 use Rattle.ray_contents.proofs.Gathered.{gathered_none, gathered_more, gathered_fault}
-use Rattle.ray_script.specs.declared.raw_rule.RawRule.{RawRule}
 use Rattle.ray_top.specs.Contents.{TopValue}
 use Rattle.ray_candidates.specs.Candidates.{Structures}
+use Rattle.ray_action.specs.Clients.{Meaning}
 use Rattle.ray_action.specs.Outcomes.{Fault, Gives, Breaks, Bytes, hits_outcome, recorded_ray, ray_within}
 use Rattle.ray_device.specs.declared.fetch_fault.FetchFault.{FetchFault}
 use Rattle.ray_device.specs.declared.fetch_fault.FetchFault.TheVariants.{Data, NoMemory}
@@ -46,25 +46,25 @@ fault : (r : Result (List (List ℕ)) Fault) (element : ℕ → Result (List ℕ
 fault (Err g) element n count bytes f is e at within = absurd cc
 fault (Ok hits) element n count bytes f is e at within = ap hits_outcome (gathered_fault element n count hits f is at within)
 
-module _ (top : TopValue) (bottoms : Structures) (rules : List RawRule) (flags : RayFlags) (mask : ℕ) (rays : List ℕ) (first : ℕ) where
-  pub rays_none : rays_outcome top bottoms rules flags mask rays first 0 ≡ Gives (Bytes [])
+module _ (top : TopValue) (bottoms : Structures) (meaning : Meaning) (flags : RayFlags) (mask : ℕ) (rays : List ℕ) (first : ℕ) where
+  pub rays_none : rays_outcome top bottoms meaning flags mask rays first 0 ≡ Gives (Bytes [])
   unfolding rays_outcome
-  rays_none = ap hits_outcome (gathered_none (hit_in top bottoms rules flags mask rays first))
+  rays_none = ap hits_outcome (gathered_none (hit_in top bottoms meaning flags mask rays first))
 
-  pub rays_more : (n : ℕ) (bytes hit : List ℕ) → rays_outcome top bottoms rules flags mask rays first n ≡ Gives (Bytes bytes)
-      → hit_in top bottoms rules flags mask rays first n ≡ Ok hit → rays_outcome top bottoms rules flags mask rays first (n + 1) ≡ Gives (Bytes (bytes ++ hit))
+  pub rays_more : (n : ℕ) (bytes hit : List ℕ) → rays_outcome top bottoms meaning flags mask rays first n ≡ Gives (Bytes bytes)
+      → hit_in top bottoms meaning flags mask rays first n ≡ Ok hit → rays_outcome top bottoms meaning flags mask rays first (n + 1) ≡ Gives (Bytes (bytes ++ hit))
   unfolding rays_outcome
   rays_more n bytes hit e at =
-      more (gathered (hit_in top bottoms rules flags mask rays first) n) (hit_in top bottoms rules flags mask rays first) n bytes hit refl e at
+      more (gathered (hit_in top bottoms meaning flags mask rays first) n) (hit_in top bottoms meaning flags mask rays first) n bytes hit refl e at
 
-  pub rays_fault : (n count : ℕ) (bytes : List ℕ) (f : Fault) → rays_outcome top bottoms rules flags mask rays first n ≡ Gives (Bytes bytes)
-      → hit_in top bottoms rules flags mask rays first n ≡ Err f → n < count → rays_outcome top bottoms rules flags mask rays first count ≡ Breaks f
+  pub rays_fault : (n count : ℕ) (bytes : List ℕ) (f : Fault) → rays_outcome top bottoms meaning flags mask rays first n ≡ Gives (Bytes bytes)
+      → hit_in top bottoms meaning flags mask rays first n ≡ Err f → n < count → rays_outcome top bottoms meaning flags mask rays first count ≡ Breaks f
   unfolding rays_outcome
   rays_fault n count bytes f e at within =
-      fault (gathered (hit_in top bottoms rules flags mask rays first) n) (hit_in top bottoms rules flags mask rays first) n count bytes f refl e at within
+      fault (gathered (hit_in top bottoms meaning flags mask rays first) n) (hit_in top bottoms meaning flags mask rays first) n count bytes f refl e at within
 
-  pub rays_told : (n count : ℕ) (bytes : List ℕ) (e : FetchFault) → rays_outcome top bottoms rules flags mask rays first n ≡ Gives (Bytes bytes)
-      → IsHit (hit_in top bottoms rules flags mask rays first n) (Err e) → n < count → IsFetched (rays_outcome top bottoms rules flags mask rays first count) (Err e)
+  pub rays_told : (n count : ℕ) (bytes : List ℕ) (e : FetchFault) → rays_outcome top bottoms meaning flags mask rays first n ≡ Gives (Bytes bytes)
+      → IsHit (hit_in top bottoms meaning flags mask rays first n) (Err e) → n < count → IsFetched (rays_outcome top bottoms meaning flags mask rays first count) (Err e)
   rays_told n count bytes (Data rule place) e at within = rays_fault n count bytes (record { rule = rule; place = place }) e at within
   rays_told n count bytes NoMemory e at within = tt
 

@@ -4,7 +4,7 @@ use Rattle.std.proofs.Common.{ℕ, ◌≡◌, ◌+◌, List, Option, Some, None,
 use Rattle.std.specs.Prelude.{IfSome, option_and_then, if◌then◌else◌}
 use Rattle.ray_geom.specs.Scene.{RayValue}
 use Rattle.ray_bytes.specs.Hits.{hit_bytes}
-use Rattle.ray_script.specs.Meaning.{script_decision}
+use Rattle.ray_action.specs.Clients.{Meaning}
 use Rattle.ray_query.specs.declared.found.Found.{Found}
 use Rattle.ray_query.specs.Play.{play, start}
 use Rattle.ray_query.specs.Record.{record_of}
@@ -55,40 +55,39 @@ module _ (m : Memory) (uses : List ℕ) (top : TopValue) (standing : AreStanding
   stands = record { each = λ n d below. stands-one (get_or top.contents.instances n d) (standing.each n d below) }
 
 -- the hit of a ray is the same
-same-hit : (trace : Tracing) (m : Memory) (top : TopValue) (number : ℕ) (ray : Option RayValue) → AreStanding top (bottoms_in (see_structures m trace.uses))
-    → hit_by (script_decision trace.script) top (bottoms_in (see_structures m trace.uses)) trace.flags trace.mask number ray
-    ≡ hit_by (script_decision trace.script) top (bottoms_of m) trace.flags trace.mask number ray
-same-hit trace m top number None standing = refl
-same-hit trace m top number (Some ray) standing =
-    ap (λ (fs : List Found). Ok (hit_bytes (record_of ((play (script_decision trace.script) number trace.flags start fs).committed))))
+same-hit : (meaning : Meaning) (trace : Tracing) (m : Memory) (top : TopValue) (number : ℕ) (ray : Option RayValue) → AreStanding top (bottoms_in (see_structures m trace.uses))
+    → hit_by meaning top (bottoms_in (see_structures m trace.uses)) trace.flags trace.mask number ray
+    ≡ hit_by meaning top (bottoms_of m) trace.flags trace.mask number ray
+same-hit meaning trace m top number None standing = refl
+same-hit meaning trace m top number (Some ray) standing =
+    ap (λ (fs : List Found). Ok (hit_bytes (record_of ((play meaning number trace.flags start fs).committed))))
     (candidates-agree top.contents (bottoms_in (see_structures m trace.uses)) (bottoms_of m) ray trace.flags trace.mask (agree m trace.uses top standing))
 
-same-hits : (trace : Tracing) (m : Memory) (top : TopValue) (rays : List ℕ) → AreStanding top (bottoms_in (see_structures m trace.uses))
-    → hits_outcome (gathered (hit_at trace top (see_structures m trace.uses) rays) trace.count)
-    ≡ rays_outcome top (bottoms_of m) trace.script trace.flags trace.mask rays trace.first trace.count
+same-hits : (meaning : Meaning) (trace : Tracing) (m : Memory) (top : TopValue) (rays : List ℕ) → AreStanding top (bottoms_in (see_structures m trace.uses))
+    → hits_outcome (gathered (hit_at meaning trace top (see_structures m trace.uses) rays) trace.count)
+    ≡ rays_outcome top (bottoms_of m) meaning trace.flags trace.mask rays trace.first trace.count
 unfolding rays_outcome
-same-hits trace m top rays standing =
-    λ i. hits_outcome (gathered (λ k. same-hit trace m top (trace.first + k) (ray_in rays k) standing i) trace.count)
+same-hits meaning trace m top rays standing =
+    λ i. hits_outcome (gathered (λ k. same-hit meaning trace m top (trace.first + k) (ray_in rays k) standing i) trace.count)
 
-same-trace : (trace : Tracing) (m : Memory) (rays : Option (List ℕ)) (found : Option TopValue) (top : TopValue) → found ≡ Some top
+same-trace : (meaning : Meaning) (trace : Tracing) (m : Memory) (rays : Option (List ℕ)) (found : Option TopValue) (top : TopValue) → found ≡ Some top
     → AreStanding top (bottoms_in (see_structures m trace.uses))
-    → trace_outcome trace (see_structures m trace.uses) rays found
-    ≡ traced_through (bottoms_of m) rays found trace.first trace.count trace.flags trace.mask trace.script
-same-trace trace m None found top is standing = refl
-same-trace trace m (Some rays) None top is standing = absurd cc
-same-trace trace m (Some rays) (Some t) top is standing =
+    → trace_outcome meaning trace (see_structures m trace.uses) rays found
+    ≡ traced_through (bottoms_of m) rays found trace.first trace.count trace.flags trace.mask meaning
+same-trace meaning trace m None found top is standing = refl
+same-trace meaning trace m (Some rays) None top is standing = absurd cc
+same-trace meaning trace m (Some rays) (Some t) top is standing =
     let same : t ≡ top = cc in
-    same-hits trace m t rays (subst (λ (x : TopValue). AreStanding x (bottoms_in (see_structures m trace.uses))) (sym same) standing)
+    same-hits meaning trace m t rays (subst (λ (x : TopValue). AreStanding x (bottoms_in (see_structures m trace.uses))) (sym same) standing)
 
 pub traces-are_free : TracesAreFree
-traces-are_free trace m ready = record {
+traces-are_free meaning trace m ready = record {
   can = record {
     rays = ready.rays;
     top = ready.top;
     is_it = ready.is_it;
     standing = stands m trace.uses ready.top ready.standing;
-    script = ready.script;
     flags_agree = ready.flags;
   };
-  same = same-trace trace m (bytes_at m trace.rays) (option_and_then as_top (m (ContentsAt trace.top))) ready.top ready.is_it ready.standing;
+  same = same-trace meaning trace m (bytes_at m trace.rays) (option_and_then as_top (m (ContentsAt trace.top))) ready.top ready.is_it ready.standing;
 }

@@ -141,34 +141,34 @@ restore-holds dst used (Some bytes) None output m is e = absurd cc
 restore-holds dst used (Some bytes) (Some form) output m is e = opened-holds dst form used bytes (broken_line bytes) output m is e
 
 pub outputs-are_storable : OutputsAreStorable
-outputs-are_storable (MakeBuffer id size content) m output ready e = tt
-outputs-are_storable (MakeStructure id form) m output ready e = tt
-outputs-are_storable (DestroyBuffer id) m output ready e = tt
-outputs-are_storable (DestroyStructure id) m output ready e = tt
-outputs-are_storable (ShowSizes kind counts) m output ready e = tt
-outputs-are_storable (ShowBytes from form) m output ready e = tt
-outputs-are_storable (UpdateBytes to content) m output ready e = tt
-outputs-are_storable (FillBytes to value) m output ready e = tt
-outputs-are_storable (CopyBytes from to) m output ready e = tt
-outputs-are_storable (BuildBottom build flags geometries) m output ready e =
+outputs-are_storable meaning (MakeBuffer id size content) m output ready e = tt
+outputs-are_storable meaning (MakeStructure id form) m output ready e = tt
+outputs-are_storable meaning (DestroyBuffer id) m output ready e = tt
+outputs-are_storable meaning (DestroyStructure id) m output ready e = tt
+outputs-are_storable meaning (ShowSizes kind counts) m output ready e = tt
+outputs-are_storable meaning (ShowBytes from form) m output ready e = tt
+outputs-are_storable meaning (UpdateBytes to content) m output ready e = tt
+outputs-are_storable meaning (FillBytes to value) m output ready e = tt
+outputs-are_storable meaning (CopyBytes from to) m output ready e = tt
+outputs-are_storable meaning (BuildBottom build flags geometries) m output ready e =
     bottom-holds build.dst build.info (add_all geometries (map (see_geometry m build.buffers) geometries) (new_builder flags)) output m ready.0.dst e
-outputs-are_storable (UpdateBottom build src geometries) m output ready e =
+outputs-are_storable meaning (UpdateBottom build src geometries) m output ready e =
     update-bottom build.dst build.info (option_and_then as_bottom (m (ContentsAt src)))
     (λ old. add_all geometries (map (see_geometry m build.buffers) geometries) (update_builder old)) output m ready.1.dst e
-outputs-are_storable (BuildTop build flags uses instances) m output ready e =
+outputs-are_storable meaning (BuildTop build flags uses instances) m output ready e =
     top-holds build.dst build.info (top_of flags (all_used (see_structures m uses) uses) instances (see_geometry m build.buffers instances)) output m ready.0.dst e
-outputs-are_storable (UpdateTop build src uses instances) m output ready e =
+outputs-are_storable meaning (UpdateTop build src uses instances) m output ready e =
     update-top build.dst build.info (option_and_then as_top (m (ContentsAt src)))
     (λ old. top_again old (all_used (see_structures m uses) uses) instances (see_geometry m build.buffers instances)) output m ready.1.dst e
-outputs-are_storable (CopyStructure mode src dst) m output ready e =
+outputs-are_storable meaning (CopyStructure mode src dst) m output ready e =
     copy-holds mode dst ready.0.source (m (ContentsAt src)) (m (StructureAt dst)) output m ready.0.is_it ready.0.made e
-outputs-are_storable (SerializeStructure src to) m output ready e = tt
-outputs-are_storable (DeserializeStructure from dst uses) m output ready e =
+outputs-are_storable meaning (SerializeStructure src to) m output ready e = tt
+outputs-are_storable meaning (DeserializeStructure from dst uses) m output ready e =
     restore-holds dst (all_used (see_structures m uses) uses) (bytes_at m from) (m (StructureAt dst)) output m refl e
-outputs-are_storable (TellProperty what structures to) m output ready e = tt
-outputs-are_storable (TraceRays trace) m output ready e = tt
-outputs-are_storable Rest m output ready e = tt
-outputs-are_storable Impossible m output ready e = absurd ready
+outputs-are_storable meaning (TellProperty what structures to) m output ready e = tt
+outputs-are_storable meaning (TraceRays trace) m output ready e = tt
+outputs-are_storable meaning Rest m output ready e = tt
+outputs-are_storable meaning Impossible m output ready e = absurd ready
 
 -- ---- how many there are
 
@@ -197,4 +197,4 @@ parts-are_actions rec z (commands.Deserialize src dst uses) is = refl
 parts-are_actions rec z (commands.Property what structures dst) is = refl
 parts-are_actions rec z (commands.Barrier src_stages src_access dst_stages dst_access buffers) is = refl
 parts-are_actions rec z (commands.Trace top rays count hits flags mask script) is =
-    length-map-range_with_len (rays_action rec z top rays hits count flags mask script) 0 (trace_pieces count)
+    length-map-range_with_len (rays_action rec z top rays hits count flags mask) 0 (trace_pieces count)

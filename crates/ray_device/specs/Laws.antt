@@ -4,6 +4,7 @@ use Rattle.ray_cmd.specs.declared.command.Command.{Command}
 use Rattle.ray_rules.specs.Status.{Status}
 use Rattle.ray_action.specs.Memory.{Memory}
 use Rattle.ray_action.specs.Action.{Action, Tracing, TraceRays}
+use Rattle.ray_action.specs.Clients.{Meaning}
 use Rattle.ray_action.specs.Outcomes.{Output, Gives, outcome_of}
 use Rattle.ray_action.specs.Pieces.{actions_of}
 use Rattle.ray_action.specs.Readiness.{IsReady}
@@ -15,8 +16,8 @@ use Rattle.ray_device.specs.Tracing.{traced}
 -- what an action gives where it is ready can be stored there
 abbrev pub OutputsAreStorable : Type 0
 OutputsAreStorable =
-    (action : Action) (memory : Memory) (output : Output)
-    → IsReady action memory → outcome_of action memory ≡ Gives output → IsStorable action output memory
+    (meaning : Meaning) (action : Action) (memory : Memory) (output : Output)
+    → IsReady action memory → outcome_of meaning action memory ≡ Gives output → IsStorable action output memory
 
 -- a device command has as many pieces as actions
 abbrev pub PartsAreActions : Type 0
@@ -26,10 +27,11 @@ PartsAreActions =
 
 -- what a trace gives where it is ready is told by the memory as it is: the structures that it names to be in
 -- use aren't asked for
-pub record IsFree (trace : Tracing) (memory : Memory) : Type 0 where
-  pub can : IsTraceable memory trace.top trace.rays trace.flags trace.script
-  pub same : outcome_of (TraceRays trace) memory
-      ≡ traced memory trace.top trace.rays trace.first trace.count trace.flags trace.mask trace.script
+pub record IsFree (meaning : Meaning) (trace : Tracing) (memory : Memory) : Type 0 where
+  pub can : IsTraceable memory trace.top trace.rays trace.flags
+  pub same : outcome_of meaning (TraceRays trace) memory
+      ≡ traced memory trace.top trace.rays trace.first trace.count trace.flags trace.mask meaning
 
 abbrev pub TracesAreFree : Type 0
-TracesAreFree = (trace : Tracing) (memory : Memory) → IsReady (TraceRays trace) memory → IsFree trace memory
+TracesAreFree =
+    (meaning : Meaning) (trace : Tracing) (memory : Memory) → IsReady (TraceRays trace) memory → IsFree meaning trace memory

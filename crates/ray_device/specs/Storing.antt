@@ -1,12 +1,11 @@
 -- The store of a piece's output, as its command alone tells it. (Own.)
-use Rattle.std.specs.Prelude.{ℕ, ◌+◌, ◌*◌, List, length, slice_get, Option, Some, None, if◌then◌else◌}
+use Rattle.std.specs.Prelude.{ℕ, ◌*◌, List, length, slice_get, Option, Some, None, if◌then◌else◌}
 use Rattle.ray_cmd.specs.declared.command.Command.{Command}
 use Rattle.ray_cmd.specs.declared.command.Command.TheVariants as commands
 use Rattle.ray_cmd.specs.declared.info.Info.{Info}
 use Rattle.ray_cmd.specs.declared.region.Region.{Region}
 use Rattle.ray_cmd.specs.declared.spot.Spot.{Spot}
 use Rattle.ray_rules.specs.declared.byte_range.ByteRange.{ByteRange}
-use Rattle.ray_rules.specs.Access.{rays_of_piece}
 use Rattle.ray_rules.specs.Ranges.{range}
 use Rattle.ray_action.specs.Memory.{Memory, StructureAt, kind_of}
 use Rattle.ray_action.specs.Areas.{is_in_range, is_contents_of}

@@ -1,4 +1,5 @@
 ghost use Rattle.std.specs.Prelude.{◌≡◌, ◌<◌, ◌≤◌, ◌+◌};
+ghost use Rattle.ray_action.specs.Clients.{HasScript, rules_of, scripts};
 ghost use Rattle.ray_action.specs.Outcomes.{outcome_of};
 ghost use Rattle.ray_action.specs.Pieces.{command_at};
 ghost use Rattle.ray_action.specs.Readiness.{IsReady};
@@ -23,16 +24,18 @@ use crate::tracing::traced_rays;
 use ray_cmd::{Command, Recording, Spot};
 use ray_geom::Steps;
 use ray_memory::State;
+use ray_query::Client;
 use ray_rules::ByteRange;
+use ray_script::{BadScript, RawRule, script_of};
 use std::alloc::Global;
 use std::sync::ledger::Ledger;
 use std::thread::Threads;
 
 /// What a piece gives of the memory as it is, or the first data rule that what it reads breaks,
-/// with its place. The piece's action is ready there. A piece of a trace takes a step for each
-/// primitive that it tests, no more than those of the leaves that its rays open, also where a ray
-/// is refused; every other piece takes none. (The operations of each device command of Vulkan.)
-#[tactic(auto, using(crate::proofs::Commands::part_within))]
+/// with its place. The piece's action is ready there, and the command's script, where it is a trace,
+/// is one (V23). A piece of a trace takes a step for each primitive that it tests, no more than those
+/// of the leaves that its rays open, also where a ray is refused; every other piece takes none. (The
+/// operations of each device command of Vulkan.)
 pub fn fetch<R: Threads + Sync, L: Ledger>(
     rt: &R,
     alloc: Global,
@@ -42,15 +45,54 @@ pub fn fetch<R: Threads + Sync, L: Ledger>(
     steps: &mut Steps<L>,
 ) -> Result<PieceOut, FetchFault>
     requires piece { IsPiece rec.now piece }
+    requires script { HasScript (command_at rec.now piece.command) }
     requires ready { IsReady (piece_action rec.now piece) (memory_of state.now) }
-    ensures value { IsPieceFetched piece (outcome_of (piece_action rec.now piece)
-        (memory_of state.now)) result }
+    ensures value { IsPieceFetched piece (outcome_of (scripts rec.now piece.command)
+        (piece_action rec.now piece) (memory_of state.now)) result }
     ensures bound { OnAnswered result (steps.new ≤ steps.old
-        + most_tested state.now (command_at rec.now piece.command) piece.part) }
+        + most_tested state.now (scripts rec.now piece.command) (command_at rec.now piece.command)
+        piece.part) }
+    ensures rising { steps.old ≤ steps.new }
+{
+    match script_of(alloc, rules_of(rec.command(piece.command))) {
+        Ok(script) => fetch_with(rt, alloc, state, rec, piece, &script, steps),
+        Err(BadScript::NoMemory) => Err(FetchFault::NoMemory),
+        Err(BadScript::At(_)) => unreachable!("the rules are a script"),
+    }
+}
+
+// The rules of a command's script: none but a trace has any.
+fn rules_of(command: &Command) -> &[RawRule]
+    ensures { result.now ≡ rules_of command.now }
+{
+    match command {
+        Command::Trace { script, .. } => script.as_slice(),
+        _ => &[],
+    }
+}
+
+/// The same where a client decides on the candidates of a trace, in place of its script.
+#[tactic(auto, using(crate::proofs::Commands::part_within))]
+pub fn fetch_with<R: Threads + Sync, C: Client, L: Ledger>(
+    rt: &R,
+    alloc: Global,
+    state: &State,
+    rec: &Recording,
+    piece: Piece,
+    client: &C,
+    steps: &mut Steps<L>,
+) -> Result<PieceOut, FetchFault>
+    requires piece { IsPiece rec.now piece }
+    requires ready { IsReady (piece_action rec.now piece) (memory_of state.now) }
+    ensures value { IsPieceFetched piece (outcome_of (C.meaning client.now)
+        (piece_action rec.now piece) (memory_of state.now)) result }
+    ensures bound { OnAnswered result (steps.new ≤ steps.old
+        + most_tested state.now (C.meaning client.now) (command_at rec.now piece.command)
+        piece.part) }
     ensures rising { steps.old ≤ steps.new }
 {
     let command = rec.command(piece.command);
-    match fetch_part(rt, alloc, state, command, piece.part, steps) {
+    match fetch_part(rt, alloc, state, command, piece.part, client, steps) {
         Ok(output) => Ok(PieceOut { piece, output }),
         Err(fault) => Err(fault),
     }
@@ -58,18 +100,21 @@ pub fn fetch<R: Threads + Sync, L: Ledger>(
 
 // What part number `part` of a command gives.
 #[tactic(auto, unfolding(crate::specs::Parts::part_given))]
-fn fetch_part<R: Threads + Sync, L: Ledger>(
+fn fetch_part<R: Threads + Sync, C: Client, L: Ledger>(
     rt: &R,
     alloc: Global,
     state: &State,
     command: &Command,
     part: u32,
+    client: &C,
     steps: &mut Steps<L>,
 ) -> Result<Output, FetchFault>
     requires within { part < piece_count command.now }
     requires can { CanFetch (memory_of state.now) command.now part }
-    ensures value { IsFetched (part_given (memory_of state.now) command.now part) result }
-    ensures bound { OnAnswered result (steps.new ≤ steps.old + most_tested state.now command.now part) }
+    ensures value { IsFetched (part_given (memory_of state.now) (C.meaning client.now) command.now part)
+        result }
+    ensures bound { OnAnswered result (steps.new ≤ steps.old
+        + most_tested state.now (C.meaning client.now) command.now part) }
     ensures rising { steps.old ≤ steps.new }
 {
     match command {
@@ -105,7 +150,6 @@ fn fetch_part<R: Threads + Sync, L: Ledger>(
             count,
             flags,
             mask,
-            script,
             ..
         } => traced_rays(
             alloc,
@@ -116,7 +160,7 @@ fn fetch_part<R: Threads + Sync, L: Ledger>(
             rays_in_part(*count, part),
             *flags,
             (*mask % 256) as u8,
-            script.as_slice(),
+            client,
             steps,
         ),
         _ => Ok(Output::Nothing),

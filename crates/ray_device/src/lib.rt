@@ -3,9 +3,9 @@
 //! all that it reads is read, and stored at a later one; between them its output is a [`PieceOut`].
 //!
 //! Contracts speak of the actions of ray_action (`piece_action` of `specs/Pieces`) and of the
-//! memory that a [`ray_memory::State`] holds, as it is. The layer above uses [`fetch`] and
-//! [`store`], each with one condition, that the action is ready there or its output can be stored
-//! there, and the law that what is given where an action is ready can be stored,
+//! memory that a [`ray_memory::State`] holds, as it is. The layer above uses [`fetch`], where a
+//! trace's script decides, or [`fetch_with`], where a client does, and [`store`]. Their condition is
+//! that the action is ready there or its output can be stored there; and there is the law that what is given where an action is ready can be stored,
 //! [`outputs_are_storable`].
 //!
 //! It stands on ray_memory (what a state lends, and how it is changed), on ray_action (what each
@@ -30,7 +30,7 @@ mod tops;
 mod tracing;
 
 pub use crate::fetch_fault::FetchFault;
-pub use crate::fetching::fetch;
+pub use crate::fetching::{fetch, fetch_with};
 pub use crate::laws::{outputs_are_storable, parts_are_actions, traces_are_free};
 pub use crate::output::Output;
 pub use crate::parts::pieces;

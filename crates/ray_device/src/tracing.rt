@@ -4,7 +4,6 @@ ghost use Rattle.ray_flags.specs.Admission.{AsksBoth};
 ghost use Rattle.ray_top.specs.Trees.{without_tree};
 ghost use Rattle.ray_candidates.specs.Standing.{AreStanding, structures_in};
 ghost use Rattle.ray_action.specs.Outcomes.{hit_by, ray_in, ray_within};
-ghost use Rattle.ray_script.specs.Meaning.{script_decision};
 ghost use Rattle.ray_device.specs.Bounds.{most_by, most_of_rays, most_traced};
 ghost use Rattle.ray_device.specs.Fetching.{IsFetched, OnAnswered};
 ghost use Rattle.ray_memory.specs.State.{memory_of};
@@ -19,9 +18,8 @@ use ray_cmd::Place;
 use ray_flags::RayFlags;
 use ray_geom::{Ray, Steps, Vec3};
 use ray_memory::State;
-use ray_query::record_of;
+use ray_query::{Client, record_of};
 use ray_rules::ByteRange;
-use ray_script::{BadScript, RawRule, Script, script_of};
 use ray_top::Top;
 use ray_walk::{Turns, trace_ray};
 use std::alloc::{AllocError as NoMemory, Global};
@@ -29,11 +27,11 @@ use std::sync::ledger::Ledger;
 
 // The hits of `count` rays that stand in these bytes, of which the first has a number in its trace.
 #[tactic(auto, using(crate::proofs::Hits::rays_none, crate::proofs::Hits::rays_more, crate::proofs::Hits::rays_told))]
-fn hits<L: Ledger>(
+fn hits<C: Client, L: Ledger>(
     alloc: Global,
     top: &Top,
     bottoms: &Bottoms,
-    script: &Script,
+    client: &C,
     flags: RayFlags,
     mask: u8,
     rays: &[u8],
@@ -45,9 +43,9 @@ fn hits<L: Ledger>(
     requires flags_agree { ¬ AsksBoth flags }
     requires numbers { first + count < 2 ^ 32 }
     ensures value { IsFetched (rays_outcome (without_tree top.now) (structures_in bottoms.now)
-        script.now flags mask rays.now first count) result }
-    ensures bound { OnAnswered result (steps.new ≤ steps.old + most_of_rays top.now bottoms.now script.now
-        flags mask rays.now first count) }
+        (C.meaning client.now) flags mask rays.now first count) result }
+    ensures bound { OnAnswered result (steps.new ≤ steps.old + most_of_rays top.now bottoms.now
+        (C.meaning client.now) flags mask rays.now first count) }
     ensures rising { steps.old ≤ steps.new }
 {
     let mut out = Vec::with_capacity(alloc, HitRecord::SIZE * count as usize)?;
@@ -57,7 +55,7 @@ fn hits<L: Ledger>(
         match hit(
             top,
             bottoms,
-            script,
+            client,
             flags,
             mask,
             first + k,
@@ -72,15 +70,15 @@ fn hits<L: Ledger>(
     Ok(Output::Bytes(out))
 }
 
-/// What rays of a trace give: the bytes of their hits, 80 each. `count` rays stand in the range, of
-/// which the first has the number `first` in its trace. They and the top structure are there, with
-/// the structures of its active instances as they were when it was built or last updated; the rules
-/// are a script; and `flags` doesn't ask that everything counts as opaque and that nothing does.
-/// `Data` comes exactly where a ray is beyond the limits (X11), and tells the first: its number in
-/// the trace. A step is taken for each primitive that is tested: for each ray no more than those of
-/// the leaves that it opens, in a walk through the trees. (OpRayQueryInitializeKHR and the steps
-/// after it)
-pub(crate) fn traced_rays<L: Ledger>(
+/// What rays of a trace give, where a client decides on their candidates: the bytes of their hits,
+/// 80 each. `count` rays stand in the range, of which the first has the number `first` in its trace.
+/// They and the top structure are there, with the structures of its active instances as they were
+/// when it was built or last updated; and `flags` doesn't ask that everything counts as opaque and
+/// that nothing does. `Data` comes exactly where a ray is beyond the limits (X11), and tells the
+/// first: its number in the trace. A step is taken for each primitive that is tested: for each ray no
+/// more than those of the leaves that it opens, in a walk through the trees.
+/// (OpRayQueryInitializeKHR and the steps after it)
+pub(crate) fn traced_rays<C: Client, L: Ledger>(
     alloc: Global,
     state: &State,
     top: u32,
@@ -89,52 +87,22 @@ pub(crate) fn traced_rays<L: Ledger>(
     count: u32,
     flags: RayFlags,
     mask: u8,
-    rules: &[RawRule],
+    client: &C,
     steps: &mut Steps<L>,
 ) -> Result<Output, FetchFault>
-    requires ready { IsTraceable (memory_of state.now) top from flags rules.now }
-    requires numbers { first + count < 2 ^ 32 }
-    ensures value { IsFetched (traced (memory_of state.now) top from first count flags mask rules.now)
-        result }
-    ensures bound { OnAnswered result (steps.new ≤ steps.old + most_traced state.now top from first count
-        flags mask rules.now) }
-    ensures rising { steps.old ≤ steps.new }
-{
-    match script_of(alloc, rules) {
-        Ok(script) => by_script(
-            alloc, state, top, from, first, count, flags, mask, &script, steps,
-        ),
-        Err(BadScript::NoMemory) => Err(FetchFault::NoMemory),
-        Err(BadScript::At(_)) => unreachable!("the rules are a script"),
-    }
-}
-
-// The same by a script.
-fn by_script<L: Ledger>(
-    alloc: Global,
-    state: &State,
-    top: u32,
-    from: ByteRange,
-    first: u32,
-    count: u32,
-    flags: RayFlags,
-    mask: u8,
-    script: &Script,
-    steps: &mut Steps<L>,
-) -> Result<Output, FetchFault>
-    requires ready { IsTraceable (memory_of state.now) top from flags script.now }
+    requires ready { IsTraceable (memory_of state.now) top from flags }
     requires numbers { first + count < 2 ^ 32 }
     ensures value { IsFetched (traced (memory_of state.now) top from first count flags mask
-        script.now) result }
+        (C.meaning client.now)) result }
     ensures bound { OnAnswered result (steps.new ≤ steps.old + most_traced state.now top from first count
-        flags mask script.now) }
+        flags mask (C.meaning client.now)) }
     ensures rising { steps.old ≤ steps.new }
 {
     match (state.bytes(from), state.top(top)) {
         (Some(rays), Some(top)) => {
             let bottoms = state.bottoms();
             hits(
-                alloc, top, bottoms, script, flags, mask, rays, first, count, steps,
+                alloc, top, bottoms, client, flags, mask, rays, first, count, steps,
             )
         }
         _ => unreachable!("the rays and the top structure are there"),
@@ -142,10 +110,10 @@ fn by_script<L: Ledger>(
 }
 
 // The hit of a ray of a number, which is within the limits if it is there.
-fn hit<L: Ledger>(
+fn hit<C: Client, L: Ledger>(
     top: &Top,
     bottoms: &Bottoms,
-    script: &Script,
+    client: &C,
     flags: RayFlags,
     mask: u8,
     number: u32,
@@ -155,15 +123,15 @@ fn hit<L: Ledger>(
 ) -> Result<HitRecord, FetchFault>
     requires standing { AreStanding (without_tree top.now) (structures_in bottoms.now) }
     requires flags_agree { ¬ AsksBoth flags }
-    ensures value { IsHit (hit_by (script_decision script.now) (without_tree top.now)
+    ensures value { IsHit (hit_by (C.meaning client.now) (without_tree top.now)
         (structures_in bottoms.now) flags mask number ray) result }
-    ensures bound { OnAnswered result (steps.new ≤ steps.old + most_by top.now bottoms.now script.now flags
-        mask number ray) }
+    ensures bound { OnAnswered result (steps.new ≤ steps.old + most_by top.now bottoms.now
+        (C.meaning client.now) flags mask number ray) }
     ensures rising { steps.old ≤ steps.new }
 {
     match ray {
         Some(ray) => Ok(record_of(trace_ray(
-            top, bottoms, &ray, number, flags, mask, script, turns, steps,
+            top, bottoms, &ray, number, flags, mask, client, turns, steps,
         )?)),
         None => Err(FetchFault::Data(DataRule::X11, Place::Part(number))),
     }

@@ -7,7 +7,6 @@ use Rattle.std.proofs.lemmas.Bool.{cases_eq, cond-true, cond-false, eq-eqb, ne_e
 use Rattle.std.proofs.lemmas.Option.{slice_get_within}
 use Rattle.std.proofs.lemmas.List.Elements.{filter_more}
 use Rattle.ray_cmd.specs.declared.command.Command.{Command}
-use Rattle.ray_sync.specs.declared.order.Row.{Row}
 use Rattle.ray_schedule.specs.Waves.{IsAmong}
 use Rattle.ray_permitted.proofs.Truth.{item_at}
 use Rattle.ray_device.specs.declared.piece.Piece.{Piece}
@@ -56,17 +55,17 @@ one_command rec bound commands i d old new less before more =
 
 -- ---- waves
 
-pub none_yet : (rows : List Row) (count : ℕ) (lists : List (Vec ℕ Global)) → AreEmpty count lists → AreWavesOf rows count 0 lists
-none_yet rows count lists are = record { many = are.many; are = are.empty }
+pub none_yet : (numbers : List ℕ) (count : ℕ) (lists : List (Vec ℕ Global)) → AreEmpty count lists → AreWavesOf numbers count 0 lists
+none_yet numbers count lists are = record { many = are.many; are = are.empty }
 
 one_of : (test : ℕ → Bool) (n : ℕ) → filter test (range_with_len 0 (n + 1)) ≡ filter test (range_with_len 0 n) ++ cond (test n) (n ∷ []) []
 one_of test n =
     ap (filter test) (range_next n)
     ∙ filter_append test (range_with_len 0 n) (n ∷ [])
 
-pub one_more : (rows : List Row) (count n v : ℕ) (old new : List (Vec ℕ Global)) → v ≡ wave_at rows n → AreWavesOf rows count n old → HasOneMore v n old new
-    → AreWavesOf rows count (n + 1) new
-one_more rows count n v old new at before more = record {
+pub one_more : (numbers : List ℕ) (count n v : ℕ) (old new : List (Vec ℕ Global)) → v ≡ wave_at numbers n → AreWavesOf numbers count n old → HasOneMore v n old new
+    → AreWavesOf numbers count (n + 1) new
+one_more numbers count n v old new at before more = record {
   many = more.many ∙ before.many;
   are = λ w list there. elim (cases_eq w v) [
     | inl same ↦
@@ -75,21 +74,21 @@ one_more rows count n v old new at before more = record {
         let was = item_at old v (omega (arith, less, many, same)) in
         more.here was.0 list was.1 (subst (λ k. slice_get new k ≡ Some list) same there)
         ∙ (ap (λ items. items ++ n ∷ []) (before.are v was.0 was.1)
-        ∙ (ap (λ k. commands_of_wave rows n k ++ n ∷ []) (sym same)
-        ∙ sym (one_of (λ i. wave_at rows i == w) n
-        ∙ ap (λ ns. commands_of_wave rows n w ++ ns) (cond-true (wave_at rows n == w) (n ∷ []) [] (eq-eqb (wave_at rows n) w (sym at ∙ sym same)))))))
+        ∙ (ap (λ k. commands_of_wave numbers n k ++ n ∷ []) (sym same)
+        ∙ sym (one_of (λ i. wave_at numbers i == w) n
+        ∙ ap (λ ns. commands_of_wave numbers n w ++ ns) (cond-true (wave_at numbers n == w) (n ∷ []) [] (eq-eqb (wave_at numbers n) w (sym at ∙ sym same)))))))
     | inr differs ↦
         before.are w list (sym (more.others w differs) ∙ there)
-        ∙ sym (one_of (λ i. wave_at rows i == w) n
-        ∙ (ap (λ ns. commands_of_wave rows n w ++ ns) (cond-false (wave_at rows n == w) (n ∷ []) [] (ne_eqb (wave_at rows n) w (λ e. differs (sym e ∙ sym at))))
-        ∙ append-nil (commands_of_wave rows n w)))
+        ∙ sym (one_of (λ i. wave_at numbers i == w) n
+        ∙ (ap (λ ns. commands_of_wave numbers n w ++ ns) (cond-false (wave_at numbers n == w) (n ∷ []) [] (ne_eqb (wave_at numbers n) w (λ e. differs (sym e ∙ sym at))))
+        ∙ append-nil (commands_of_wave numbers n w)))
   ];
 }
 
 -- the commands of a wave are of the recording
-pub commands_within : (rec : List Command) (rows : List Row) (n v : ℕ) (commands : List ℕ) → commands ≡ commands_of_wave rows n v → n ≤ length rec
+pub commands_within : (rec : List Command) (numbers : List ℕ) (n v : ℕ) (commands : List ℕ) → commands ≡ commands_of_wave numbers n v → n ≤ length rec
     → (k d : ℕ) → k < length commands → get_or commands k d < length rec
-commands_within rec rows n v commands are within k d less =
-    let among = among-filter (λ i. wave_at rows i == v) (get_or commands k d) (range_with_len 0 n) (subst (IsAmong (get_or commands k d)) are (among_get commands k d less)) in
+commands_within rec numbers n v commands are within k d less =
+    let among = among-filter (λ i. wave_at numbers i == v) (get_or commands k d) (range_with_len 0 n) (subst (IsAmong (get_or commands k d)) are (among_get commands k d less)) in
     let below = (among-range 0 n (get_or commands k d) among.0).1 in
     omega (arith, below, within)

@@ -8,6 +8,7 @@ use Rattle.ray_rules.specs.Status.{Status}
 use Rattle.ray_rules.specs.Ranges.{range}
 use Rattle.ray_rules.specs.Kinds.{kind_of}
 use Rattle.ray_action.specs.Memory.{Location, Memory, bytes_at}
+use Rattle.ray_action.specs.Clients.{Clients, Meaning}
 use Rattle.ray_action.specs.Outcomes.{Output, Outcome, Nothing, Bytes, Gives, bytes_outcome, outcome_of}
 use Rattle.ray_action.specs.Pieces.{actions_of, host_action}
 use Rattle.ray_action.specs.Readiness.{IsReady}
@@ -17,7 +18,7 @@ use Rattle.ray_device.specs.declared.piece.Piece.{Piece}
 use Rattle.ray_device.specs.Pieces.{IsPiece, is_device, piece_action}
 use Rattle.ray_device.specs.Storing.{IsStorable}
 use Rattle.ray_device.proofs.Storable.{outputs-are_storable}
-use Rattle.ray_exec.specs.Steps.{IsShown}
+use Rattle.ray_exec.specs.Steps.{IsShown, piece_outcome}
 
 -- it has one action
 pub host_parts : (rec : List Command) (z : Status) (c : Command) → not (is_device c) ≡ true → actions_of rec z c ≡ host_action c ∷ []
@@ -51,28 +52,28 @@ bytes-give : (read : Option (List ℕ)) → IsSome read → GivesSome (bytes_out
 bytes-give None there = absurd cc
 bytes-give (Some bytes) there = record { output = Bytes bytes; gives = refl }
 
-host-gives : (c : Command) (m : Memory) → IsReady (host_action c) m → GivesSome (outcome_of (host_action c) m)
+host-gives : (meaning : Meaning) (c : Command) (m : Memory) → IsReady (host_action c) m → GivesSome (outcome_of meaning (host_action c) m)
 unfolding host_action
-host-gives (commands.Buffer id size usage content) m ready = record { output = Nothing; gives = refl }
-host-gives (commands.Structure id kind buffer offset size) m ready = record { output = Nothing; gives = refl }
-host-gives (commands.Destroy things.Buffer id) m ready = record { output = Nothing; gives = refl }
-host-gives (commands.Destroy things.Structure id) m ready = record { output = Nothing; gives = refl }
-host-gives (commands.Sizes kind counts) m ready = record { output = Nothing; gives = refl }
-host-gives commands.Begin m ready = record { output = Nothing; gives = refl }
-host-gives commands.End m ready = record { output = Nothing; gives = refl }
-host-gives commands.Submit m ready = record { output = Nothing; gives = refl }
-host-gives commands.Wait m ready = record { output = Nothing; gives = refl }
-host-gives (commands.Read buffer offset size form) m ready = bytes-give (bytes_at m (range buffer offset size)) ready
-host-gives (commands.Update buffer offset content) m ready = record { output = Nothing; gives = refl }
-host-gives (commands.Fill buffer offset size value) m ready = record { output = Nothing; gives = refl }
-host-gives (commands.Copy src dst regions) m ready = record { output = Nothing; gives = refl }
-host-gives (commands.Build infos) m ready = record { output = Nothing; gives = refl }
-host-gives (commands.CopyStructure mode src dst) m ready = record { output = Nothing; gives = refl }
-host-gives (commands.Serialize src dst) m ready = record { output = Nothing; gives = refl }
-host-gives (commands.Deserialize src dst uses) m ready = record { output = Nothing; gives = refl }
-host-gives (commands.Property what structures dst) m ready = record { output = Nothing; gives = refl }
-host-gives (commands.Barrier src_stages src_access dst_stages dst_access buffers) m ready = record { output = Nothing; gives = refl }
-host-gives (commands.Trace top rays count hits flags mask script) m ready = record { output = Nothing; gives = refl }
+host-gives meaning (commands.Buffer id size usage content) m ready = record { output = Nothing; gives = refl }
+host-gives meaning (commands.Structure id kind buffer offset size) m ready = record { output = Nothing; gives = refl }
+host-gives meaning (commands.Destroy things.Buffer id) m ready = record { output = Nothing; gives = refl }
+host-gives meaning (commands.Destroy things.Structure id) m ready = record { output = Nothing; gives = refl }
+host-gives meaning (commands.Sizes kind counts) m ready = record { output = Nothing; gives = refl }
+host-gives meaning commands.Begin m ready = record { output = Nothing; gives = refl }
+host-gives meaning commands.End m ready = record { output = Nothing; gives = refl }
+host-gives meaning commands.Submit m ready = record { output = Nothing; gives = refl }
+host-gives meaning commands.Wait m ready = record { output = Nothing; gives = refl }
+host-gives meaning (commands.Read buffer offset size form) m ready = bytes-give (bytes_at m (range buffer offset size)) ready
+host-gives meaning (commands.Update buffer offset content) m ready = record { output = Nothing; gives = refl }
+host-gives meaning (commands.Fill buffer offset size value) m ready = record { output = Nothing; gives = refl }
+host-gives meaning (commands.Copy src dst regions) m ready = record { output = Nothing; gives = refl }
+host-gives meaning (commands.Build infos) m ready = record { output = Nothing; gives = refl }
+host-gives meaning (commands.CopyStructure mode src dst) m ready = record { output = Nothing; gives = refl }
+host-gives meaning (commands.Serialize src dst) m ready = record { output = Nothing; gives = refl }
+host-gives meaning (commands.Deserialize src dst uses) m ready = record { output = Nothing; gives = refl }
+host-gives meaning (commands.Property what structures dst) m ready = record { output = Nothing; gives = refl }
+host-gives meaning (commands.Barrier src_stages src_access dst_stages dst_access buffers) m ready = record { output = Nothing; gives = refl }
+host-gives meaning (commands.Trace top rays count hits flags mask script) m ready = record { output = Nothing; gives = refl }
 
 -- what is left of it doesn't depend on that
 host-puts : (c : Command) (o : Output) (m : Memory) (l : Location) → put (host_action c) (Gives Nothing) m l ≡ put (host_action c) (Gives o) m l
@@ -98,26 +99,27 @@ host-puts (commands.Property what structures dst) o m l = refl
 host-puts (commands.Barrier src_stages src_access dst_stages dst_access buffers) o m l = refl
 host-puts (commands.Trace top rays count hits flags mask script) o m l = refl
 
--- so it is done once its text is appended and what it makes is in the memory
+-- so it is done once its text is appended and what it makes is in the memory, whoever decides
 pub is_shown : (c : Command) (old new : Memory) (text_old text_new : List ℕ) → IsReady (host_action c) old
-    → text_new ≡ text_old ++ text_with (host_action c) (outcome_of (host_action c) old)
-    → ((l : Location) → new l ≡ put (host_action c) (Gives Nothing) old l) → IsShown (host_action c) old new text_old text_new
-is_shown c old new text_old text_new ready text stored =
-    let given = host-gives c old ready in
+    → ((meaning : Meaning) → text_new ≡ text_old ++ text_with (host_action c) (outcome_of meaning (host_action c) old))
+    → ((l : Location) → new l ≡ put (host_action c) (Gives Nothing) old l)
+    → (meaning : Meaning) → IsShown meaning (host_action c) old new text_old text_new
+is_shown c old new text_old text_new ready text stored meaning =
+    let given = host-gives meaning c old ready in
     record {
       output = given.output;
       gives = given.gives;
       memory = λ l. stored l ∙ host-puts c given.output old l;
-      text = text ∙ ap (λ x. text_old ++ text_with (host_action c) x) given.gives;
+      text = text meaning ∙ ap (λ x. text_old ++ text_with (host_action c) x) given.gives;
     }
 
 -- ---- pieces
 
 -- what a piece that was ready gives can be stored
-pub can_be_stored : (rec : List Command) (piece other : Piece) (output : Output) (m : Memory) → other ≡ piece → IsReady (piece_action rec piece) m
-    → outcome_of (piece_action rec piece) m ≡ Gives output → IsStorable (piece_action rec other) output m
-can_be_stored rec piece other output m same ready gives =
-    subst (λ p. IsStorable (piece_action rec p) output m) (sym same) (outputs-are_storable (piece_action rec piece) m output ready gives)
+pub can_be_stored : (clients : Clients) (rec : List Command) (piece other : Piece) (output : Output) (m : Memory) → other ≡ piece → IsReady (piece_action rec piece) m
+    → piece_outcome rec clients piece m ≡ Gives output → IsStorable (piece_action rec other) output m
+can_be_stored clients rec piece other output m same ready gives =
+    subst (λ p. IsStorable (piece_action rec p) output m) (sym same) (outputs-are_storable (clients piece.command) (piece_action rec piece) m output ready gives)
 
 pub is_that_piece : (rec : List Command) (piece other : Piece) → other ≡ piece → IsPiece rec piece → IsPiece rec other
 is_that_piece rec piece other same is = subst (IsPiece rec) (sym same) is

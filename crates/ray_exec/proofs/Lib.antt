@@ -4,10 +4,12 @@ pub mod Filling
 pub mod GoingOn
 pub mod Hosting
 pub mod Lists
+pub mod Longest
 pub mod Numbering
 pub mod OneWave
 pub mod Places
 pub mod Progress
+pub mod Ranking
 pub mod Silent
 pub mod Stepping
 pub mod Telling

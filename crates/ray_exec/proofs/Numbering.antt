@@ -8,13 +8,11 @@ use Rattle.std.proofs.lemmas.Option.{slice_get-get_or}
 use Rattle.ray_schedule.specs.Waves.{IsAmong, EachLater}
 use Rattle.ray_cmd.specs.declared.command.Command.{Command}
 use Rattle.ray_rules.specs.Hazards.{status_at}
-use Rattle.ray_sync.specs.declared.order.Row.{Row}
 use Rattle.ray_action.specs.Action.{Action, Rest}
 use Rattle.ray_action.specs.Pieces.{Numbered, actions_of, numbered}
 use Rattle.ray_action.specs.Pieces as actions
-use Rattle.ray_action.specs.Running.{action_at}
+use Rattle.ray_action.specs.Running.{action_at, number_at}
 use Rattle.ray_ready.specs.Laws.{first_actions}
-use Rattle.ray_permitted.specs.Work.{command_at}
 use Rattle.ray_permitted.proofs.Units.{AreTwo, two_at, unit_is}
 use Rattle.ray_permitted.proofs.Truth.{item_at}
 use Rattle.ray_device.specs.declared.piece.Piece.{Piece}
@@ -112,17 +110,17 @@ units_are rec n within = units_from rec n 0 n within (omega arith)
 pub as_many : (rec : List Command) (n : ℕ) → n ≤ length rec → length (first_actions rec n) ≡ length (all_pieces rec n)
 as_many rec n within = ap length (units_are rec n within) ∙ length_map (unit_of rec) (all_pieces rec n)
 
-unit_at : (rec : List Command) (n p : ℕ) → n ≤ length rec → p < length (first_actions rec n) → slice_get (first_actions rec n) p ≡ Some (unit_of rec (piece_at rec n p))
-unit_at rec n p within less =
+unit_there : (rec : List Command) (n p : ℕ) → n ≤ length rec → p < length (first_actions rec n) → slice_get (first_actions rec n) p ≡ Some (unit_of rec (piece_at rec n p))
+unit_there rec n p within less =
     let many = as_many rec n within in
     ap (λ us. slice_get us p) (units_are rec n within) ∙ get_map (unit_of rec) (all_pieces rec n) p (part 0 0) (omega (arith, many, less))
 
 -- the action of a number is that of its piece, and belongs to its command
 pub action_is : (rec : List Command) (n p : ℕ) → n ≤ length rec → p < length (first_actions rec n) → action_at (first_actions rec n) p ≡ piece_action rec (piece_at rec n p)
-action_is rec n p within less = (unit_is (first_actions rec n) p (unit_of rec (piece_at rec n p)) (unit_at rec n p within less)).0
+action_is rec n p within less = (unit_is (first_actions rec n) p (unit_of rec (piece_at rec n p)) (unit_there rec n p within less)).0
 
-pub command_is : (rec : List Command) (n p : ℕ) → n ≤ length rec → p < length (first_actions rec n) → command_at (first_actions rec n) p ≡ (piece_at rec n p).command
-command_is rec n p within less = (unit_is (first_actions rec n) p (unit_of rec (piece_at rec n p)) (unit_at rec n p within less)).1
+pub command_is : (rec : List Command) (n p : ℕ) → n ≤ length rec → p < length (first_actions rec n) → number_at (first_actions rec n) p ≡ (piece_at rec n p).command
+command_is rec n p within less = (unit_is (first_actions rec n) p (unit_of rec (piece_at rec n p)) (unit_there rec n p within less)).1
 
 -- it is a part of a command below n
 pub is_part : (rec : List Command) (n p : ℕ) → n ≤ length rec → p < length (first_actions rec n) → IsPart rec (piece_at rec n p) × ((piece_at rec n p).command < n)
@@ -139,14 +137,14 @@ is_part rec n p within less =
 
 -- commands rise with numbers
 pub commands_rise : (rec : List Command) (n p q : ℕ) → n ≤ length rec → p < q → q < length (first_actions rec n)
-    → command_at (first_actions rec n) p ≤ command_at (first_actions rec n) q
+    → number_at (first_actions rec n) p ≤ number_at (first_actions rec n) q
 commands_rise rec n p q within less below =
     let us : List Numbered = first_actions rec n in
     let u = item_at us p (omega (arith, less, below)) in
     let v = item_at us q below in
     let two : AreTwo rec n u.0 v.0 = two_at rec n p q u.0 v.0 less u.1 v.1 in
-    let first : command_at us p ≡ u.0.command = (unit_is us p u.0 u.1).1 in
-    let second : command_at us q ≡ v.0.command = (unit_is us q v.0 v.1).1 in
+    let first : number_at us p ≡ u.0.command = (unit_is us p u.0 u.1).1 in
+    let second : number_at us q ≡ v.0.command = (unit_is us q v.0 v.1).1 in
     elim two.apart [
       | inl l ↦ omega (arith, l, first, second)
       | inr same ↦ (let s : u.0.command ≡ v.0.command = same.0 in omega (arith, s, first, second))
@@ -155,52 +153,52 @@ commands_rise rec n p q within less below =
 -- ---- a wave
 
 -- the numbers of the actions of wave v whose commands are below a bound
-abbrev pub numbers_in : List Command → List Row → ℕ → ℕ → ℕ → List ℕ
-numbers_in rec rows n v bound =
-    filter (λ p. (wave_at rows (piece_at rec n p).command == v) && nat_lt (piece_at rec n p).command bound) (range_with_len 0 (length (all_pieces rec n)))
+abbrev pub numbers_in : List Command → List ℕ → ℕ → ℕ → ℕ → List ℕ
+numbers_in rec numbers n v bound =
+    filter (λ p. (wave_at numbers (piece_at rec n p).command == v) && nat_lt (piece_at rec n p).command bound) (range_with_len 0 (length (all_pieces rec n)))
 
-pub wave_pieces : (rec : List Command) (rows : List Row) (n v bound : ℕ) → pieces_below rec bound (commands_of_wave rows n v) ≡ map (piece_at rec n) (numbers_in rec rows n v bound)
-wave_pieces rec rows n v bound =
-    let test : Piece → Bool = λ piece. (wave_at rows piece.command == v) && nat_lt piece.command bound in
-    let passes : ℕ → Bool = λ i. (wave_at rows i == v) && nat_lt i bound in
-    ap (flat_map (pieces_of rec)) (filter_both (λ i. nat_lt i bound) (λ i. wave_at rows i == v) (range_with_len 0 n))
+pub wave_pieces : (rec : List Command) (numbers : List ℕ) (n v bound : ℕ) → pieces_below rec bound (commands_of_wave numbers n v) ≡ map (piece_at rec n) (numbers_in rec numbers n v bound)
+wave_pieces rec numbers n v bound =
+    let test : Piece → Bool = λ piece. (wave_at numbers piece.command == v) && nat_lt piece.command bound in
+    let passes : ℕ → Bool = λ i. (wave_at numbers i == v) && nat_lt i bound in
+    ap (flat_map (pieces_of rec)) (filter_both (λ i. nat_lt i bound) (λ i. wave_at numbers i == v) (range_with_len 0 n))
     ∙ (sym (filter_blocks test passes (pieces_of rec)
     (λ i. filter_same test (part i) (passes i) (λ k. refl) (range_with_len 0 (part_count (actions.command_at rec i)))) (range_with_len 0 n))
     ∙ (ap (filter test) (listed (all_pieces rec n) (part 0 0))
     ∙ filter-map test (piece_at rec n) (range_with_len 0 (length (all_pieces rec n)))))
 
-pub numbers_rise : (rec : List Command) (rows : List Row) (n v bound : ℕ) → EachLater (λ p q. p < q) (numbers_in rec rows n v bound)
-numbers_rise rec rows n v bound =
-    later-filter (λ p q. p < q) (λ p. (wave_at rows (piece_at rec n p).command == v) && nat_lt (piece_at rec n p).command bound)
+pub numbers_rise : (rec : List Command) (numbers : List ℕ) (n v bound : ℕ) → EachLater (λ p q. p < q) (numbers_in rec numbers n v bound)
+numbers_rise rec numbers n v bound =
+    later-filter (λ p q. p < q) (λ p. (wave_at numbers (piece_at rec n p).command == v) && nat_lt (piece_at rec n p).command bound)
     (range_with_len 0 (length (all_pieces rec n))) (range-rises 0 (length (all_pieces rec n)))
 
 -- which they are
-pub record IsNumberIn (rec : List Command) (rows : List Row) (n v bound p : ℕ) : Type 0 where
+pub record IsNumberIn (rec : List Command) (numbers : List ℕ) (n v bound p : ℕ) : Type 0 where
   pub below : p < length (first_actions rec n)
-  pub wave : wave_at rows (command_at (first_actions rec n) p) ≡ v
-  pub command : command_at (first_actions rec n) p < bound
+  pub wave : wave_at numbers (number_at (first_actions rec n) p) ≡ v
+  pub command : number_at (first_actions rec n) p < bound
 
-pub numbers_are : (rec : List Command) (rows : List Row) (n v bound p : ℕ) → n ≤ length rec → IsAmong p (numbers_in rec rows n v bound) → IsNumberIn rec rows n v bound p
-numbers_are rec rows n v bound p within a =
+pub numbers_are : (rec : List Command) (numbers : List ℕ) (n v bound p : ℕ) → n ≤ length rec → IsAmong p (numbers_in rec numbers n v bound) → IsNumberIn rec numbers n v bound p
+numbers_are rec numbers n v bound p within a =
     let many = as_many rec n within in
-    let f = among-filter (λ q. (wave_at rows (piece_at rec n q).command == v) && nat_lt (piece_at rec n q).command bound) p (range_with_len 0 (length (all_pieces rec n))) a in
+    let f = among-filter (λ q. (wave_at numbers (piece_at rec n q).command == v) && nat_lt (piece_at rec n q).command bound) p (range_with_len 0 (length (all_pieces rec n))) a in
     let upto = among-range 0 (length (all_pieces rec n)) p f.0 in
     let less : p < length (first_actions rec n) = (let u = upto.1 in omega (arith, u, many)) in
-    let parts = and_parts (wave_at rows (piece_at rec n p).command == v) (nat_lt (piece_at rec n p).command bound) f.1 in
+    let parts = and_parts (wave_at numbers (piece_at rec n p).command == v) (nat_lt (piece_at rec n p).command bound) f.1 in
     let at = command_is rec n p within less in
     record {
       below = less;
-      wave = ap (wave_at rows) at ∙ eqb-true (wave_at rows (piece_at rec n p).command) v parts.0;
+      wave = ap (wave_at numbers) at ∙ eqb-true (wave_at numbers (piece_at rec n p).command) v parts.0;
       command = subst (λ i. i < bound) (sym at) (ltb-true (piece_at rec n p).command bound parts.1);
     }
 
-pub numbers_there : (rec : List Command) (rows : List Row) (n v bound p : ℕ) → n ≤ length rec → IsNumberIn rec rows n v bound p → IsAmong p (numbers_in rec rows n v bound)
-numbers_there rec rows n v bound p within is =
+pub numbers_there : (rec : List Command) (numbers : List ℕ) (n v bound p : ℕ) → n ≤ length rec → IsNumberIn rec numbers n v bound p → IsAmong p (numbers_in rec numbers n v bound)
+numbers_there rec numbers n v bound p within is =
     let many = as_many rec n within in
     let less : p < length (first_actions rec n) = is.below in
     let at = command_is rec n p within less in
-    filter-among (λ q. (wave_at rows (piece_at rec n q).command == v) && nat_lt (piece_at rec n q).command bound) p (range_with_len 0 (length (all_pieces rec n)))
+    filter-among (λ q. (wave_at numbers (piece_at rec n q).command == v) && nat_lt (piece_at rec n q).command bound) p (range_with_len 0 (length (all_pieces rec n)))
     (range-among 0 (length (all_pieces rec n)) p (omega arith) (omega (arith, less, many)))
-    (and_from (wave_at rows (piece_at rec n p).command == v) (nat_lt (piece_at rec n p).command bound)
-    (eq-eqb (wave_at rows (piece_at rec n p).command) v (ap (wave_at rows) (sym at) ∙ is.wave))
+    (and_from (wave_at numbers (piece_at rec n p).command == v) (nat_lt (piece_at rec n p).command bound)
+    (eq-eqb (wave_at numbers (piece_at rec n p).command) v (ap (wave_at numbers) (sym at) ∙ is.wave))
     (lt-ltb (piece_at rec n p).command bound (subst (λ i. i < bound) at is.command)))

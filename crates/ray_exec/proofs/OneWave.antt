@@ -5,83 +5,81 @@ use Rattle.ray_schedule.specs.Conflicts.{ReadAfterWrite}
 use Rattle.ray_schedule.specs.Progress.{AreRising}
 use Rattle.ray_schedule.specs.Waves.{AreDistinct, EachLater, IsAmong}
 use Rattle.ray_schedule.proofs.Turns.{among-append_left, each_later-map}
-use Rattle.ray_schedule.proofs.Waving.{waves_are_free, waves_rise}
+use Rattle.ray_schedule.proofs.Waving.{waves_are_free}
 use Rattle.ray_cmd.specs.declared.command.Command.{Command}
 use Rattle.ray_cmd.specs.declared.refusal.Refusal.{Refusal}
-use Rattle.ray_rules.specs.Order.{barriers, before}
-use Rattle.ray_sync.specs.declared.order.Row.{Row}
 use Rattle.ray_action.specs.Memory.{Location, Memory}
 use Rattle.ray_action.specs.Areas.{cover}
 use Rattle.ray_action.specs.Action.{areas_read}
 use Rattle.ray_action.specs.Outcomes.{Outcome, Gives, Breaks, Undefined}
-use Rattle.ray_action.specs.Pieces.{Numbered}
+use Rattle.ray_action.specs.Pieces.{Numbered, command_at}
 use Rattle.ray_action.specs.Readiness.{IsReady}
-use Rattle.ray_action.specs.Running.{action_at}
+use Rattle.ray_action.specs.Running.{action_at, number_at}
 use Rattle.ray_action.specs.Storing.{writes}
 use Rattle.ray_ready.specs.Accepted.{refused_from}
 use Rattle.ray_ready.specs.Laws.{IsGiven, first_actions}
-use Rattle.ray_permitted.specs.Work.{command_at, stores_nothing, work_of}
-use Rattle.ray_permitted.proofs.Fetching.{chains_rise, orderly}
+use Rattle.ray_permitted.specs.Job.{Job}
+use Rattle.ray_permitted.specs.Work.{stores_nothing, work_of}
 use Rattle.ray_permitted.proofs.Finding.{waves_are_ready}
+use Rattle.ray_permitted.proofs.Ordered.{numbers_rise as numbers_rise_along}
 use Rattle.ray_device.specs.declared.piece.Piece.{Piece}
 use Rattle.ray_device.specs.Pieces.{piece_action}
 use Rattle.ray_exec.specs.Given.{AreReady}
 use Rattle.ray_exec.specs.Progress.{IsDone, IsStopAt, wave_of}
 use Rattle.ray_exec.specs.Settled.{AreApart}
+use Rattle.ray_exec.specs.Steps.{CanEach}
 use Rattle.ray_exec.specs.Waves.{AreRun, IsPart, commands_of_wave, pieces_below, wave_at}
 use Rattle.ray_exec.proofs.Lists.{map-among}
 use Rattle.ray_exec.proofs.Numbering.{action_is, command_is, commands_rise, is_part, numbers_are, numbers_in, numbers_rise, numbers_there, piece_at, wave_pieces}
 
-pub rising : (rec : List Command) (rows : List Row) (n : ℕ) → AreRun rec rows n → AreRising (work_of rec n).device (wave_of rec rows n) (work_of rec n).count
-rising rec rows n run =
-    let ordered : n ≤ length rows = run.ordered in
-    waves_rise (work_of rec n) (wave_of rec rows n) (orderly rec n run.rules).ordered
-    (chains_rise rec (before (barriers rec) rec) n (wave_at rows) (λ i l. (run.order.are i (omega (arith, l, ordered))).wave))
+pub rising : (job : Job) (numbers : List ℕ) (n : ℕ) → AreRun job.commands numbers n
+    → AreRising (work_of job n).device (wave_of job.commands numbers n) (work_of job n).count
+rising job numbers n run = numbers_rise_along job n (wave_at numbers) run.accepted run.separate
 
 -- ---- the numbers of a wave
 
 -- they are those of the wave below the bound
-pub in_wave : (rec : List Command) (rows : List Row) (n v : ℕ) (memory : Memory) (text : List ℕ) (stop : Option Refusal) → AreRun rec rows n
-    → (bound : ℕ) → bound ≤ length (first_actions rec n) → IsStopAt rec rows n v bound text stop
-    → (p : ℕ) → IsAmong p (numbers_in rec rows n v (refused_from n stop)) ↔ ((p < bound) × (wave_of rec rows n p ≡ v))
-in_wave rec rows n v memory text None run bound upto stopped p =
-    let us : List Numbered = first_actions rec n in
+pub in_wave : (job : Job) (numbers : List ℕ) (n v : ℕ) (memory : Memory) (text : List ℕ) (stop : Option Refusal) → AreRun job.commands numbers n
+    → (bound : ℕ) → bound ≤ length (first_actions job.commands n) → IsStopAt job numbers n v bound text stop
+    → (p : ℕ) → IsAmong p (numbers_in job.commands numbers n v (refused_from n stop)) ↔ ((p < bound) × (wave_of job.commands numbers n p ≡ v))
+in_wave job numbers n v memory text None run bound upto stopped p =
+    let us : List Numbered = first_actions job.commands n in
     let all : bound ≡ length us = stopped.0 in (
-      λ a. let is = numbers_are rec rows n v n p run.within a in let l : p < length us = is.below in (omega (arith, l, all), is.wave),
+      λ a. let is = numbers_are job.commands numbers n v n p run.within a in let l : p < length us = is.below in (omega (arith, l, all), is.wave),
       λ is.
           let l : p < length us = omega (arith, is.0, all) in
-          numbers_there rec rows n v n p run.within (record {
+          numbers_there job.commands numbers n v n p run.within (record {
             below = l;
             wave = is.1;
-            command = subst (λ i. i < n) (sym (command_is rec n p run.within l)) (is_part rec n p run.within l).1;
+            command = subst (λ i. i < n) (sym (command_is job.commands n p run.within l)) (is_part job.commands n p run.within l).1;
           }),
     )
-in_wave rec rows n v memory text (Some refusal) run bound upto stopped p =
-    let us : List Numbered = first_actions rec n in
+in_wave job numbers n v memory text (Some refusal) run bound upto stopped p =
+    let us : List Numbered = first_actions job.commands n in
     let inside : bound < length us = stopped.0 in
-    let earlier : wave_of rec rows n bound < v = stopped.1 in
-    let named : refusal.command ≡ command_at us bound = ap (λ (r : Refusal). r.command) stopped.2.2 in (
+    let earlier : wave_of job.commands numbers n bound < v = stopped.1 in
+    let named : refusal.command ≡ number_at us bound = ap (λ (r : Refusal). r.command) stopped.2.2 in (
       λ a.
-          let is = numbers_are rec rows n v refusal.command p run.within a in
-          let less : command_at us p < refusal.command = is.command in (
+          let is = numbers_are job.commands numbers n v refusal.command p run.within a in
+          let less : number_at us p < refusal.command = is.command in (
             elim (cases_lt p bound) [
               | inl l ↦ l
-              | inr g ↦ (let rise : command_at us bound ≤ command_at us p = elim (cases_eq p bound) [
-                | inl same ↦ (let e : command_at us p ≡ command_at us bound = ap (command_at us) same in omega (arith, e))
-                | inr differs ↦ commands_rise rec n bound p run.within (omega (arith, g, differs)) is.below
+              | inr g ↦ (let rise : number_at us bound ≤ number_at us p = elim (cases_eq p bound) [
+                | inl same ↦ (let e : number_at us p ≡ number_at us bound = ap (number_at us) same in omega (arith, e))
+                | inr differs ↦ commands_rise job.commands n bound p run.within (omega (arith, g, differs)) is.below
               ] in absurd (omega (arith, rise, less, named)))
             ],
             is.wave,
           ),
       λ is.
           let l : p < length us = omega (arith, is.0, inside) in
-          let rise : command_at us p ≤ command_at us bound = commands_rise rec n p bound run.within is.0 inside in
-          numbers_there rec rows n v refusal.command p run.within (record {
+          let rise : number_at us p ≤ number_at us bound = commands_rise job.commands n p bound run.within is.0 inside in
+          numbers_there job.commands numbers n v refusal.command p run.within (record {
             below = l;
             wave = is.1;
-            command = elim (cases_eq (command_at us p) (command_at us bound)) [
-              | inl same ↦ (let e : wave_of rec rows n p ≡ wave_of rec rows n bound = ap (wave_at rows) same in
-                  let w : wave_of rec rows n p ≡ v = is.1 in absurd (omega (arith, e, w, earlier)))
+            command = elim (cases_eq (number_at us p) (number_at us bound)) [
+              | inl same ↦ (let e : wave_of job.commands numbers n p ≡ wave_of job.commands numbers n bound = ap (wave_at numbers) same in
+                  let w : wave_of job.commands numbers n p ≡ v = is.1 in absurd (omega (arith, e, w, earlier)))
               | inr differs ↦ omega (arith, rise, differs, named)
             ];
           }),
@@ -89,42 +87,49 @@ in_wave rec rows n v memory text (Some refusal) run bound upto stopped p =
 
 -- ---- what is fetched
 
-pub ready_in : (rec : List Command) (rows : List Row) (n v : ℕ) (memory : Memory) (text : List ℕ) (stop : Option Refusal) → AreRun rec rows n
-    → IsDone rec rows n v memory text stop → (p : ℕ) → IsAmong p (numbers_in rec rows n v (refused_from n stop)) → IsReady (action_at (first_actions rec n) p) memory
-ready_in rec rows n v memory text stop run done p a =
-    let is = (in_wave rec rows n v memory text stop run done.bound done.done.within done.stopped p).0 a in
-    waves_are_ready rec (before (barriers rec) rec) n (wave_of rec rows n) v done.bound p memory run.rules.accepted (rising rec rows n run) done.done is.0 is.1
+pub ready_in : (job : Job) (numbers : List ℕ) (n v : ℕ) (memory : Memory) (text : List ℕ) (stop : Option Refusal) → AreRun job.commands numbers n
+    → IsDone job numbers n v memory text stop → (p : ℕ) → IsAmong p (numbers_in job.commands numbers n v (refused_from n stop)) → IsReady (action_at (first_actions job.commands n) p) memory
+ready_in job numbers n v memory text stop run done p a =
+    let is = (in_wave job numbers n v memory text stop run done.bound done.done.within done.stopped p).0 a in
+    waves_are_ready job n (wave_of job.commands numbers n) v done.bound p memory run.accepted (rising job numbers n run) done.done is.0 is.1
 
--- each piece of a wave is ready
-pub wave_ready : (rec : List Command) (rows : List Row) (n v : ℕ) (memory : Memory) (text : List ℕ) (stop : Option Refusal) → AreRun rec rows n
-    → IsDone rec rows n v memory text stop → AreReady rec memory (pieces_below rec (refused_from n stop) (commands_of_wave rows n v))
-wave_ready rec rows n v memory text stop run done =
+-- each piece of a wave is ready, and can be fetched
+pub wave_ready : (can : Command → Type 0) (job : Job) (numbers : List ℕ) (n v : ℕ) (memory : Memory) (text : List ℕ) (stop : Option Refusal) → CanEach can job.commands n
+    → AreRun job.commands numbers n → IsDone job numbers n v memory text stop
+    → AreReady can job.commands memory (pieces_below job.commands (refused_from n stop) (commands_of_wave numbers n v))
+wave_ready can job numbers n v memory text stop each run done =
+    let rec : List Command = job.commands in
     let bound : ℕ = refused_from n stop in
-    subst (AreReady rec memory) (sym (wave_pieces rec rows n v bound)) (record {
+    subst (AreReady can rec memory) (sym (wave_pieces rec numbers n v bound)) (record {
       each = λ piece a.
-          let m = map-among (piece_at rec n) piece (numbers_in rec rows n v bound) a in
-          let is = numbers_are rec rows n v bound m.0 run.within m.1 in
+          let m = map-among (piece_at rec n) piece (numbers_in rec numbers n v bound) a in
+          let is = numbers_are rec numbers n v bound m.0 run.within m.1 in
           subst (λ pc. IsPart rec pc × IsReady (piece_action rec pc) memory) (sym m.2) (
             (is_part rec n m.0 run.within is.below).0,
-            subst (λ act. IsReady act memory) (action_is rec n m.0 run.within is.below) (ready_in rec rows n v memory text stop run done m.0 m.1),
+            subst (λ act. IsReady act memory) (action_is rec n m.0 run.within is.below) (ready_in job numbers n v memory text stop run done m.0 m.1),
           );
+      can_each = λ piece a.
+          let m = map-among (piece_at rec n) piece (numbers_in rec numbers n v bound) a in
+          let is = numbers_are rec numbers n v bound m.0 run.within m.1 in
+          subst (λ (pc : Piece). can (command_at rec pc.command)) (sym m.2)
+          (each (piece_at rec n m.0).command (is_part rec n m.0 run.within is.below).1);
     })
 
 -- none writes what another reads
-pub wave_apart : (rec : List Command) (rows : List Row) (n v bound : ℕ) → AreRun rec rows n → AreApart rec (pieces_below rec bound (commands_of_wave rows n v))
-wave_apart rec rows n v bound run =
-    subst (AreApart rec) (sym (wave_pieces rec rows n v bound))
-    (each_later-map (piece_at rec n) (λ p q. p < q)
-    (λ (piece other : Piece). (l : Location) → writes (piece_action rec piece) l ≡ true → cover (areas_read (piece_action rec other)) l ≡ true → ⊥)
-    (numbers_in rec rows n v bound) (numbers_rise rec rows n v bound)
+pub wave_apart : (job : Job) (numbers : List ℕ) (n v bound : ℕ) → AreRun job.commands numbers n → AreApart job.commands (pieces_below job.commands bound (commands_of_wave numbers n v))
+wave_apart job numbers n v bound run =
+    subst (AreApart job.commands) (sym (wave_pieces job.commands numbers n v bound))
+    (each_later-map (piece_at job.commands n) (λ p q. p < q)
+    (λ (piece other : Piece). (l : Location) → writes (piece_action job.commands piece) l ≡ true → cover (areas_read (piece_action job.commands other)) l ≡ true → ⊥)
+    (numbers_in job.commands numbers n v bound) (numbers_rise job.commands numbers n v bound)
     (λ p q a b less l w r.
-    let first = numbers_are rec rows n v bound p run.within a in
-    let second = numbers_are rec rows n v bound q run.within b in
-    waves_are_free (work_of rec n) (wave_of rec rows n) p q l (rising rec rows n run) first.below second.below (first.wave ∙ sym second.wave)
+    let first = numbers_are job.commands numbers n v bound p run.within a in
+    let second = numbers_are job.commands numbers n v bound q run.within b in
+    waves_are_free (work_of job n) (wave_of job.commands numbers n) p q l (rising job numbers n run) first.below second.below (first.wave ∙ sym second.wave)
     (λ e. omega (arith, e, less))
     (ReadAfterWrite
-    (subst (λ act. writes act l ≡ true) (sym (action_is rec n p run.within first.below)) w)
-    (subst (λ act. cover (areas_read act) l ≡ true) (sym (action_is rec n q run.within second.below)) r))))
+    (subst (λ act. writes act l ≡ true) (sym (action_is job.commands n p run.within first.below)) w)
+    (subst (λ act. cover (areas_read act) l ≡ true) (sym (action_is job.commands n q run.within second.below)) r))))
 
 -- ---- what is stored
 

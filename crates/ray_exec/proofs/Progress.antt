@@ -10,52 +10,55 @@ use Rattle.ray_rules.specs.Hazards.{status_at}
 use Rattle.ray_rules.specs.Status.{Status, at_first}
 use Rattle.ray_action.specs.Memory.{Location, Memory, nothing_live}
 use Rattle.ray_action.specs.Action.{Action, Rest}
-use Rattle.ray_action.specs.Outcomes.{Output, Gives, outcome_of}
+use Rattle.ray_action.specs.Clients.{Clients}
+use Rattle.ray_action.specs.Outcomes.{Output, Gives}
 use Rattle.ray_action.specs.Pieces.{Numbered, actions_from, actions_of, command_at, numbered}
 use Rattle.ray_action.specs.Readiness.{IsReady}
-use Rattle.ray_action.specs.Running.{Run, Text, Refused, Unknown, run_from, then_run, with_text}
-use Rattle.ray_action.specs.Storing.{after, put}
+use Rattle.ray_action.specs.Running.{Run, Text, Refused, Unknown, run_from, then_run, unit_after, unit_outcome, with_text}
+use Rattle.ray_action.specs.Storing.{put}
 use Rattle.ray_action.specs.Text.{text_of}
 use Rattle.ray_ready.specs.Accepted.{IsAccepted}
 use Rattle.ray_ready.specs.Laws.{first_actions}
 use Rattle.ray_ready.proofs.Giving.{gives_may}
 use Rattle.ray_ready.proofs.Leading.{AreReadyBelow}
 use Rattle.ray_ready.proofs.Recording.{all_ready, at_beginning, next_status}
+use Rattle.ray_permitted.specs.Along.{memory_below, run_below}
+use Rattle.ray_permitted.specs.Job.{Job}
 use Rattle.ray_permitted.proofs.Runs.{from_nothing, memory_from, one_later}
 use Rattle.ray_device.specs.Pieces.{is_device, part_action, piece_count}
 use Rattle.ray_device.proofs.Storable.{parts-are_actions}
-use Rattle.ray_exec.specs.Runs.{memory_below, run_below}
 use Rattle.ray_exec.specs.Steps.{IsBroken}
 
 -- ---- what is left
 
 -- the memory that actions leave, one after the other
-abbrev pub memory_after : Memory → List Numbered → Memory
-memory_after memory [] = memory
-memory_after memory (u ∷ us) = memory_after (after u.action memory) us
+abbrev pub memory_after : Clients → Memory → List Numbered → Memory
+memory_after clients memory [] = memory
+memory_after clients memory (u ∷ us) = memory_after clients (unit_after clients u memory) us
 
-all-from : (us : List Numbered) (m : Memory) → memory_from m us (length us) ≡ memory_after m us
-all-from [] m = refl
-all-from (u ∷ us) m = one_later m u us (length us) ∙ all-from us (after u.action m)
+all-from : (clients : Clients) (us : List Numbered) (m : Memory) → memory_from clients m us (length us) ≡ memory_after clients m us
+all-from clients [] m = refl
+all-from clients (u ∷ us) m = one_later clients m u us (length us) ∙ all-from clients us (unit_after clients u m)
 
-memory-below : (rec : List Command) (n : ℕ) → memory_below rec n ≡ memory_after nothing_live (first_actions rec n)
-memory-below rec n =
-    sym (from_nothing (first_actions rec n) (length (first_actions rec n))) ∙ all-from (first_actions rec n) nothing_live
+memory-below : (job : Job) (n : ℕ) → memory_below job n ≡ memory_after job.clients nothing_live (first_actions job.commands n)
+memory-below job n =
+    let us : List Numbered = first_actions job.commands n in
+    sym (from_nothing job.clients us (length us)) ∙ all-from job.clients us nothing_live
 
 -- a whole run: what it comes to, and the memory that it leaves where it comes to a text
 pub record Course : Type 0 where
   pub run : Run
   pub memory : Memory
 
-abbrev pub course_below : List Command → ℕ → Course
-course_below rec n = record { run = run_below rec n; memory = memory_below rec n }
+abbrev pub course_below : Job → ℕ → Course
+course_below job n = record { run = run_below job n; memory = memory_below job n }
 
 -- the actions that are left are ready one after the other, with the text so far they come to the whole, and
 -- they leave its memory
-pub record IsLeft (n : ℕ) (whole : Course) (left : List Numbered) (memory : Memory) (text : List ℕ) : Type 0 where
+pub record IsLeft (clients : Clients) (n : ℕ) (whole : Course) (left : List Numbered) (memory : Memory) (text : List ℕ) : Type 0 where
   pub ready : AreReadyBelow n left memory
-  pub run : whole.run ≡ with_text text (run_from memory left)
-  pub leaves : whole.memory ≡ memory_after memory left
+  pub run : whole.run ≡ with_text text (run_from clients memory left)
+  pub leaves : whole.memory ≡ memory_after clients memory left
 
 -- the actions of the commands from number i on, of those below number n
 abbrev pub commands_left : List Command → ℕ → ℕ → List Numbered
@@ -84,42 +87,42 @@ same-memory : (m n : Memory) → ((l : Location) → m l ≡ n l) → m ≡ n
 same-memory m n h = λ i l. h l i
 
 -- the first that is left is ready
-pub first_ready : (n : ℕ) (whole : Course) (u : Numbered) (us : List Numbered) (m : Memory) (text : List ℕ) → IsLeft n whole (u ∷ us) m text → u.command < n → IsReady u.action m
-first_ready n whole u us m text is below = is.ready.0 below
+pub first_ready : (clients : Clients) (n : ℕ) (whole : Course) (u : Numbered) (us : List Numbered) (m : Memory) (text : List ℕ) → IsLeft clients n whole (u ∷ us) m text → u.command < n → IsReady u.action m
+first_ready clients n whole u us m text is below = is.ready.0 below
 
-after-is : (a : Action) (m : Memory) (o : Output) → outcome_of a m ≡ Gives o → after a m ≡ put a (Gives o) m
-after-is a m o e = ap (λ x. put a x m) e
+after-is : (clients : Clients) (u : Numbered) (m : Memory) (o : Output) → unit_outcome clients u m ≡ Gives o → unit_after clients u m ≡ put u.action (Gives o) m
+after-is clients u m o e = ap (λ x. put u.action x m) e
 
 -- once it is stored, the others are left
-pub next_left : (n : ℕ) (whole : Course) (u : Numbered) (us : List Numbered) (old new : Memory) (text_old text_new : List ℕ) → IsLeft n whole (u ∷ us) old text_old
-    → (o : Output) → outcome_of u.action old ≡ Gives o → ((l : Location) → new l ≡ put u.action (Gives o) old l) → text_new ≡ text_old ++ text_of u.action o
-    → IsLeft n whole us new text_new
-next_left n whole u us old new text_old text_new is o gives stored text =
+pub next_left : (clients : Clients) (n : ℕ) (whole : Course) (u : Numbered) (us : List Numbered) (old new : Memory) (text_old text_new : List ℕ) → IsLeft clients n whole (u ∷ us) old text_old
+    → (o : Output) → unit_outcome clients u old ≡ Gives o → ((l : Location) → new l ≡ put u.action (Gives o) old l) → text_new ≡ text_old ++ text_of u.action o
+    → IsLeft clients n whole us new text_new
+next_left clients n whole u us old new text_old text_new is o gives stored text =
     let memory : new ≡ put u.action (Gives o) old = same-memory new (put u.action (Gives o) old) stored in
     record {
-      ready = subst (AreReadyBelow n us) (sym memory) (is.ready.1 o (λ below. gives_may u.action old o gives));
+      ready = subst (AreReadyBelow n us) (sym memory) (is.ready.1 o (λ below. gives_may (clients u.command) u.action old o gives));
       run = is.run
-          ∙ (ap (λ x. with_text text_old (then_run u x (run_from (after u.action old) us))) gives
-          ∙ (ap (λ m. with_text text_old (with_text (text_of u.action o) (run_from m us))) (after-is u.action old o gives ∙ sym memory)
-          ∙ (more-text text_old (text_of u.action o) (run_from new us)
-          ∙ ap (λ t. with_text t (run_from new us)) (sym text))));
-      leaves = is.leaves ∙ ap (λ m. memory_after m us) (after-is u.action old o gives ∙ sym memory);
+          ∙ (ap (λ x. with_text text_old (then_run u x (run_from clients (unit_after clients u old) us))) gives
+          ∙ (ap (λ m. with_text text_old (with_text (text_of u.action o) (run_from clients m us))) (after-is clients u old o gives ∙ sym memory)
+          ∙ (more-text text_old (text_of u.action o) (run_from clients new us)
+          ∙ ap (λ t. with_text t (run_from clients new us)) (sym text))));
+      leaves = is.leaves ∙ ap (λ m. memory_after clients m us) (after-is clients u old o gives ∙ sym memory);
     }
 
 -- where it breaks a data rule the whole is refused
-pub left_stops : (n : ℕ) (whole : Course) (u : Numbered) (us : List Numbered) (m : Memory) (text : List ℕ) (refusal : Refusal) → IsLeft n whole (u ∷ us) m text
-    → IsBroken u.command (outcome_of u.action m) refusal → whole.run ≡ Refused refusal
-left_stops n whole u us m text refusal is broken =
+pub left_stops : (clients : Clients) (n : ℕ) (whole : Course) (u : Numbered) (us : List Numbered) (m : Memory) (text : List ℕ) (refusal : Refusal) → IsLeft clients n whole (u ∷ us) m text
+    → IsBroken u.command (unit_outcome clients u m) refusal → whole.run ≡ Refused refusal
+left_stops clients n whole u us m text refusal is broken =
     is.run
-    ∙ (ap (λ x. with_text text (then_run u x (run_from (after u.action m) us))) broken.broken
+    ∙ (ap (λ x. with_text text (then_run u x (run_from clients (unit_after clients u m) us))) broken.broken
     ∙ ap Refused (sym broken.named))
 
 -- where none is left the whole is the text, and the memory is that of the whole
-pub none_left : (n : ℕ) (whole : Course) (m : Memory) (text : List ℕ) → IsLeft n whole [] m text → whole.run ≡ Text text
-none_left n whole m text is = is.run ∙ ap Text (append-nil text)
+pub none_left : (clients : Clients) (n : ℕ) (whole : Course) (m : Memory) (text : List ℕ) → IsLeft clients n whole [] m text → whole.run ≡ Text text
+none_left clients n whole m text is = is.run ∙ ap Text (append-nil text)
 
-pub last_memory : (n : ℕ) (whole : Course) (m : Memory) (text : List ℕ) → IsLeft n whole [] m text → (l : Location) → m l ≡ whole.memory l
-last_memory n whole m text is l = ap (λ (x : Memory). x l) (sym is.leaves)
+pub last_memory : (clients : Clients) (n : ℕ) (whole : Course) (m : Memory) (text : List ℕ) → IsLeft clients n whole [] m text → (l : Location) → m l ≡ whole.memory l
+last_memory clients n whole m text is l = ap (λ (x : Memory). x l) (sym is.leaves)
 
 -- ---- the commands of a recording
 
@@ -131,18 +134,20 @@ taken (suc n) (d ∷ rec) zero c is = is
 taken (suc n) (d ∷ rec) (suc k) c is = taken n rec k c is
 
 -- at the beginning all are left
-pub all_left : (rec : List Command) (n : ℕ) (m : Memory) (text : List ℕ) → IsAccepted rec n → ((l : Location) → m l ≡ nothing_live l) → text ≡ []
-    → IsLeft n (course_below rec n) (commands_left rec n 0) m text
-all_left rec n m text accepted new empty = record {
-  ready =
-      subst (AreReadyBelow n (first_actions rec n)) (sym (same-memory m nothing_live new))
-      (all_ready rec n 0 at_first (take n rec) nothing_live accepted
-      (λ q k c same is. subst (λ p. slice_get rec p ≡ Some c) (sym (same ∙ omega arith)) (taken n rec k c is)) refl (at_beginning rec));
-  run =
-      sym (ap (λ t. with_text t (run_from m (first_actions rec n))) empty ∙ (no-text (run_from m (first_actions rec n))
-      ∙ ap (λ x. run_from x (first_actions rec n)) (same-memory m nothing_live new)));
-  leaves = memory-below rec n ∙ sym (ap (λ x. memory_after x (first_actions rec n)) (same-memory m nothing_live new));
-}
+pub all_left : (job : Job) (n : ℕ) (m : Memory) (text : List ℕ) → IsAccepted job.commands n → ((l : Location) → m l ≡ nothing_live l) → text ≡ []
+    → IsLeft job.clients n (course_below job n) (commands_left job.commands n 0) m text
+all_left job n m text accepted new empty =
+    let rec : List Command = job.commands in
+    let us : List Numbered = first_actions rec n in record {
+      ready =
+          subst (AreReadyBelow n us) (sym (same-memory m nothing_live new))
+          (all_ready rec n 0 at_first (take n rec) nothing_live accepted
+          (λ q k c same is. subst (λ p. slice_get rec p ≡ Some c) (sym (same ∙ omega arith)) (taken n rec k c is)) refl (at_beginning rec));
+      run =
+          sym (ap (λ t. with_text t (run_from job.clients m us)) empty ∙ (no-text (run_from job.clients m us)
+          ∙ ap (λ x. run_from job.clients x us) (same-memory m nothing_live new)));
+      leaves = memory-below job n ∙ sym (ap (λ x. memory_after job.clients x us) (same-memory m nothing_live new));
+    }
 
 -- a command of those below a number
 slice-taken : (n : ℕ) (rec : List Command) (i : ℕ) → i < n → slice_get (take n rec) i ≡ slice_get rec i

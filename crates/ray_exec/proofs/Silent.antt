@@ -64,7 +64,7 @@ regions-silent src dst [] = tt
 regions-silent src dst (region ∷ regions) = (λ o. refl, regions-silent src dst regions)
 
 rays-silent : (rec : List Command) (z : Status) (top : ℕ) (rays hits : Spot) (count : ℕ) (flags : RayFlags) (mask : ℕ) (script : List RawRule) (ks : List ℕ)
-    → AreSilent (map (rays_action rec z top rays hits count flags mask script) ks)
+    → AreSilent (map (rays_action rec z top rays hits count flags mask) ks)
 rays-silent rec z top rays hits count flags mask script [] = tt
 rays-silent rec z top rays hits count flags mask script (k ∷ ks) = (λ o. refl, rays-silent rec z top rays hits count flags mask script ks)
 

@@ -6,10 +6,9 @@ use Rattle.std.proofs.lemmas.Bool.{cases_Bool, cases_lt, cases_eq, cond-true, co
 use Rattle.ray_schedule.specs.Waves.{EachLater, IsAmong}
 use Rattle.ray_action.specs.Outcomes.{Fault, Outcome, Gives, Breaks, Undefined}
 use Rattle.ray_action.specs.Pieces.{Numbered}
-use Rattle.ray_action.specs.Running.{Run, Text, Refused, action_at, refusal_by, text_with, then_run, with_text}
+use Rattle.ray_action.specs.Running.{Run, Text, Refused, action_at, number_at, refusal_by, text_with, then_run, with_text}
 use Rattle.ray_ready.specs.Laws.{IsGiven}
 use Rattle.ray_permitted.specs.Along.{run_kept}
-use Rattle.ray_permitted.specs.Work.{command_at}
 use Rattle.ray_exec.proofs.Lists.{among-filter}
 
 -- ---- the texts of one wave more
@@ -123,9 +122,9 @@ then_refused u Undefined refusal later given same stays = absurd given
 
 -- where the first that doesn't breaks a data rule, it comes to its refusal
 pub refused : (us : List Numbered) (out : ℕ → Outcome) (b : ℕ) (fault : Fault) → b < length us → ((p : ℕ) → p < b → IsGiven (out p)) → out b ≡ Breaks fault
-    → run_kept (λ p. Some (out p)) us ≡ Refused (refusal_by (command_at us b) fault)
+    → run_kept (λ p. Some (out p)) us ≡ Refused (refusal_by (number_at us b) fault)
 refused [] out b fault less given broken = absurd (omega (arith, less))
 refused (u ∷ us) out zero fault less given broken = ap (λ x. then_run u x (run_kept (λ p. Some (out (suc p))) us)) broken
 refused (u ∷ us) out (suc b) fault less given broken =
-    then_refused u (out 0) (Refused (refusal_by (command_at us b) fault)) (run_kept (λ p. Some (out (suc p))) us) (given 0 (omega arith))
+    then_refused u (out 0) (Refused (refusal_by (number_at us b) fault)) (run_kept (λ p. Some (out (suc p))) us) (given 0 (omega arith))
     (refused us (λ p. out (suc p)) b fault (omega (arith, less)) (λ p l. given (suc p) (omega (arith, l))) broken) (λ text. refl)

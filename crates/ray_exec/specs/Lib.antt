@@ -1,6 +1,7 @@
 pub mod Runs
 pub mod Steps
 pub mod Waves
+pub mod Ranks
 pub mod Given
 pub mod Drawn
 pub mod Settled

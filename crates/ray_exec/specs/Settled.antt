@@ -6,11 +6,13 @@ use Rattle.ray_cmd.specs.declared.refusal.Refusal.{Refusal}
 use Rattle.ray_action.specs.Memory.{Location, Memory}
 use Rattle.ray_action.specs.Areas.{cover}
 use Rattle.ray_action.specs.Action.{areas_read}
-use Rattle.ray_action.specs.Outcomes.{Outcome, Gives, Breaks, Undefined, outcome_of}
+use Rattle.ray_action.specs.Clients.{Clients}
+use Rattle.ray_action.specs.Outcomes.{Outcome, Gives, Breaks, Undefined}
 use Rattle.ray_action.specs.Running.{refusal_by, text_with}
 use Rattle.ray_action.specs.Storing.{put, writes}
 use Rattle.ray_device.specs.declared.piece.Piece.{Piece}
 use Rattle.ray_device.specs.Pieces.{piece_action}
+use Rattle.ray_exec.specs.Steps.{piece_outcome}
 
 -- what pieces leave that were stored: the memory, the text, and the refusal of the first that breaks a data
 -- rule, behind which none is stored
@@ -26,12 +28,12 @@ then_settled i (Breaks fault) memory text later = record { memory = memory; text
 then_settled i Undefined memory text later = record { memory = memory; text = text; stop = None }
 
 -- pieces are stored one after the other, each with its outcome in the memory before all of them
-abbrev pub settled : List Command → Memory → List Piece → Memory → List ℕ → Settled
-settled rec before [] memory text = record { memory = memory; text = text; stop = None }
-settled rec before (piece ∷ pieces) memory text =
-    then_settled piece.command (outcome_of (piece_action rec piece) before) memory text
-    (settled rec before pieces (put (piece_action rec piece) (outcome_of (piece_action rec piece) before) memory)
-    (text ++ text_with (piece_action rec piece) (outcome_of (piece_action rec piece) before)))
+abbrev pub settled : List Command → Clients → Memory → List Piece → Memory → List ℕ → Settled
+settled rec clients before [] memory text = record { memory = memory; text = text; stop = None }
+settled rec clients before (piece ∷ pieces) memory text =
+    then_settled piece.command (piece_outcome rec clients piece before) memory text
+    (settled rec clients before pieces (put (piece_action rec piece) (piece_outcome rec clients piece before) memory)
+    (text ++ text_with (piece_action rec piece) (piece_outcome rec clients piece before)))
 
 -- no piece writes what a later one reads
 abbrev pub AreApart : List Command → List Piece → Type 0

@@ -1,34 +1,45 @@
 -- Words that private contracts cite: the waves of a recording, and the pieces of each.
-use Rattle.std.specs.Prelude.{ℕ, ◌≡◌, ◌<◌, ◌≤◌, List, [], ◌∷◌, ◌++◌, filter, flat_map, map, length, slice_get, Some, Vec, nat_lt, ◌==◌, if◌then◌else◌}
+use Rattle.std.specs.Prelude.{ℕ, ◌≡◌, ◌<◌, ◌≤◌, List, [], ◌∷◌, ◌++◌, filter, flat_map, map, length, slice_get, slice_index_or, Some, Vec, nat_lt, ◌==◌, if◌then◌else◌}
 use Rattle.std.specs.List.{range_with_len}
 use Rattle.std.specs.declared.alloc.Global.{Global}
 use Rattle.ray_cmd.specs.declared.command.Command.{Command}
+use Rattle.ray_rules.specs.Order.{IsLongest, barriers, before}
 use Rattle.ray_action.specs.Pieces.{command_at}
-use Rattle.ray_sync.specs.declared.order.Row.{Row}
-use Rattle.ray_sync.specs.Rows.{IsOrderOf, row_at}
-use Rattle.ray_permitted.specs.Rules.{BreakNoRule}
+use Rattle.ray_ready.specs.Accepted.{IsAccepted}
+use Rattle.ray_permitted.specs.Separates.{NumbersSeparate}
 use Rattle.ray_device.specs.declared.piece.Piece.{Piece}
 use Rattle.ray_device.specs.Pieces.{is_device, piece_count}
 
--- what is known of the commands below a number that run: none breaks a rule, and rows are their order
-pub record AreRun (rec : List Command) (rows : List Row) (n : ℕ) : Type 0 where
-  pub rules : BreakNoRule rec n
-  pub within : n ≤ length rec
-  pub order : IsOrderOf rec rows
-  pub ordered : n ≤ length rows
+-- the wave number of command number i
+abbrev pub wave_at : List ℕ → ℕ → ℕ
+wave_at numbers i = slice_index_or numbers i 0
 
--- the wave of command number i
-abbrev pub wave_at : List Row → ℕ → ℕ
-wave_at rows i = (row_at rows i).wave
+-- so many wave numbers are the lengths of the longest chains in the order of a recording's barriers and waits
+pub record AreLongest (rec : List Command) (n : ℕ) (waves : List ℕ) : Type 0 where
+  pub many : length waves ≡ n
+  pub each : (i : ℕ) → i < n → IsLongest (before (barriers rec) rec) i (wave_at waves i)
+
+-- what is known of the commands below a number that run in waves of these numbers: they may be run one by
+-- one, and the numbers separate them
+pub record AreRun (rec : List Command) (numbers : List ℕ) (n : ℕ) : Type 0 where
+  pub accepted : IsAccepted rec n
+  pub within : n ≤ length rec
+  pub ordered : n ≤ length numbers
+  pub separate : NumbersSeparate rec n (wave_at numbers)
+
+-- the same where no number is greater than there are commands
+pub record AreRanked (rec : List Command) (ranks : List ℕ) (n : ℕ) : Type 0 where
+  pub run : AreRun rec ranks n
+  pub short : (i : ℕ) → i < n → wave_at ranks i < n
 
 -- those of the first n commands that are of wave v, in recording order
-abbrev pub commands_of_wave : List Row → ℕ → ℕ → List ℕ
-commands_of_wave rows n v = filter (λ i. wave_at rows i == v) (range_with_len 0 n)
+abbrev pub commands_of_wave : List ℕ → ℕ → ℕ → List ℕ
+commands_of_wave numbers n v = filter (λ i. wave_at numbers i == v) (range_with_len 0 n)
 
 -- so many lists, one for each wave, have its commands among the first n
-pub record AreWavesOf (rows : List Row) (count n : ℕ) (waves : List (Vec ℕ Global)) : Type 0 where
+pub record AreWavesOf (numbers : List ℕ) (count n : ℕ) (waves : List (Vec ℕ Global)) : Type 0 where
   pub many : length waves ≡ count
-  pub are : (v : ℕ) (wave : Vec ℕ Global) → slice_get waves v ≡ Some wave → wave.items ≡ commands_of_wave rows n v
+  pub are : (v : ℕ) (wave : Vec ℕ Global) → slice_get waves v ≡ Some wave → wave.items ≡ commands_of_wave numbers n v
 
 -- how many pieces a command has, where what the host does counts as one
 abbrev pub part_count : Command → ℕ

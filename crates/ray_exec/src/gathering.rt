@@ -1,4 +1,5 @@
 ghost use Rattle.std.specs.Prelude.{◌≡◌, ◌≤◌, All, length, map, None, IfOk, IfSome, OnOk};
+ghost use Rattle.ray_action.specs.Pieces.{command_at};
 ghost use Rattle.ray_action.specs.Readiness.{IsReady};
 ghost use Rattle.ray_device.specs.Pieces.{piece_action};
 ghost use Rattle.ray_memory.specs.State.{memory_of};
@@ -7,7 +8,7 @@ ghost use Rattle.ray_exec.specs.Given.{AreFilled, AreGiven, AreReady, IsFilledBy
 ghost use Rattle.ray_exec.specs.Waves.{IsPart};
 
 use crate::drawing::{Drawn, Worked, fork};
-use crate::gate::Gate;
+use crate::fetcher::Fetcher;
 use crate::given::{Given, given_now};
 use ray_claim::{ClaimSeat, Claims};
 use ray_cmd::{Command, Recording};
@@ -30,7 +31,7 @@ const LONG_TRACE: u32 = 16;
 
 // What each piece of the wave of a number gives, all of the memory as it is, in order. So many
 // workers fetch them, or this thread alone where that isn't worth a thread.
-pub(crate) fn fetch_wave<R: Threads + Sync, G: Gate + Sync>(
+pub(crate) fn fetch_wave<R: Threads + Sync, F: Fetcher + Sync>(
     rt: &R,
     alloc: Global,
     state: &State,
@@ -38,37 +39,37 @@ pub(crate) fn fetch_wave<R: Threads + Sync, G: Gate + Sync>(
     pieces: &[Piece],
     wave: usize,
     workers: u32,
-    gate: &G,
+    fetcher: &F,
 ) -> Result<Vec<Given>, NoMemory>
     requires workers { workers ≤ 64 }
-    requires ready { AreReady rec.now (memory_of state.now) pieces.now }
-    ensures { IfOk result (λ v. AreGiven rec.now (memory_of state.now) pieces.now v.items) }
+    requires ready { AreReady (F.can_fetch fetcher.now) rec.now (memory_of state.now) pieces.now }
+    ensures { IfOk result (λ v. AreGiven rec.now (F.clients fetcher.now rec.now) (memory_of state.now) pieces.now v.items) }
 {
     let workers = worth(rec, pieces, wave, workers);
-    let places = places(rt, alloc, state, rec, pieces, workers, gate)?;
-    complete(rt, alloc, state, rec, pieces, gate, places)
+    let places = places(rt, alloc, state, rec, pieces, workers, fetcher)?;
+    complete(rt, alloc, state, rec, pieces, fetcher, places)
 }
 
 // What workers fetched of a wave, each at its place: nothing where none is wanted.
-fn places<R: Threads + Sync, G: Gate + Sync>(
+fn places<R: Threads + Sync, F: Fetcher + Sync>(
     rt: &R,
     alloc: Global,
     state: &State,
     rec: &Recording,
     pieces: &[Piece],
     workers: u32,
-    gate: &G,
+    fetcher: &F,
 ) -> Result<Vec<Option<Given>>, NoMemory>
     requires workers { workers ≤ 64 }
-    requires ready { AreReady rec.now (memory_of state.now) pieces.now }
-    ensures { IfOk result (λ v. AreFilled rec.now (memory_of state.now) pieces.now v.items) }
+    requires ready { AreReady (F.can_fetch fetcher.now) rec.now (memory_of state.now) pieces.now }
+    ensures { IfOk result (λ v. AreFilled rec.now (F.clients fetcher.now rec.now) (memory_of state.now) pieces.now v.items) }
 {
     match count_of(pieces) {
         Some(count) => {
             if workers < 2 {
                 empty(alloc, pieces)
             } else {
-                draw_wave(rt, alloc, state, rec, pieces, count, workers, gate)
+                draw_wave(rt, alloc, state, rec, pieces, count, workers, fetcher)
             }
         }
         None => empty(alloc, pieces),
@@ -149,7 +150,7 @@ fn empty(alloc: Global, pieces: &[Piece]) -> Result<Vec<Option<Given>>, NoMemory
 }
 
 // What so many workers draw and fetch.
-fn draw_wave<R: Threads + Sync, G: Gate + Sync>(
+fn draw_wave<R: Threads + Sync, F: Fetcher + Sync>(
     rt: &R,
     alloc: Global,
     state: &State,
@@ -157,19 +158,28 @@ fn draw_wave<R: Threads + Sync, G: Gate + Sync>(
     pieces: &[Piece],
     count: u32,
     workers: u32,
-    gate: &G,
+    fetcher: &F,
 ) -> Result<Vec<Option<Given>>, NoMemory>
     requires count { count ≡ length pieces.now }
     requires workers { workers ≤ 64 }
-    requires ready { AreReady rec.now (memory_of state.now) pieces.now }
-    ensures { IfOk result (λ v. AreFilled rec.now (memory_of state.now) pieces.now v.items) }
+    requires ready { AreReady (F.can_fetch fetcher.now) rec.now (memory_of state.now) pieces.now }
+    ensures { IfOk result (λ v. AreFilled rec.now (F.clients fetcher.now rec.now) (memory_of state.now) pieces.now v.items) }
 {
     let (claims, first) = Claims::new(alloc, count)?;
     let mut seat = first;
     let seats = seats(alloc, &claims, &mut seat, workers)?;
-    let all = fork(rt, alloc, &claims, state, rec, pieces, gate, seats)?;
+    let all = fork(rt, alloc, &claims, state, rec, pieces, fetcher, seats)?;
     let mut places = empty(alloc, pieces)?;
-    gather_all(state, rec, pieces, &claims, &mut seat, all, &mut places)?;
+    gather_all(
+        state,
+        rec,
+        fetcher,
+        pieces,
+        &claims,
+        &mut seat,
+        all,
+        &mut places,
+    )?;
     claims.close(seat);
     Ok(places)
 }
@@ -195,9 +205,10 @@ fn seats(
 }
 
 // Joins the seats of all workers, and puts what they drew in its places.
-fn gather_all(
+fn gather_all<F: Fetcher>(
     state: &State,
     rec: &Recording,
+    fetcher: &F,
     pieces: &[Piece],
     claims: &Claims,
     seat: &mut ClaimSeat,
@@ -205,23 +216,24 @@ fn gather_all(
     places: &mut Vec<Option<Given>>,
 ) -> Result<(), NoMemory>
     requires own { seat.old.table ≡ claims.now.table }
-    requires worked { All (IsWorked claims.now rec.now (memory_of state.now) pieces.now) all.items }
-    requires filled { AreFilled rec.now (memory_of state.now) pieces.now places.old.items }
+    requires worked { All (IsWorked claims.now rec.now (F.clients fetcher.now rec.now) (memory_of state.now) pieces.now) all.items }
+    requires filled { AreFilled rec.now (F.clients fetcher.now rec.now) (memory_of state.now) pieces.now places.old.items }
     ensures same { seat.new.table ≡ seat.old.table }
-    ensures filled { OnOk result (AreFilled rec.now (memory_of state.now) pieces.now
+    ensures filled { OnOk result (AreFilled rec.now (F.clients fetcher.now rec.now) (memory_of state.now) pieces.now
         places.new.items) }
 {
     for worked in all {
-        gather(state, rec, pieces, claims, seat, worked, places)?;
+        gather(state, rec, fetcher, pieces, claims, seat, worked, places)?;
     }
     Ok(())
 }
 
-// Joins a worker's seat, and puts what it drew in its places. The memory and the pieces are those of
-// the fetches.
-fn gather(
+// Joins a worker's seat, and puts what it drew in its places. The memory, who fetched and the pieces
+// are those of the fetches.
+fn gather<F: Fetcher>(
     state: &State,
     rec: &Recording,
+    fetcher: &F,
     pieces: &[Piece],
     claims: &Claims,
     seat: &mut ClaimSeat,
@@ -229,16 +241,16 @@ fn gather(
     places: &mut Vec<Option<Given>>,
 ) -> Result<(), NoMemory>
     requires own { seat.old.table ≡ claims.now.table }
-    requires worked { IsWorked claims.now rec.now (memory_of state.now) pieces.now worked }
-    requires filled { AreFilled rec.now (memory_of state.now) pieces.now places.old.items }
+    requires worked { IsWorked claims.now rec.now (F.clients fetcher.now rec.now) (memory_of state.now) pieces.now worked }
+    requires filled { AreFilled rec.now (F.clients fetcher.now rec.now) (memory_of state.now) pieces.now places.old.items }
     ensures same { seat.new.table ≡ seat.old.table }
-    ensures filled { OnOk result (AreFilled rec.now (memory_of state.now) pieces.now
+    ensures filled { OnOk result (AreFilled rec.now (F.clients fetcher.now rec.now) (memory_of state.now) pieces.now
         places.new.items) }
 {
     join(claims, seat, worked.seat);
     match worked.outs {
         Ok(outs) => {
-            put_all(state, rec, pieces, outs, places);
+            put_all(state, rec, fetcher, pieces, outs, places);
             Ok(())
         }
         Err(_) => Err(NoMemory),
@@ -255,77 +267,80 @@ fn join(claims: &Claims, seat: &mut ClaimSeat, from: ClaimSeat)
 }
 
 // Puts what was drawn in its places.
-fn put_all(
+fn put_all<F: Fetcher>(
     state: &State,
     rec: &Recording,
+    fetcher: &F,
     pieces: &[Piece],
     outs: Vec<Drawn>,
     places: &mut Vec<Option<Given>>,
 )
-    requires drawn { All (IsDrawn rec.now (memory_of state.now) pieces.now) outs.items }
-    requires filled { AreFilled rec.now (memory_of state.now) pieces.now places.old.items }
-    ensures { AreFilled rec.now (memory_of state.now) pieces.now places.new.items }
+    requires drawn { All (IsDrawn rec.now (F.clients fetcher.now rec.now) (memory_of state.now) pieces.now) outs.items }
+    requires filled { AreFilled rec.now (F.clients fetcher.now rec.now) (memory_of state.now) pieces.now places.old.items }
+    ensures { AreFilled rec.now (F.clients fetcher.now rec.now) (memory_of state.now) pieces.now places.new.items }
 {
     for drawn in outs {
-        put(state, rec, pieces, drawn, places);
+        put(state, rec, fetcher, pieces, drawn, places);
     }
 }
 
 // Puts what was drawn in its place.
-fn put(
+fn put<F: Fetcher>(
     state: &State,
     rec: &Recording,
+    fetcher: &F,
     pieces: &[Piece],
     drawn: Drawn,
     places: &mut Vec<Option<Given>>,
 )
-    requires drawn { IsDrawn rec.now (memory_of state.now) pieces.now drawn }
-    requires filled { AreFilled rec.now (memory_of state.now) pieces.now places.old.items }
-    ensures { AreFilled rec.now (memory_of state.now) pieces.now places.new.items }
+    requires drawn { IsDrawn rec.now (F.clients fetcher.now rec.now) (memory_of state.now) pieces.now drawn }
+    requires filled { AreFilled rec.now (F.clients fetcher.now rec.now) (memory_of state.now) pieces.now places.old.items }
+    ensures { AreFilled rec.now (F.clients fetcher.now rec.now) (memory_of state.now) pieces.now places.new.items }
 {
     places[drawn.number as usize] = Some(drawn.given);
 }
 
 // What each piece gives: where a place is empty, this thread fetches it.
-fn complete<R: Threads + Sync, G: Gate>(
+fn complete<R: Threads + Sync, F: Fetcher>(
     rt: &R,
     alloc: Global,
     state: &State,
     rec: &Recording,
     pieces: &[Piece],
-    gate: &G,
+    fetcher: &F,
     places: Vec<Option<Given>>,
 ) -> Result<Vec<Given>, NoMemory>
-    requires ready { AreReady rec.now (memory_of state.now) pieces.now }
-    requires filled { AreFilled rec.now (memory_of state.now) pieces.now places.items }
-    ensures { IfOk result (λ v. AreGiven rec.now (memory_of state.now) pieces.now v.items) }
+    requires ready { AreReady (F.can_fetch fetcher.now) rec.now (memory_of state.now) pieces.now }
+    requires filled { AreFilled rec.now (F.clients fetcher.now rec.now) (memory_of state.now) pieces.now places.items }
+    ensures { IfOk result (λ v. AreGiven rec.now (F.clients fetcher.now rec.now) (memory_of state.now) pieces.now v.items) }
 {
     let mut outs = Vec::new(alloc);
     for place in places {
         let piece = pieces[outs.len()];
-        let given = filled(rt, alloc, state, rec, piece, gate, place)?;
+        let given = filled(rt, alloc, state, rec, piece, fetcher, place)?;
         outs.push(given)?;
     }
     Ok(outs)
 }
 
 // What a piece gives: what stands in its place, or else what is fetched now.
-fn filled<R: Threads + Sync, G: Gate>(
+fn filled<R: Threads + Sync, F: Fetcher>(
     rt: &R,
     alloc: Global,
     state: &State,
     rec: &Recording,
     piece: Piece,
-    gate: &G,
+    fetcher: &F,
     place: Option<Given>,
 ) -> Result<Given, NoMemory>
     requires part { IsPart rec.now piece }
+    requires can { F.can_fetch fetcher.now (command_at rec.now piece.command) }
     requires ready { IsReady (piece_action rec.now piece) (memory_of state.now) }
-    requires filled { IsFilledBy rec.now (memory_of state.now) piece place }
-    ensures { IfOk result (IsGivenBy rec.now (memory_of state.now) piece) }
+    requires filled { IsFilledBy rec.now (F.clients fetcher.now rec.now) (memory_of state.now) piece place }
+    ensures { IfOk result (IsGivenBy rec.now (F.clients fetcher.now rec.now) (memory_of state.now) piece) }
 {
     match place {
         Some(given) => Ok(given),
-        None => given_now(rt, alloc, state, rec, piece, gate),
+        None => given_now(rt, alloc, state, rec, piece, fetcher),
     }
 }

@@ -1,14 +1,15 @@
-ghost use Rattle.std.specs.Prelude.{◌<◌, IfOk};
+ghost use Rattle.std.specs.Prelude.{IfOk};
+ghost use Rattle.ray_action.specs.Pieces.{command_at};
 ghost use Rattle.ray_action.specs.Readiness.{IsReady};
 ghost use Rattle.ray_device.specs.Pieces.{piece_action};
 ghost use Rattle.ray_memory.specs.State.{memory_of};
 ghost use Rattle.ray_exec.specs.Given.{IsGivenBy};
 ghost use Rattle.ray_exec.specs.Waves.{IsPart};
 
-use crate::fetching::fetch_told;
-use crate::gate::Gate;
+use crate::fetcher::Fetcher;
 use crate::host::is_host;
-use ray_cmd::{Recording, Refusal, Rule};
+use crate::run_fault::refusal_of;
+use ray_cmd::{Recording, Refusal};
 use ray_device::{FetchFault, Piece, PieceOut};
 use ray_memory::State;
 use std::alloc::{AllocError as NoMemory, Global};
@@ -26,28 +27,28 @@ pub(crate) enum Given {
 }
 
 // What a piece gives of the memory as it is. Only want of memory fails.
-pub(crate) fn given_now<R: Threads + Sync, G: Gate>(
+pub(crate) fn given_now<R: Threads + Sync, F: Fetcher>(
     rt: &R,
     alloc: Global,
     state: &State,
     rec: &Recording,
     piece: Piece,
-    gate: &G,
+    fetcher: &F,
 ) -> Result<Given, NoMemory>
     requires part { IsPart rec.now piece }
+    requires can { F.can_fetch fetcher.now (command_at rec.now piece.command) }
     requires ready { IsReady (piece_action rec.now piece) (memory_of state.now) }
-    ensures { IfOk result (IsGivenBy rec.now (memory_of state.now) piece) }
+    ensures { IfOk result (IsGivenBy rec.now (F.clients fetcher.now rec.now) (memory_of state.now)
+        piece) }
 {
     if is_host(rec.command(piece.command)) {
         return Ok(Given::ByHost(piece.command));
     }
-    match fetch_told(rt, alloc, state, rec, piece, gate) {
+    match fetcher.fetch(rt, alloc, state, rec, piece) {
         Ok(out) => Ok(Given::Out(out)),
-        Err(FetchFault::Data(rule, place)) => Ok(Given::Broken(Refusal {
-            command: piece.command,
-            rule: Rule::X(rule),
-            place,
-        })),
+        Err(FetchFault::Data(rule, place)) => {
+            Ok(Given::Broken(refusal_of(piece.command, rule, place)))
+        }
         Err(FetchFault::NoMemory) => Err(NoMemory),
     }
 }

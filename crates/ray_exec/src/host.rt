@@ -1,4 +1,5 @@
 ghost use Rattle.std.specs.Prelude.{◌≡◌, ◌<◌, length, not, OnOk};
+ghost use Rattle.ray_action.specs.Clients.{Meaning};
 ghost use Rattle.ray_action.specs.Pieces.{command_at, host_action};
 ghost use Rattle.ray_action.specs.Readiness.{IsReady};
 ghost use Rattle.ray_device.specs.Pieces.{is_device};
@@ -20,7 +21,8 @@ pub(crate) fn is_host(command: &Command) -> bool
     }
 }
 
-// Does a command of the host: its text is appended, and what it makes is in the state.
+// Does a command of the host: its text is appended, and what it makes is in the state. No client has
+// a part in it.
 #[tactic(auto, using(crate::proofs::Hosting::is_shown))]
 pub(crate) fn act(
     state: &mut State,
@@ -30,8 +32,9 @@ pub(crate) fn act(
 ) -> Result<(), NoMemory>
     requires within { command < length rec.now }
     requires ready { IsReady (host_action (command_at rec.now command)) (memory_of state.old) }
-    ensures { OnOk result (IsShown (host_action (command_at rec.now command)) (memory_of state.old)
-        (memory_of state.new) text.old.items text.new.items) }
+    ensures { OnOk result ((meaning : Meaning) → IsShown meaning
+        (host_action (command_at rec.now command)) (memory_of state.old) (memory_of state.new)
+        text.old.items text.new.items) }
 {
     state.text(rec, command, text)?;
     state.host(rec, command)?;

@@ -1,40 +1,47 @@
 ghost use Rattle.std.specs.Prelude.{◌≡◌, ◌≤◌, length, IfErr, OnOk};
 ghost use Rattle.ray_action.specs.Memory.{Location, nothing_live};
-ghost use Rattle.ray_action.specs.Outcomes.{outcome_of};
+ghost use Rattle.ray_action.specs.Pieces.{command_at};
 ghost use Rattle.ray_action.specs.Readiness.{IsReady};
 ghost use Rattle.ray_device.specs.Pieces.{IsPiece, piece_action};
 ghost use Rattle.ray_memory.specs.State.{memory_of};
-ghost use Rattle.ray_ready.specs.Accepted.{IsAccepted};
-ghost use Rattle.ray_exec.specs.Runs.{memory_below, run_below, IsRun};
-ghost use Rattle.ray_exec.specs.Steps.{IsStored, Stops, stop_of};
+ghost use Rattle.ray_permitted.specs.Along.{memory_below, run_below};
+ghost use Rattle.ray_permitted.specs.Job.{on_one_queue};
+ghost use Rattle.ray_ready.specs.Accepted.{KeepStaticRules};
+ghost use Rattle.ray_exec.specs.Runs.{IsRun};
+ghost use Rattle.ray_exec.specs.Steps.{CanEach, IsStored, Stops, piece_outcome};
 
-use crate::fetching::fetch_told;
-use crate::gate::Gate;
+use crate::fetcher::Fetcher;
 use crate::host::{act, is_host};
 use crate::run_fault::RunFault;
-use ray_cmd::{Recording, Refusal, Rule};
-use ray_device::{FetchFault, Piece, pieces, store};
+use ray_cmd::Recording;
+use ray_device::{Piece, pieces, store};
 use ray_memory::State;
+use ray_ready::kept_are_accepted;
 use std::alloc::Global;
 use std::thread::Threads;
 
-// Runs the commands below `until` in recording order, on the calling thread: each piece is stored
-// before the next is fetched.
-pub(crate) fn run_in_order<R: Threads + Sync, G: Gate + Sync>(
+/// Runs the commands below `until` in recording order, on the calling thread: each piece is stored
+/// before the next is fetched. They keep the rules V1 to V24 and V28 to V31; no order is read. Gives
+/// their text, or the refusal of the first that breaks a data rule. After a text the state holds the
+/// memory that the run leaves; after a fault what some of the commands wrote. (Own.)
+pub fn run_in_order<R: Threads + Sync, F: Fetcher>(
     rt: &R,
     alloc: Global,
     state: &mut State,
     rec: &Recording,
     until: u32,
-    gate: &G,
+    fetcher: &F,
 ) -> Result<Vec<u8>, RunFault>
     requires new { (l : Location) → memory_of state.old l ≡ nothing_live l }
     requires within { until ≤ length rec.now }
-    requires accepted { IsAccepted rec.now until }
-    ensures run { IsRun (run_below rec.now until) result }
+    requires rules { KeepStaticRules rec.now until }
+    requires can { CanEach (F.can_fetch fetcher.now) rec.now until }
+    ensures run { IsRun (run_below (on_one_queue rec.now (F.clients fetcher.now rec.now)) until)
+        result }
     ensures left { OnOk result ((l : Location) → memory_of state.new l
-        ≡ memory_below rec.now until l) }
+        ≡ memory_below (on_one_queue rec.now (F.clients fetcher.now rec.now)) until l) }
 {
+    kept_are_accepted(rec);
     let mut text = Vec::new(alloc);
     for command in 0..until {
         if is_host(rec.command(command)) {
@@ -44,7 +51,7 @@ pub(crate) fn run_in_order<R: Threads + Sync, G: Gate + Sync>(
         } else {
             for part in 0..pieces(rec, command) {
                 let piece = Piece { command, part };
-                if let Err(fault) = run_piece(rt, alloc, state, rec, piece, gate) {
+                if let Err(fault) = run_piece(rt, alloc, state, rec, piece, fetcher) {
                     return Err(fault);
                 }
             }
@@ -55,40 +62,27 @@ pub(crate) fn run_in_order<R: Threads + Sync, G: Gate + Sync>(
 
 // Fetches a piece and stores what it gives.
 #[tactic(auto, using(crate::proofs::Hosting::can_be_stored, crate::proofs::Hosting::is_that_piece))]
-fn run_piece<R: Threads + Sync, G: Gate + Sync>(
+fn run_piece<R: Threads + Sync, F: Fetcher>(
     rt: &R,
     alloc: Global,
     state: &mut State,
     rec: &Recording,
     piece: Piece,
-    gate: &G,
+    fetcher: &F,
 ) -> Result<(), RunFault>
     requires piece { IsPiece rec.now piece }
+    requires can { F.can_fetch fetcher.now (command_at rec.now piece.command) }
     requires ready { IsReady (piece_action rec.now piece) (memory_of state.old) }
-    ensures ok { OnOk result (IsStored (piece_action rec.now piece) (memory_of state.old)
-        (memory_of state.new)) }
-    ensures err { IfErr result (Stops piece.command (outcome_of (piece_action rec.now piece)
-        (memory_of state.old))) }
+    ensures ok { OnOk result (IsStored (F.clients fetcher.now rec.now piece.command)
+        (piece_action rec.now piece) (memory_of state.old) (memory_of state.new)) }
+    ensures err { IfErr result (Stops piece.command (piece_outcome rec.now
+        (F.clients fetcher.now rec.now) piece (memory_of state.old))) }
 {
-    match fetch_told(rt, alloc, state, rec, piece, gate) {
+    match fetcher.fetch(rt, alloc, state, rec, piece) {
         Ok(out) => {
             store(state, rec, out);
             Ok(())
         }
-        Err(fault) => Err(stopped(piece.command, fault)),
-    }
-}
-
-// Why the run stops at a command of which a piece wasn't fetched.
-fn stopped(command: u32, fault: FetchFault) -> RunFault
-    ensures { result ≡ stop_of command fault }
-{
-    match fault {
-        FetchFault::NoMemory => RunFault::NoMemory,
-        FetchFault::Data(rule, place) => RunFault::Refused(Refusal {
-            command,
-            rule: Rule::X(rule),
-            place,
-        }),
+        Err(fault) => Err(RunFault::of_fetch(piece.command, fault)),
     }
 }

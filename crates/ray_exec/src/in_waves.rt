@@ -1,50 +1,54 @@
 ghost use Rattle.std.specs.Prelude.{◌≡◌, ◌<◌, ◌≤◌, ◌+◌, length, IfOk, OnOk};
 ghost use Rattle.ray_action.specs.Memory.{Location, nothing_live};
 ghost use Rattle.ray_memory.specs.State.{memory_of};
+ghost use Rattle.ray_permitted.specs.Along.{memory_below, run_below};
+ghost use Rattle.ray_permitted.specs.Job.{on_one_queue};
 ghost use Rattle.ray_ready.specs.Accepted.{refused_from};
 ghost use Rattle.ray_exec.specs.Progress.{IsDone, least};
-ghost use Rattle.ray_exec.specs.Runs.{memory_below, run_below, IsRun};
-ghost use Rattle.ray_exec.specs.Waves.{AreRun, AreWavesOf};
+ghost use Rattle.ray_exec.specs.Runs.{IsRun};
+ghost use Rattle.ray_exec.specs.Steps.{CanEach};
+ghost use Rattle.ray_exec.specs.Waves.{AreRanked, AreWavesOf};
 
-use crate::gate::Gate;
+use crate::fetcher::Fetcher;
 use crate::gathering::fetch_wave;
 use crate::run_fault::RunFault;
 use crate::settling::settle;
 use crate::wave::{commands_of, pieces_below, waves_of};
 use ray_cmd::{Recording, Refusal};
 use ray_memory::State;
-use ray_sync::Order;
 use std::alloc::{AllocError as NoMemory, Global};
 use std::thread::Threads;
 
-// Runs the commands below `until` in waves: of each the pieces are fetched, by so many workers, and
-// then stored. After a piece that breaks a data rule it goes on with those before it in recording
-// order, and gives the refusal of the first.
-pub(crate) fn run_in_waves<R: Threads + Sync, G: Gate + Sync>(
+// Runs the commands below `until` in waves of these ranks: of each the pieces are fetched, by so many
+// workers, and then stored. After a piece that breaks a data rule it goes on with those before it in
+// recording order, and gives the refusal of the first.
+pub(crate) fn run_in_waves<R: Threads + Sync, F: Fetcher + Sync>(
     rt: &R,
     alloc: Global,
     state: &mut State,
     rec: &Recording,
-    order: &Order,
+    ranks: &[u32],
     until: u32,
     workers: u32,
-    gate: &G,
+    fetcher: &F,
 ) -> Result<Vec<u8>, RunFault>
     requires new { (l : Location) → memory_of state.old l ≡ nothing_live l }
-    requires run { AreRun rec.now order.now until }
+    requires run { AreRanked rec.now ranks.now until }
+    requires can { CanEach (F.can_fetch fetcher.now) rec.now until }
     requires workers { workers ≤ 64 }
-    ensures run { IsRun (run_below rec.now until) result }
+    ensures run { IsRun (run_below (on_one_queue rec.now (F.clients fetcher.now rec.now)) until)
+        result }
     ensures left { OnOk result ((l : Location) → memory_of state.new l
-        ≡ memory_below rec.now until l) }
+        ≡ memory_below (on_one_queue rec.now (F.clients fetcher.now rec.now)) until l) }
 {
-    let Ok(waves) = waves_of(alloc, rec, order, until) else {
+    let Ok(waves) = waves_of(alloc, ranks, until) else {
         return Err(RunFault::NoMemory);
     };
     let mut text = Vec::new(alloc);
     let mut stop = None;
     for wave in 0..waves.len() {
         match run_wave(
-            rt, alloc, state, rec, order, until, &waves, wave, workers, gate, stop, &mut text,
+            rt, alloc, state, rec, ranks, until, &waves, wave, workers, fetcher, stop, &mut text,
         ) {
             Ok(next) => stop = next,
             Err(_) => return Err(RunFault::NoMemory),
@@ -56,30 +60,32 @@ pub(crate) fn run_in_waves<R: Threads + Sync, G: Gate + Sync>(
     }
 }
 
-// Runs a wave of an order, up to a refusal: the first there is so far, in recording order.
-fn run_wave<R: Threads + Sync, G: Gate + Sync>(
+// Runs a wave, up to a refusal: the first there is so far, in recording order.
+fn run_wave<R: Threads + Sync, F: Fetcher + Sync>(
     rt: &R,
     alloc: Global,
     state: &mut State,
     rec: &Recording,
-    order: &Order,
+    ranks: &[u32],
     until: u32,
     waves: &Vec<Vec<u32>>,
     wave: usize,
     workers: u32,
-    gate: &G,
+    fetcher: &F,
     stop: Option<Refusal>,
     text: &mut Vec<u8>,
 ) -> Result<Option<Refusal>, NoMemory>
-    requires run { AreRun rec.now order.now until }
-    requires waves { AreWavesOf order.now until until waves.now.items }
+    requires run { AreRanked rec.now ranks.now until }
+    requires can { CanEach (F.can_fetch fetcher.now) rec.now until }
+    requires waves { AreWavesOf ranks.now until until waves.now.items }
     requires wave { wave < length waves.now.items }
     requires workers { workers ≤ 64 }
-    requires done { IsDone rec.now order.now until wave (memory_of state.old) text.old.items stop }
-    ensures { IfOk result (λ next. IsDone rec.now order.now until (wave + 1) (memory_of state.new)
-        text.new.items next) }
+    requires done { IsDone (on_one_queue rec.now (F.clients fetcher.now rec.now)) ranks.now until wave
+        (memory_of state.old) text.old.items stop }
+    ensures { IfOk result (λ next. IsDone (on_one_queue rec.now (F.clients fetcher.now rec.now))
+        ranks.now until (wave + 1) (memory_of state.new) text.new.items next) }
 {
-    let commands = commands_of(waves, order, until, wave);
+    let commands = commands_of(waves, ranks, until, wave);
     let pieces = pieces_below(alloc, rec, commands, bound_by(until, stop))?;
     let outs = fetch_wave(
         rt,
@@ -89,9 +95,9 @@ fn run_wave<R: Threads + Sync, G: Gate + Sync>(
         pieces.as_slice(),
         wave,
         workers,
-        gate,
+        fetcher,
     )?;
-    let met = settle(state, rec, pieces.as_slice(), outs, text)?;
+    let met = settle(state, rec, fetcher, pieces.as_slice(), outs, text)?;
     Ok(least(met, stop))
 }
 

@@ -2,7 +2,10 @@
 //! it is stored, up to the first command that breaks a data rule.
 //!
 //! The layer above uses [`run_waves`], whose clause says that the result is the text of the run, or
-//! its refusal, by `run_below` of `specs/Runs`. A [`Gate`] is told when each fetch begins and ends.
+//! its refusal, by `run_below` of ray_permitted. Who fetches a piece, and so decides on candidates,
+//! is a [`Fetcher`]: by the traces' scripts it is [`Scripts`], with a [`Gate`] that is told when each
+//! fetch begins and ends. [`run_numbered`] takes any fetcher and any wave numbers that separate the
+//! commands, and [`run_in_order`] none.
 //!
 //! One worker goes in recording order (`in_order`). Of several each draws pieces of a wave, one by
 //! one, and fetches them from the memory that all share (`drawing`); what they give is put in order
@@ -17,18 +20,23 @@
 #![tactic(auto)]
 
 mod drawing;
-mod fetching;
+mod fetcher;
 mod gate;
 mod gathering;
 mod given;
 mod host;
 mod in_order;
 mod in_waves;
+mod ranks;
 mod run_fault;
 mod running;
+mod scripts;
 mod settling;
 mod wave;
 
+pub use crate::fetcher::Fetcher;
 pub use crate::gate::{Gate, NoGate};
+pub use crate::in_order::run_in_order;
 pub use crate::run_fault::RunFault;
-pub use crate::running::run_waves;
+pub use crate::running::{run_numbered, run_waves};
+pub use crate::scripts::Scripts;

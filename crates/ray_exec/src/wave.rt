@@ -1,46 +1,38 @@
-ghost use Rattle.std.specs.Prelude.{◌≡◌, ◌<◌, ◌≤◌, ◌++◌, [], All, length, IfOk, OnOk};
+ghost use Rattle.std.specs.Prelude.{◌≡◌, ◌<◌, ◌≤◌, ◌++◌, ℕ, [], All, length, IfOk, OnOk};
 ghost use Rattle.std.specs.Prelude.{nat_lt, if◌then◌else◌};
 ghost use Rattle.ray_action.specs.Pieces.{command_at};
-ghost use Rattle.ray_sync.specs.Rows.{IsOrderOf};
 ghost use Rattle.ray_exec.specs.Waves.{AreEmpty, AreWavesOf, HasOneMore};
 ghost use Rattle.ray_exec.specs.Waves.{commands_of_wave, part_count, pieces_below, pieces_of, wave_at};
 
 use crate::host::is_host;
 use ray_cmd::Recording;
 use ray_device::{Piece, pieces};
-use ray_sync::Order;
 use std::alloc::{AllocError as NoMemory, Global};
 
 // The commands of each wave of those below `until`, in recording order: a list for each wave, of
-// which there are at most as many as commands.
-pub(crate) fn waves_of(
-    alloc: Global,
-    rec: &Recording,
-    order: &Order,
-    until: u32,
-) -> Result<Vec<Vec<u32>>, NoMemory>
-    requires order { IsOrderOf rec.now order.now }
-    requires ordered { until ≤ length order.now }
-    ensures { IfOk result (λ v. AreWavesOf order.now until until v.items) }
+// which there are at most as many as commands. Waves are numbered by rank.
+pub(crate) fn waves_of(alloc: Global, ranks: &[u32], until: u32) -> Result<Vec<Vec<u32>>, NoMemory>
+    requires ordered { until ≤ length ranks.now }
+    requires short { (i : ℕ) → i < until → wave_at ranks.now i < until }
+    ensures { IfOk result (λ v. AreWavesOf ranks.now until until v.items) }
 {
     let mut waves = none(alloc, until)?;
     for command in 0..until {
-        let wave = wave_of(rec, order, command);
-        add(&mut waves, wave as usize, command)?;
+        add(&mut waves, ranks[command as usize] as usize, command)?;
     }
     Ok(waves)
 }
 
-// The commands of a wave, of those of an order.
+// The commands of a wave.
 pub(crate) fn commands_of<'a>(
     waves: &'a Vec<Vec<u32>>,
-    order: &Order,
+    ranks: &[u32],
     until: u32,
     wave: usize,
 ) -> &'a [u32]
-    requires waves { AreWavesOf order.now until until waves.now.items }
+    requires waves { AreWavesOf ranks.now until until waves.now.items }
     requires wave { wave < length waves.now.items }
-    ensures { result.now ≡ commands_of_wave order.now until wave }
+    ensures { result.now ≡ commands_of_wave ranks.now until wave }
 {
     waves[wave].as_slice()
 }
@@ -63,16 +55,6 @@ fn add(waves: &mut Vec<Vec<u32>>, wave: usize, command: u32) -> Result<(), NoMem
 {
     waves[wave].push(command)?;
     Ok(())
-}
-
-// The wave of a command.
-fn wave_of(rec: &Recording, order: &Order, command: u32) -> u32
-    requires order { IsOrderOf rec.now order.now }
-    requires within { command < length order.now }
-    ensures wave { result ≡ wave_at order.now command }
-    ensures limit { result ≤ command }
-{
-    order.wave(command)
 }
 
 // The pieces of commands below a bound, in recording order.

@@ -13,6 +13,7 @@ use Rattle.ray_rules.specs.declared.byte_range.ByteRange.{ByteRange}
 use Rattle.ray_rules.specs.Ranges.{range}
 use Rattle.ray_action.specs.Memory.{Memory, bytes_at}
 use Rattle.ray_action.specs.Action.{ShowBytes}
+use Rattle.ray_action.specs.Clients.{Meaning}
 use Rattle.ray_action.specs.Outcomes.{bytes_outcome, outcome_of}
 use Rattle.ray_action.specs.Pieces.{host_action}
 use Rattle.ray_action.specs.Readiness.{IsReady}
@@ -100,12 +101,12 @@ shown : (form : ReadForm) (r : ByteRange) (bytes : Option (List ℕ)) → IsSome
 shown form r None there = absurd cc
 shown form r (Some bytes) there = refl
 
-pub read-text : (command : Command) (buffer offset size : ℕ) (form : ReadForm) (m : Memory) → command ≡ commands.Read buffer offset size form
+pub read-text : (meaning : Meaning) (command : Command) (buffer offset size : ℕ) (form : ReadForm) (m : Memory) → command ≡ commands.Read buffer offset size form
     → IsReady (host_action command) m
-    → text_with (host_action command) (outcome_of (host_action command) m) ≡ bytes_text form (unwrap_or (bytes_at m (range buffer offset size)) [])
+    → text_with (host_action command) (outcome_of meaning (host_action command) m) ≡ bytes_text form (unwrap_or (bytes_at m (range buffer offset size)) [])
 unfolding host_action
-read-text command buffer offset size form m is ready =
-    ap (λ c. text_with (host_action c) (outcome_of (host_action c) m)) is
+read-text meaning command buffer offset size form m is ready =
+    ap (λ c. text_with (host_action c) (outcome_of meaning (host_action c) m)) is
     ∙ shown form (range buffer offset size) (bytes_at m (range buffer offset size)) (read-ready command buffer offset size form m is ready)
 
 -- what follows of the value of an Ok

@@ -1,6 +1,7 @@
 ghost use Rattle.std.specs.Prelude.{◌≡◌, ◌++◌, ◌<◌, ◌≤◌, ◌+◌, ◌*◌, [], take, drop, length, string_bytes, decimal, unwrap_or, if◌then◌else◌, IfOk, IsSome, OnErr, OnOk};
 ghost use Rattle.ray_bytes.specs.Hits.{hit_of_bytes};
 ghost use Rattle.ray_action.specs.Memory.{bytes_at};
+ghost use Rattle.ray_action.specs.Clients.{Meaning};
 ghost use Rattle.ray_action.specs.Outcomes.{outcome_of};
 ghost use Rattle.ray_action.specs.Pieces.{command_at, host_action};
 ghost use Rattle.ray_action.specs.Readiness.{IsReady, AreCounts};
@@ -19,14 +20,14 @@ use std::alloc::{AllocError as NoMemory, Global};
 
 impl State {
     /// Appends the text of command number `i` to `out`: of a `read` from the bytes as they are now,
-    /// and of `sizes`; any other command has none. After a want of memory `out` is as before.
+    /// and of `sizes`; any other command has none. No client has a part in it. After a want of memory `out` is as before.
     #[tactic(auto, using(crate::proofs::Changing::command_is))]
     pub fn text(&self, rec: &Recording, i: u32, out: &mut Vec<u8>) -> Result<(), NoMemory>
         requires within { i < length rec.now }
         requires ready { IsReady (host_action (command_at rec.now i)) (memory_of self.now) }
-        ensures ok { OnOk result (out.new.items ≡ out.old.items
+        ensures ok { OnOk result ((meaning : Meaning) → out.new.items ≡ out.old.items
             ++ text_with (host_action (command_at rec.now i))
-            (outcome_of (host_action (command_at rec.now i)) (memory_of self.now))) }
+            (outcome_of meaning (host_action (command_at rec.now i)) (memory_of self.now))) }
         ensures err { OnErr result (out.new.items ≡ out.old.items) }
     {
         append(out, self.text_of(rec.command(i))?)
@@ -36,8 +37,9 @@ impl State {
     #[tactic(auto, unfolding(ray_action::specs::Pieces::host_action))]
     fn text_of(&self, command: &Command) -> Result<Vec<u8>, NoMemory>
         requires { IsReady (host_action command.now) (memory_of self.now) }
-        ensures { IfOk result (λ text. text.items ≡ text_with (host_action command.now)
-            (outcome_of (host_action command.now) (memory_of self.now))) }
+        ensures { IfOk result (λ text. (meaning : Meaning) → text.items
+            ≡ text_with (host_action command.now)
+            (outcome_of meaning (host_action command.now) (memory_of self.now))) }
     {
         match command {
             Command::Read {

@@ -2,6 +2,7 @@
 -- one thing.
 use Rattle.std.proofs.Common.{◌≡◌, ◌<◌, ◌≤◌, ℕ, true, false, List, Option, Some, None, IsSome, ◌⊎◌, inl, inr, refl, sym, ◌∙◌, ap, subst, arith}
 use Rattle.std.specs.Prelude.{◌||◌, not, slice_get, option_map, is_some}
+use Rattle.std.specs.Option.{option_map_or}
 use Rattle.std.proofs.lemmas.Bool.{cases_lt}
 use Rattle.ray_cmd.specs.declared.command.Command.{Command}
 use Rattle.ray_cmd.specs.declared.command.Command.TheVariants as commands
@@ -17,7 +18,8 @@ use Rattle.ray_rules.specs.Buffers.{is_held, v30}
 use Rattle.ray_rules.specs.Hazards.{is_one, maker_of_buffer, maker_of_structure, status_at}
 use Rattle.ray_rules.specs.Ids.{is_live, look}
 use Rattle.ray_rules.specs.Names.{v1}
-use Rattle.ray_rules.specs.Order.{last_wait}
+use Rattle.ray_rules.specs.declared.kind.Kind.TheVariants.{HostCommand}
+use Rattle.ray_rules.specs.Order.{kind_at, last_wait}
 use Rattle.ray_rules.specs.Phases.{is_same_phase, phase_needed, v28, v29}
 use Rattle.ray_rules.specs.Refusals.{AreKept, static_table}
 use Rattle.ray_rules.specs.Status.{Status}
@@ -82,22 +84,43 @@ no_stage what id c s same stage = none (sym (ap stage_of same) ∙ stage)
     none : None ≡ Some s → ⊥
     none e = absurd cc
 
-waited_if_gone : (rec : List Command) (n i j : ℕ) (c : Command) (s : Stage) (what : Thing) (id : ℕ) → IsAccepted rec n → slice_get rec i ≡ Some c → stage_of c ≡ Some s → i < n → j ≤ n
-    → Destroys rec what id i j → i < last_wait rec j
-waited_if_gone rec n i j c s what id accepted is stage within upto gone =
+-- a wait stands between a device command and a later command of the host, which stands before a third
+pub record IsBehindWait (rec : List Command) (i j : ℕ) : Type 0 where
+  pub host : ℕ
+  pub waited : i < last_wait rec host
+  pub below : host < j
+  pub is_host : kind_at rec host ≡ HostCommand
+
+-- so it is where a thing of the first command is destroyed
+behind_if_gone : (rec : List Command) (n i j : ℕ) (c : Command) (s : Stage) (what : Thing) (id : ℕ) → IsAccepted rec n → slice_get rec i ≡ Some c → stage_of c ≡ Some s → i < n → j ≤ n
+    → Destroys rec what id i j → IsBehindWait rec i j
+unfolding kind_of
+behind_if_gone rec n i j c s what id accepted is stage within upto gone =
     let from : i ≤ gone.at = gone.from in
     let below : gone.at < j = gone.below in
     let busy = device_busy rec i c s is stage (state_kept rec n i c accepted within is).phase in
     elim (cases_lt i gone.at) [
       | inl less ↦
           (let idle = idle_at_destroy (status_at rec gone.at) what id (state_kept rec n gone.at (commands.Destroy what id) accepted (omega (arith, below, upto)) gone.is_it) in
-          let waited : i < last_wait rec gone.at = wait_between rec i gone.at busy less idle in
-          let later : last_wait rec gone.at ≤ last_wait rec j = wait_later rec gone.at j (omega (arith, below)) in
-          omega (arith, waited, later))
+          record {
+            host = gone.at;
+            waited = wait_between rec i gone.at busy less idle;
+            below = below;
+            is_host = ap (λ o. option_map_or kind_of o HostCommand) gone.is_it;
+          })
       | inr more ↦
           (let same : i ≡ gone.at = omega (arith, from, more) in
           absurd (no_stage what id c s (same_some c (commands.Destroy what id) (sym is ∙ (ap (slice_get rec) same ∙ gone.is_it))) stage))
     ]
+
+waited_if_gone : (rec : List Command) (n i j : ℕ) (c : Command) (s : Stage) (what : Thing) (id : ℕ) → IsAccepted rec n → slice_get rec i ≡ Some c → stage_of c ≡ Some s → i < n → j ≤ n
+    → Destroys rec what id i j → i < last_wait rec j
+waited_if_gone rec n i j c s what id accepted is stage within upto gone =
+    let behind = behind_if_gone rec n i j c s what id accepted is stage within upto gone in
+    let waited : i < last_wait rec behind.host = behind.waited in
+    let below : behind.host < j = behind.below in
+    let later : last_wait rec behind.host ≤ last_wait rec j = wait_later rec behind.host j (omega (arith, below)) in
+    omega (arith, waited, later)
 
 -- ---- one thing, or a wait
 
@@ -109,12 +132,12 @@ one_maker : (a b : Option ℕ) (m : ℕ) → a ≡ Some m → b ≡ Some m → i
 one_maker a b m p q = (λ i. is_one (p i) (q i)) ∙ equal_is m m refl
 
 pub one_or_waited : (rec : List Command) (n i j : ℕ) (c : Command) (s : Stage) (l : Location) → IsAccepted rec n → slice_get rec i ≡ Some c → stage_of c ≡ Some s → i < j → j ≤ n
-    → IsThere (status_at rec i) l → (i < last_wait rec j) ⊎ IsOneThing (status_at rec i) (status_at rec j) l
+    → IsThere (status_at rec i) l → IsBehindWait rec i j ⊎ IsOneThing (status_at rec i) (status_at rec j) l
 one_or_waited rec n i j c s (ByteAt b at) accepted is stage less upto live =
     let made = made_by (λ (x : LiveBuffer). x.made) (look (status_at rec i).buffers b) live in
     elim (buffer_until rec n b i made.0 (are_named rec n accepted) made.1 j (omega (arith, less)) upto) [
       | inl same ↦ inr (one_maker (maker_of_buffer (status_at rec i) b) (maker_of_buffer (status_at rec j) b) made.0 made.1 same)
-      | inr gone ↦ inl (waited_if_gone rec n i j c s things.Buffer b accepted is stage (omega (arith, less, upto)) upto gone)
+      | inr gone ↦ inl (behind_if_gone rec n i j c s things.Buffer b accepted is stage (omega (arith, less, upto)) upto gone)
     ]
 one_or_waited rec n i j c s (BufferAt id) accepted is stage less upto live = inr tt
 one_or_waited rec n i j c s (StructureAt id) accepted is stage less upto live = inr tt
@@ -122,7 +145,7 @@ one_or_waited rec n i j c s (ContentsAt id) accepted is stage less upto live =
     let made = made_by (λ (x : LiveStructure). x.made) (look (status_at rec i).structures id) live in
     elim (structure_until rec n id i made.0 (are_named rec n accepted) made.1 j (omega (arith, less)) upto) [
       | inl same ↦ inr (one_maker (maker_of_structure (status_at rec i) id) (maker_of_structure (status_at rec j) id) made.0 made.1 same)
-      | inr gone ↦ inl (waited_if_gone rec n i j c s things.Structure id accepted is stage (omega (arith, less, upto)) upto gone)
+      | inr gone ↦ inl (behind_if_gone rec n i j c s things.Structure id accepted is stage (omega (arith, less, upto)) upto gone)
     ]
 
 -- ---- a host command

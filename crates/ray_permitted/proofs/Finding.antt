@@ -12,17 +12,17 @@ use Rattle.ray_schedule.proofs.Course.{MayFetch, reads_in_order}
 use Rattle.ray_schedule.proofs.Permitted.{in_order, may_store, on_course, storing, unit-stores, unit_below}
 use Rattle.ray_schedule.proofs.Places.{StoredBefore}
 use Rattle.ray_schedule.proofs.Waving.{may_fetch_in_wave}
-use Rattle.ray_cmd.specs.declared.command.Command.{Command}
 use Rattle.ray_action.specs.Memory as actions
-use Rattle.ray_action.specs.Outcomes.{Outcome, Gives, Breaks, Undefined, outcome_of}
+use Rattle.ray_action.specs.Outcomes.{Outcome, Gives, Breaks, Undefined}
 use Rattle.ray_action.specs.Pieces.{Numbered}
-use Rattle.ray_action.specs.Running.{action_at}
+use Rattle.ray_action.specs.Running.{action_at, outcome_at}
 use Rattle.ray_action.specs.Running as running
 use Rattle.ray_ready.specs.Laws.{AreSources, IsGiven, first_actions}
 use Rattle.ray_ready.proofs.Local.{ready_local}
 use Rattle.ray_permitted.specs.Laws.{AtEachStore, StoresAreReady, StoresFindTheSame, WavesAreReady, WavesReadTheSame}
-use Rattle.ray_permitted.specs.Work.{stores_nothing, work_in}
-use Rattle.ray_permitted.proofs.Fetching.{ready_by_sources, separated_orderly}
+use Rattle.ray_permitted.specs.Job.{Job}
+use Rattle.ray_permitted.specs.Work.{stores_nothing, work_of}
+use Rattle.ray_permitted.proofs.Fetching.{ready_by_sources, runnable_orderly}
 use Rattle.ray_permitted.proofs.Runs.{memory_is}
 
 -- ---- any device
@@ -81,24 +81,24 @@ module _ {Location : Type 0} {Held : Location → Type 0} {Outcome : Type 0} (wo
 -- ---- the work of commands
 
 stores_find : StoresFindTheSame
-stores_find rec order n es i p e accepted separates permitted at stores = λ l reads.
-    let o = separated_orderly rec order n accepted separates in
-    let w = work_in rec order n in
+stores_find job n es i p e runnable permitted at stores = λ l reads.
+    let o = runnable_orderly job n runnable in
+    let w = work_of job n in
     store_finds_all w.device w.start w.before w.count es o.local o.ordered permitted i p e l at stores reads
-    ∙ (λ j. memory_is rec (first_actions rec n) p j l)
+    ∙ (λ j. memory_is job (first_actions job.commands n) p j l)
 
 stores_ready : StoresAreReady
-stores_ready rec order n es i p e accepted separates permitted at stores ready =
-    ready_local (action_at (first_actions rec n) p) (running.memory_before (first_actions rec n) p) _
-    (λ l reads. sym (stores_find rec order n es i p e accepted separates permitted at stores l reads)) ready
+stores_ready job n es i p e runnable permitted at stores ready =
+    ready_local (action_at (first_actions job.commands n) p) (running.memory_before job.clients (first_actions job.commands n) p) _
+    (λ l reads. sym (stores_find job n es i p e runnable permitted at stores l reads)) ready
 
 pub at_each_store : AtEachStore
 at_each_store = record { reads = stores_find; ready = stores_ready }
 
 pub waves_read_the_same : WavesReadTheSame
-waves_read_the_same rec order n number v bound p memory rising done below is = λ l reads.
-    waves_read (work_in rec order n) number v bound p memory rising done below is l reads
-    ∙ (λ j. memory_is rec (first_actions rec n) p j l)
+waves_read_the_same job n number v bound p memory rising done below is = λ l reads.
+    waves_read (work_of job n) number v bound p memory rising done below is l reads
+    ∙ (λ j. memory_is job (first_actions job.commands n) p j l)
 
 -- ---- readiness in a wave
 
@@ -107,11 +107,11 @@ given_from (Gives output) e = tt
 given_from (Breaks fault) e = absurd cc
 given_from Undefined e = absurd cc
 
-wave_sources : (rec : List Command) (order : ℕ → ℕ → Bool) (n : ℕ) (number : ℕ → ℕ) (v bound p : ℕ) (memory : actions.Memory)
-    → AreRising (work_in rec order n).device number (work_in rec order n).count → IsDoneTo (work_in rec order n) number v bound memory → p < bound → number p ≡ v
-    → AreSources (first_actions rec n) (λ q. nat_lt (number q) v || q == p) p
-wave_sources rec order n number v bound p memory rising done below is =
-    let us : List Numbered = first_actions rec n in
+wave_sources : (job : Job) (n : ℕ) (number : ℕ → ℕ) (v bound p : ℕ) (memory : actions.Memory)
+    → AreRising (work_of job n).device number (work_of job n).count → IsDoneTo (work_of job n) number v bound memory → p < bound → number p ≡ v
+    → AreSources job.clients (first_actions job.commands n) (λ q. nat_lt (number q) v || q == p) p
+wave_sources job n number v bound p memory rising done below is =
+    let us : List Numbered = first_actions job.commands n in
     let within : bound ≤ length us = done.within in
     record {
       closed = λ q r l before upto member w reads.
@@ -126,15 +126,15 @@ wave_sources rec order n number v bound p memory rising done below is =
             | inl s ↦ ltb-true (number q) v s
             | inr s ↦ (let same : q ≡ p = eqb-true q p s in absurd (omega arith))
           ] in
-          given_from (outcome_of (action_at us q) (running.memory_before us q))
-          (ap (λ m. stores_nothing (outcome_of (action_at us q) m)) (sym (memory_is rec us q)) ∙ done.none_below q (omega arith) earlier);
+          given_from (outcome_at job.clients us q (running.memory_before job.clients us q))
+          (ap (λ m. stores_nothing (outcome_at job.clients us q m)) (sym (memory_is job us q)) ∙ done.none_below q (omega arith) earlier);
     }
 
 pub waves_are_ready : WavesAreReady
-waves_are_ready rec order n number v bound p memory accepted rising done below is =
-    let us : List Numbered = first_actions rec n in
+waves_are_ready job n number v bound p memory accepted rising done below is =
+    let us : List Numbered = first_actions job.commands n in
     let within : bound ≤ length us = done.within in
-    ready_local (action_at us p) (running.memory_before us p) memory
-    (λ l reads. sym (waves_read_the_same rec order n number v bound p memory rising done below is l reads))
-    (ready_by_sources rec n p (λ q. nat_lt (number q) v || q == p) accepted (omega (arith, below, within))
-    (or_right (nat_lt (number p) v) (p == p) (eq-eqb p p refl)) (wave_sources rec order n number v bound p memory rising done below is))
+    ready_local (action_at us p) (running.memory_before job.clients us p) memory
+    (λ l reads. sym (waves_read_the_same job n number v bound p memory rising done below is l reads))
+    (ready_by_sources job.clients job.commands n p (λ q. nat_lt (number q) v || q == p) accepted (omega (arith, below, within))
+    (or_right (nat_lt (number p) v) (p == p) (eq-eqb p p refl)) (wave_sources job n number v bound p memory rising done below is))

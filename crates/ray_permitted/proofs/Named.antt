@@ -4,7 +4,6 @@ use Rattle.std.specs.Prelude.{◌||◌, slice_get, is_some}
 use Rattle.std.specs.List.{flat_map, list_any}
 use Rattle.std.specs.Option.{option_map_or, option_to_list}
 use Rattle.ray_flags.specs.declared.ray_flags.RayFlags.{RayFlags}
-use Rattle.ray_script.specs.declared.raw_rule.RawRule.{RawRule}
 use Rattle.ray_cmd.specs.declared.asked.Asked.{Asked}
 use Rattle.ray_cmd.specs.declared.build_mode.BuildMode.{BuildMode}
 use Rattle.ray_cmd.specs.declared.build_mode.BuildMode.TheVariants as modes
@@ -291,10 +290,10 @@ used_there rec z (Some b) u fresh used =
     let f = fresh_of b.stamp (look z.structures u) (fails_at (is_stale z b.stamp) (uses_of rec b) u (no_part (is_stale z b.stamp) (uses_of rec b) fresh) used) in
     built_of kinds.Bottom (look z.structures u) f.by f.built
 
-rays_named : (rec : List Command) (z : Status) (top : ℕ) (rays hits : Spot) (count : ℕ) (flags : RayFlags) (mask : ℕ) (script : List RawRule) (k : ℕ)
+rays_named : (rec : List Command) (z : Status) (top : ℕ) (rays hits : Spot) (count : ℕ) (flags : RayFlags) (mask : ℕ) (k : ℕ)
     → IsSome (look z.structures top) → IsSome (look z.buffers rays.buffer) → IsSome (look z.buffers hits.buffer) → first_stale rec z (built_at z top) ≡ None
-    → IsNamed z (rays_action rec z top rays hits count flags mask script k)
-rays_named rec z top rays hits count flags mask script k live from to fresh =
+    → IsNamed z (rays_action rec z top rays hits count flags mask k)
+rays_named rec z top rays hits count flags mask k live from to fresh =
     let r = rays_range rays count k in
     let h = hits_range hits count k in
     let uses = uses_at rec z top in record {
@@ -360,9 +359,9 @@ named rec z (commands.Trace top rays count hits flags mask script) s k a may sta
     let keep = keeps rec z (commands.Trace top rays count hits flags mask script) may.rules in
     let live = not_broken (lacks_structure z top || (lacks_buffer z rays.buffer || lacks_buffer z hits.buffer)) keep.names in
     let buffers = no_second (lacks_structure z top) (lacks_buffer z rays.buffer || lacks_buffer z hits.buffer) live in
-    let r = made_of_number (rays_action rec z top rays hits count flags mask script) 0 (trace_pieces count) k a there in
+    let r = made_of_number (rays_action rec z top rays hits count flags mask) 0 (trace_pieces count) k a there in
     subst (IsNamed z) r.1
-    (rays_named rec z top rays hits count flags mask script (0 + k)
+    (rays_named rec z top rays hits count flags mask (0 + k)
     (is_there (look z.structures top) (no_first (lacks_structure z top) (lacks_buffer z rays.buffer || lacks_buffer z hits.buffer) live))
     (is_there (look z.buffers rays.buffer) (no_first (lacks_buffer z rays.buffer) (lacks_buffer z hits.buffer) buffers))
     (is_there (look z.buffers hits.buffer) (no_second (lacks_buffer z rays.buffer) (lacks_buffer z hits.buffer) buffers)) keep.fresh)

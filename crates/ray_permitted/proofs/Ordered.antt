@@ -1,6 +1,6 @@
 -- Conflicting actions of accepted commands are ordered by an order that separates these.
 use Rattle.std.proofs.Common.{◌≡◌, ◌<◌, ◌≤◌, ℕ, Bool, true, false, List, [], ◌∷◌, Some, inl, inr, refl, sym, ◌∙◌, ap, subst, arith}
-use Rattle.std.specs.Prelude.{◌||◌, slice_get, unwrap_or}
+use Rattle.std.specs.Prelude.{◌&&◌, ◌||◌, nat_lt, slice_get, unwrap_or}
 use Rattle.std.specs.Option.{option_map_or}
 use Rattle.std.proofs.lemmas.Bool.{cases_eq, cases_lt}
 use Rattle.ray_schedule.specs.Conflicts.{AreOrdered, Conflict, IsForward, ReadAfterWrite, WriteAfterRead, WriteAfterWrite}
@@ -21,16 +21,18 @@ use Rattle.ray_action.specs.Action.{Action, MakeBuffer, MakeStructure, Rest, are
 use Rattle.ray_action.specs.Areas.{cover}
 use Rattle.ray_action.specs.Memory.{Location}
 use Rattle.ray_action.specs.Pieces.{Numbered, actions_of, host_action}
-use Rattle.ray_action.specs.Running.{action_at}
+use Rattle.ray_action.specs.Running.{action_at, number_at}
 use Rattle.ray_action.specs.Storing.{writes}
 use Rattle.ray_action.specs.Touching.{holds_data, touched}
 use Rattle.ray_ready.specs.Accepted.{IsAccepted, MayRun}
 use Rattle.ray_ready.specs.Laws.{first_actions}
 use Rattle.ray_ready.proofs.Kept.{keeps}
-use Rattle.ray_permitted.specs.Separates.{GoesForward, Separates, accesses_conflict}
-use Rattle.ray_permitted.specs.Work.{command_at, device_of, work_in}
-use Rattle.ray_permitted.proofs.Truth.{item_at, no_first, one_item, or_left, or_right, same_some}
-use Rattle.ray_permitted.proofs.Waits.{device_busy, is_busy, not_broken, wait_between}
+use Rattle.ray_permitted.specs.Job.{Job, comes_before}
+use Rattle.ray_permitted.specs.Laws.{NumbersRise}
+use Rattle.ray_permitted.specs.Separates.{GoesForward, NumbersSeparate, Separates, accesses_conflict}
+use Rattle.ray_permitted.specs.Work.{device_of, work_of}
+use Rattle.ray_permitted.proofs.Truth.{and_first, and_second, both, is_less, item_at, less_is, no_first, one_item, or_left, or_right, same_some}
+use Rattle.ray_permitted.proofs.Waits.{device_busy, is_busy, not_broken, wait_below, wait_between}
 use Rattle.ray_permitted.proofs.Units.{AreTwo, piece_at, two_at, unit_is}
 use Rattle.ray_permitted.proofs.Named.{IsThere, named}
 use Rattle.ray_permitted.proofs.Sharing.{IsOneThing, some_shared}
@@ -211,7 +213,7 @@ device_ordered rec order n i j c d s t a b l k m separates p from to x y =
     let here = kind_is rec i c (Device s) p.first x in
     let there = kind_is rec j d (Device t) p.second y in
     elim (one_or_waited rec n i j c s l p.accepted p.first from p.less (omega (arith, within)) (is_there rec n i j c d s a b l k m p from)) [
-      | inl waited ↦ separates.device_waits i j s t waited p.within here there
+      | inl behind ↦ separates.device_waits i behind.host j s t behind.waited behind.below p.within here behind.is_host there
       | inr one ↦ separates.conflicts i j s t p.less p.within here there (accesses_clash rec n i j c d s t a b l k m p from to one p.clash)
     ]
 
@@ -266,25 +268,59 @@ two_ordered rec order n u v l accepted separates two clash =
     ]
 
 -- a conflict of two units is one of their actions
-clash_of : (rec : List Command) (units : List Numbered) (p q : ℕ) (u v : Numbered) (l : Location) → action_at units p ≡ u.action → action_at units q ≡ v.action
-    → Conflict (device_of rec units) p q l → Clash u.action v.action l
-clash_of rec units p q u v l here there (WriteAfterWrite x y) =
+clash_of : (job : Job) (units : List Numbered) (p q : ℕ) (u v : Numbered) (l : Location) → action_at units p ≡ u.action → action_at units q ≡ v.action
+    → Conflict (device_of job units) p q l → Clash u.action v.action l
+clash_of job units p q u v l here there (WriteAfterWrite x y) =
     BothWrite (subst (λ a. writes a l ≡ true) here x) (subst (λ a. writes a l ≡ true) there y)
-clash_of rec units p q u v l here there (ReadAfterWrite x y) =
+clash_of job units p q u v l here there (ReadAfterWrite x y) =
     ReadsLater (subst (λ a. writes a l ≡ true) here x) (subst (λ a. cover (areas_read a) l ≡ true) there y)
-clash_of rec units p q u v l here there (WriteAfterRead x y) =
+clash_of job units p q u v l here there (WriteAfterRead x y) =
     WritesLater (subst (λ a. cover (areas_read a) l ≡ true) here x) (subst (λ a. writes a l ≡ true) there y)
 
-pub are_ordered : (rec : List Command) (order : ℕ → ℕ → Bool) (n : ℕ) → IsAccepted rec n → Separates rec n order
-    → AreOrdered (work_in rec order n).device order (work_in rec order n).count
-are_ordered rec order n accepted separates p q l less below conflict =
+-- an order that separates commands need not be that of the job
+pub are_ordered : (job : Job) (order : ℕ → ℕ → Bool) (n : ℕ) → IsAccepted job.commands n → Separates job.commands n order
+    → AreOrdered (work_of job n).device order (work_of job n).count
+are_ordered job order n accepted separates p q l less below conflict =
+    let rec : List Command = job.commands in
     let us : List Numbered = first_actions rec n in
     let u = item_at us p (omega (arith, less, below)) in
     let v = item_at us q below in
     let here = unit_is us p u.0 u.1 in
     let there = unit_is us q v.0 v.1 in
     (λ i. order (here.1 i) (there.1 i))
-    ∙ two_ordered rec order n u.0 v.0 l accepted separates (two_at rec n p q u.0 v.0 less u.1 v.1) (clash_of rec us p q u.0 v.0 l here.0 there.0 conflict)
+    ∙ two_ordered rec order n u.0 v.0 l accepted separates (two_at rec n p q u.0 v.0 less u.1 v.1) (clash_of job us p q u.0 v.0 l here.0 there.0 conflict)
+
+-- ---- wave numbers
+
+-- numbers that separate commands, as an order: a command comes before a later one with a greater number
+abbrev by_number : (ℕ → ℕ) → ℕ → ℕ → Bool
+by_number number i j = nat_lt i j && nat_lt (number i) (number j)
+
+rises : (number : ℕ → ℕ) (i j : ℕ) → i < j → number i < number j → by_number number i j ≡ true
+rises number i j less more = both (nat_lt i j) (nat_lt (number i) (number j)) (less_is i j less) (less_is (number i) (number j) more)
+
+numbers_separate : (rec : List Command) (n : ℕ) (number : ℕ → ℕ) → NumbersSeparate rec n number → Separates rec n (by_number number)
+numbers_separate rec n number separate = record {
+  forward = λ i j here there e. is_less i j (and_first (nat_lt i j) (nat_lt (number i) (number j)) e);
+  host = λ i j less within host. rises number i j less (separate.host i j less within host);
+  host_waits = λ i j s waited within here there.
+      let below : last_wait rec j ≤ j = wait_below rec j in
+      rises number i j (omega (arith, waited, below)) (separate.host_waits i j s waited within here there);
+  device_waits = λ i h j s t waited less within here host there.
+      let below : last_wait rec h ≤ h = wait_below rec h in
+      let first : number i < number h = separate.host_waits i h s waited (omega (arith, less, within)) here host in
+      let second : number h < number j = separate.host h j less within host in
+      rises number i j (omega (arith, waited, below, less)) (omega (arith, first, second));
+  conflicts = λ i j s t less within here there conflict. rises number i j less (separate.conflicts i j s t less within here there conflict);
+}
+
+pub numbers_rise : NumbersRise
+numbers_rise job n number accepted separate p q l less below conflict =
+    let us : List Numbered = first_actions job.commands n in
+    let i : ℕ = number_at us p in
+    let j : ℕ = number_at us q in
+    let e = are_ordered job (by_number number) n accepted (numbers_separate job.commands n number separate) p q l less below conflict in
+    is_less (number i) (number j) (and_second (nat_lt i j) (nat_lt (number i) (number j)) e)
 
 -- ---- the order goes forward
 
@@ -310,8 +346,9 @@ forward_by rec n p q u v less two same =
     beyond : (p q : ℕ) → q ≤ p → (p ≡ q → ⊥) → q < p
     beyond p q more differs = elim (cases_lt q p) [ inl l ↦ l | inr g ↦ absurd (differs (omega (arith, more, g))) ]
 
-pub is_forward : (rec : List Command) (order : ℕ → ℕ → Bool) (n : ℕ) → GoesForward n order → IsForward (work_in rec order n).device order (work_in rec order n).count
-is_forward rec order n forward p q less below e =
+pub is_forward : (job : Job) (n : ℕ) → GoesForward n (comes_before job) → IsForward (work_of job n).device (comes_before job) (work_of job n).count
+is_forward job n forward p q less below e =
+    let rec : List Command = job.commands in
     let us : List Numbered = first_actions rec n in
     let u = item_at us p less in
     let v = item_at us q below in
@@ -320,5 +357,5 @@ is_forward rec order n forward p q less below e =
     let first = piece_at rec n p u.0 u.1 in
     let second = piece_at rec n q v.0 v.1 in
     forward_by rec n p q u.0 v.0
-    (forward u.0.command v.0.command first.1.below second.1.below (sym (λ i. order (here.1 i) (there.1 i)) ∙ e))
-    (λ later. two_at rec n q p v.0 u.0 later v.1 u.1) (λ same. sym here.1 ∙ (ap (command_at us) same ∙ there.1))
+    (forward u.0.command v.0.command first.1.below second.1.below (sym (λ i. comes_before job (here.1 i) (there.1 i)) ∙ e))
+    (λ later. two_at rec n q p v.0 u.0 later v.1 u.1) (λ same. sym here.1 ∙ (ap (number_at us) same ∙ there.1))

@@ -13,11 +13,13 @@ use Rattle.ray_bytes.specs.declared.data_rule.DataRule.TheVariants.{X13}
 use Rattle.ray_cmd.specs.declared.read_form.ReadForm.TheVariants.{Hex, U64}
 use Rattle.ray_cmd.specs.declared.structure_kind.StructureKind.TheVariants.{Bottom}
 use Rattle.ray_rules.specs.Status.{after}
+use Rattle.ray_action.specs.Clients.{scripts}
 use Rattle.ray_action.specs.Memory.{bytes_from}
 use Rattle.ray_action.specs.Pieces.{actions_from, actions_of, host_action}
 use Rattle.ray_action.specs.Running.{Refused, Text, run_of}
 use Rattle.ray_action.specs.Text.{digits_line}
 use Rattle.ray_permitted.specs.Along.{run_along}
+use Rattle.ray_permitted.specs.Job.{recorded}
 
 -- a buffer of bytes, one of structures, and the end of a recording that hands on to the host
 abbrev bytes : ℕ → ℕ → Command
@@ -39,15 +41,15 @@ apart =
     ∷ commands.Fill 1 0 4 9
     ∷ finish (commands.Read 0 0 4 Hex ∷ commands.Read 1 0 4 Hex ∷ [])
 
-apart_exchanged : run_along apart 11
+apart_exchanged : run_along (recorded apart) 11
     (Act 0 ∷ Act 1 ∷ Act 2 ∷ Fetch 4 ∷ Store 4 ∷ Fetch 3 ∷ Store 3 ∷ Fetch 5 ∷ Store 5 ∷ Act 6 ∷ Act 7 ∷ Act 8 ∷ Act 9 ∷ Act 10 ∷ [])
-    ≡ run_of apart
+    ≡ run_of (scripts apart) apart
 unfolding run_of run_along actions_from actions_of host_action after bytes_from
 apart_exchanged = refl
 
-apart_stored_late : run_along apart 11
+apart_stored_late : run_along (recorded apart) 11
     (Act 0 ∷ Act 1 ∷ Act 2 ∷ Fetch 3 ∷ Fetch 4 ∷ Store 4 ∷ Store 3 ∷ Fetch 5 ∷ Store 5 ∷ Act 6 ∷ Act 7 ∷ Act 8 ∷ Act 9 ∷ Act 10 ∷ [])
-    ≡ run_of apart
+    ≡ run_of (scripts apart) apart
 unfolding run_of run_along actions_from actions_of host_action after bytes_from
 apart_stored_late = refl
 
@@ -60,15 +62,15 @@ regions =
     ∷ commands.Copy 0 1 (record { src_offset = 0; dst_offset = 2; size = 2 } ∷ record { src_offset = 2; dst_offset = 0; size = 2 } ∷ [])
     ∷ finish (commands.Read 1 0 4 Hex ∷ [])
 
-regions_exchanged : run_along regions 9
+regions_exchanged : run_along (recorded regions) 9
     (Act 0 ∷ Act 1 ∷ Act 2 ∷ Fetch 4 ∷ Store 4 ∷ Fetch 3 ∷ Store 3 ∷ Fetch 5 ∷ Store 5 ∷ Act 6 ∷ Act 7 ∷ Act 8 ∷ Act 9 ∷ [])
-    ≡ run_of regions
+    ≡ run_of (scripts regions) regions
 unfolding run_of run_along actions_from actions_of host_action after bytes_from
 regions_exchanged = refl
 
-regions_fetched_early : run_along regions 9
+regions_fetched_early : run_along (recorded regions) 9
     (Act 0 ∷ Act 1 ∷ Act 2 ∷ Fetch 3 ∷ Fetch 4 ∷ Store 3 ∷ Store 4 ∷ Fetch 5 ∷ Store 5 ∷ Act 6 ∷ Act 7 ∷ Act 8 ∷ Act 9 ∷ [])
-    ≡ run_of regions
+    ≡ run_of (scripts regions) regions
 unfolding run_of run_along actions_from actions_of host_action after bytes_from
 regions_fetched_early = refl
 
@@ -81,9 +83,9 @@ beside =
     ∷ commands.Update 0 4 (6 ∷ 7 ∷ 8 ∷ 9 ∷ [])
     ∷ finish (commands.Read 0 0 8 Hex ∷ [])
 
-beside_exchanged : run_along beside 9
+beside_exchanged : run_along (recorded beside) 9
     (Act 0 ∷ Act 1 ∷ Fetch 3 ∷ Fetch 2 ∷ Store 3 ∷ Store 2 ∷ Fetch 4 ∷ Store 4 ∷ Act 5 ∷ Act 6 ∷ Act 7 ∷ Act 8 ∷ [])
-    ≡ run_of beside
+    ≡ run_of (scripts beside) beside
 unfolding run_of run_along actions_from actions_of host_action after bytes_from
 beside_exchanged = refl
 
@@ -97,15 +99,15 @@ three =
     ∷ commands.Update 0 8 (3 ∷ 3 ∷ 3 ∷ 3 ∷ [])
     ∷ finish (commands.Read 0 0 12 Hex ∷ [])
 
-three_turned_round : run_along three 10
+three_turned_round : run_along (recorded three) 10
     (Act 0 ∷ Act 1 ∷ Fetch 4 ∷ Store 4 ∷ Fetch 3 ∷ Store 3 ∷ Fetch 2 ∷ Store 2 ∷ Fetch 5 ∷ Store 5 ∷ Act 6 ∷ Act 7 ∷ Act 8 ∷ Act 9 ∷ [])
-    ≡ run_of three
+    ≡ run_of (scripts three) three
 unfolding run_of run_along actions_from actions_of host_action after bytes_from
 three_turned_round = refl
 
-three_in_one_wave : run_along three 10
+three_in_one_wave : run_along (recorded three) 10
     (Act 0 ∷ Act 1 ∷ Fetch 3 ∷ Fetch 4 ∷ Fetch 2 ∷ Store 4 ∷ Store 2 ∷ Store 3 ∷ Fetch 5 ∷ Store 5 ∷ Act 6 ∷ Act 7 ∷ Act 8 ∷ Act 9 ∷ [])
-    ≡ run_of three
+    ≡ run_of (scripts three) three
 unfolding run_of run_along actions_from actions_of host_action after bytes_from
 three_in_one_wave = refl
 
@@ -124,15 +126,15 @@ sizes =
     ∷ commands.Copy 0 1 (record { src_offset = 0; dst_offset = 0; size = 4 } ∷ [])
     ∷ finish (commands.Read 1 0 4 Hex ∷ commands.Read 2 0 8 U64 ∷ [])
 
-sizes_stored_late : run_along sizes 16
+sizes_stored_late : run_along (recorded sizes) 16
     (Act 0 ∷ Act 1 ∷ Act 2 ∷ Act 3 ∷ Act 4 ∷ Act 5 ∷ Fetch 6 ∷ Fetch 7 ∷ Store 7 ∷ Fetch 8 ∷ Store 8 ∷ Fetch 9 ∷ Store 9 ∷ Store 6 ∷ Fetch 10 ∷ Store 10 ∷ Act 11 ∷ Act 12 ∷ Act 13 ∷ Act 14 ∷ Act 15 ∷ [])
-    ≡ run_of sizes
+    ≡ run_of (scripts sizes) sizes
 unfolding run_of run_along actions_from actions_of host_action after bytes_from
 sizes_stored_late = refl
 
-sizes_fetched_late : run_along sizes 16
+sizes_fetched_late : run_along (recorded sizes) 16
     (Act 0 ∷ Act 1 ∷ Act 2 ∷ Act 3 ∷ Act 4 ∷ Act 5 ∷ Fetch 7 ∷ Store 7 ∷ Fetch 8 ∷ Store 8 ∷ Fetch 9 ∷ Fetch 6 ∷ Store 6 ∷ Store 9 ∷ Fetch 10 ∷ Store 10 ∷ Act 11 ∷ Act 12 ∷ Act 13 ∷ Act 14 ∷ Act 15 ∷ [])
-    ≡ run_of sizes
+    ≡ run_of (scripts sizes) sizes
 unfolding run_of run_along actions_from actions_of host_action after bytes_from
 sizes_fetched_late = refl
 
@@ -150,15 +152,15 @@ infos =
     ∷ commands.Property Serialized (0 ∷ 1 ∷ []) (record { buffer = 2; offset = 0 })
     ∷ finish (commands.Read 2 0 16 U64 ∷ [])
 
-infos_exchanged : run_along infos 14
+infos_exchanged : run_along (recorded infos) 14
     (Act 0 ∷ Act 1 ∷ Act 2 ∷ Act 3 ∷ Act 4 ∷ Act 5 ∷ Fetch 7 ∷ Store 7 ∷ Fetch 6 ∷ Store 6 ∷ Fetch 8 ∷ Store 8 ∷ Fetch 9 ∷ Store 9 ∷ Fetch 10 ∷ Store 10 ∷ Act 11 ∷ Act 12 ∷ Act 13 ∷ Act 14 ∷ [])
-    ≡ run_of infos
+    ≡ run_of (scripts infos) infos
 unfolding run_of run_along actions_from actions_of host_action after bytes_from
 infos_exchanged = refl
 
-infos_in_one_wave : run_along infos 14
+infos_in_one_wave : run_along (recorded infos) 14
     (Act 0 ∷ Act 1 ∷ Act 2 ∷ Act 3 ∷ Act 4 ∷ Act 5 ∷ Fetch 7 ∷ Fetch 6 ∷ Store 6 ∷ Store 7 ∷ Fetch 8 ∷ Store 8 ∷ Fetch 9 ∷ Store 9 ∷ Fetch 10 ∷ Store 10 ∷ Act 11 ∷ Act 12 ∷ Act 13 ∷ Act 14 ∷ [])
-    ≡ run_of infos
+    ≡ run_of (scripts infos) infos
 unfolding run_of run_along actions_from actions_of host_action after bytes_from
 infos_in_one_wave = refl
 
@@ -177,15 +179,15 @@ clones =
     ∷ commands.Update 2 0 (9 ∷ 9 ∷ 9 ∷ 9 ∷ [])
     ∷ finish (commands.Read 2 0 4 Hex ∷ [])
 
-clones_exchanged : run_along clones 15
+clones_exchanged : run_along (recorded clones) 15
     (Act 0 ∷ Act 1 ∷ Act 2 ∷ Act 3 ∷ Act 4 ∷ Act 5 ∷ Fetch 6 ∷ Store 6 ∷ Fetch 7 ∷ Store 7 ∷ Fetch 9 ∷ Store 9 ∷ Fetch 8 ∷ Store 8 ∷ Fetch 10 ∷ Store 10 ∷ Act 11 ∷ Act 12 ∷ Act 13 ∷ Act 14 ∷ [])
-    ≡ run_of clones
+    ≡ run_of (scripts clones) clones
 unfolding run_of run_along actions_from actions_of host_action after bytes_from
 clones_exchanged = refl
 
-clones_stored_late : run_along clones 15
+clones_stored_late : run_along (recorded clones) 15
     (Act 0 ∷ Act 1 ∷ Act 2 ∷ Act 3 ∷ Act 4 ∷ Act 5 ∷ Fetch 6 ∷ Store 6 ∷ Fetch 7 ∷ Store 7 ∷ Fetch 8 ∷ Fetch 9 ∷ Store 9 ∷ Store 8 ∷ Fetch 10 ∷ Store 10 ∷ Act 11 ∷ Act 12 ∷ Act 13 ∷ Act 14 ∷ [])
-    ≡ run_of clones
+    ≡ run_of (scripts clones) clones
 unfolding run_of run_along actions_from actions_of host_action after bytes_from
 clones_stored_late = refl
 
@@ -205,13 +207,13 @@ refused =
     ∷ commands.CopyStructure Compact 0 5
     ∷ finish (commands.Read 2 0 8 Hex ∷ [])
 
-refused_exchanged : run_along refused 16
+refused_exchanged : run_along (recorded refused) 16
     (Act 0 ∷ Act 1 ∷ Act 2 ∷ Act 3 ∷ Act 4 ∷ Act 5 ∷ Act 6 ∷ Fetch 7 ∷ Store 7 ∷ Fetch 8 ∷ Store 8 ∷ Fetch 10 ∷ Store 10 ∷ Fetch 9 ∷ Store 9 ∷ Fetch 11 ∷ Store 11 ∷ Act 12 ∷ Act 13 ∷ Act 14 ∷ Act 15 ∷ [])
-    ≡ run_of refused
+    ≡ run_of (scripts refused) refused
 unfolding run_of run_along actions_from actions_of host_action after bytes_from
 refused_exchanged = refl
 
-refused_tells : run_of refused ≡ Refused (record { command = 9; rule = X X13; place = Whole })
+refused_tells : run_of (scripts refused) refused ≡ Refused (record { command = 9; rule = X X13; place = Whole })
 unfolding run_of actions_from actions_of host_action after bytes_from
 refused_tells = refl
 
@@ -228,15 +230,15 @@ chain =
     ∷ commands.Fill 2 0 4 8
     ∷ finish (commands.Read 1 0 4 Hex ∷ commands.Read 2 0 4 Hex ∷ [])
 
-chain_exchanged : run_along chain 14
+chain_exchanged : run_along (recorded chain) 14
     (Act 0 ∷ Act 1 ∷ Act 2 ∷ Act 3 ∷ Fetch 4 ∷ Store 4 ∷ Fetch 5 ∷ Store 5 ∷ Fetch 7 ∷ Fetch 6 ∷ Store 6 ∷ Store 7 ∷ Fetch 8 ∷ Store 8 ∷ Act 9 ∷ Act 10 ∷ Act 11 ∷ Act 12 ∷ Act 13 ∷ [])
-    ≡ run_of chain
+    ≡ run_of (scripts chain) chain
 unfolding run_of run_along actions_from actions_of host_action after bytes_from
 chain_exchanged = refl
 
-chain_barrier_late : run_along chain 14
+chain_barrier_late : run_along (recorded chain) 14
     (Act 0 ∷ Act 1 ∷ Act 2 ∷ Act 3 ∷ Fetch 4 ∷ Store 4 ∷ Fetch 7 ∷ Store 7 ∷ Fetch 6 ∷ Store 6 ∷ Fetch 5 ∷ Store 5 ∷ Fetch 8 ∷ Store 8 ∷ Act 9 ∷ Act 10 ∷ Act 11 ∷ Act 12 ∷ Act 13 ∷ [])
-    ≡ run_of chain
+    ≡ run_of (scripts chain) chain
 unfolding run_of run_along actions_from actions_of host_action after bytes_from
 chain_barrier_late = refl
 
@@ -251,9 +253,9 @@ readers =
     ∷ commands.Copy 0 2 (record { src_offset = 2; dst_offset = 0; size = 2 } ∷ [])
     ∷ finish (commands.Read 1 0 4 Hex ∷ commands.Read 2 0 4 Hex ∷ [])
 
-readers_exchanged : run_along readers 12
+readers_exchanged : run_along (recorded readers) 12
     (Act 0 ∷ Act 1 ∷ Act 2 ∷ Act 3 ∷ Fetch 5 ∷ Fetch 4 ∷ Store 5 ∷ Store 4 ∷ Fetch 6 ∷ Store 6 ∷ Act 7 ∷ Act 8 ∷ Act 9 ∷ Act 10 ∷ Act 11 ∷ [])
-    ≡ run_of readers
+    ≡ run_of (scripts readers) readers
 unfolding run_of run_along actions_from actions_of host_action after bytes_from
 readers_exchanged = refl
 
@@ -275,14 +277,14 @@ waits =
     ∷ commands.Update 2 0 (9 ∷ 8 ∷ 7 ∷ 6 ∷ [])
     ∷ finish (commands.Read 2 0 4 Hex ∷ commands.Read 1 0 4 Hex ∷ [])
 
-waits_exchanged : run_along waits 18
+waits_exchanged : run_along (recorded waits) 18
     (Act 0 ∷ Act 1 ∷ Act 2 ∷ Act 3 ∷ Fetch 5 ∷ Fetch 4 ∷ Store 4 ∷ Store 5 ∷ Act 6 ∷ Act 7 ∷ Act 8 ∷ Act 9 ∷ Fetch 10 ∷ Fetch 11 ∷ Store 11 ∷ Store 10 ∷ Fetch 12 ∷ Store 12 ∷ Act 13 ∷ Act 14 ∷ Act 15 ∷ Act 16 ∷ Act 17 ∷ [])
-    ≡ run_of waits
+    ≡ run_of (scripts waits) waits
 unfolding run_of run_along actions_from actions_of host_action after bytes_from
 waits_exchanged = refl
 
 -- what the first of them shows
-apart_shows : run_of apart ≡ Text (digits_line (7 ∷ 0 ∷ 0 ∷ 0 ∷ []) ++ (digits_line (9 ∷ 0 ∷ 0 ∷ 0 ∷ []) ++ []))
+apart_shows : run_of (scripts apart) apart ≡ Text (digits_line (7 ∷ 0 ∷ 0 ∷ 0 ∷ []) ++ (digits_line (9 ∷ 0 ∷ 0 ∷ 0 ∷ []) ++ []))
 unfolding run_of actions_from actions_of host_action after bytes_from
 apart_shows = refl
 
@@ -296,11 +298,11 @@ ordered =
     ∷ commands.Fill 0 0 4 9
     ∷ finish (commands.Read 0 0 4 Hex ∷ [])
 
-ordered_shows : run_of ordered ≡ Text (digits_line (9 ∷ 0 ∷ 0 ∷ 0 ∷ []) ++ [])
+ordered_shows : run_of (scripts ordered) ordered ≡ Text (digits_line (9 ∷ 0 ∷ 0 ∷ 0 ∷ []) ++ [])
 unfolding run_of actions_from actions_of host_action after bytes_from
 ordered_shows = refl
 
-not_permitted : run_along ordered 10
+not_permitted : run_along (recorded ordered) 10
     (Act 0 ∷ Act 1 ∷ Fetch 4 ∷ Store 4 ∷ Fetch 3 ∷ Store 3 ∷ Fetch 2 ∷ Store 2 ∷ Fetch 5 ∷ Store 5 ∷ Act 6 ∷ Act 7 ∷ Act 8 ∷ Act 9 ∷ [])
     ≡ Text (digits_line (7 ∷ 0 ∷ 0 ∷ 0 ∷ []) ++ [])
 unfolding run_along actions_from actions_of host_action after bytes_from

@@ -66,12 +66,12 @@ pieces_apart rec z (commands.Build infos) s k m a b l e stage less here there cl
     (info_of_piece rec z infos m b y.0 y.1 (touch_within rec z (commands.Build infos) s m b stage there))
     ((clear_at [] 0 infos (unmapped (first_conflict [] 0 infos) e) m y.0 y.1).1 k x.0 less x.1) clash
 pieces_apart rec z (commands.Trace top rays count hits flags mask script) s k m a b l e stage less here there clash =
-    let act = rays_action rec z top rays hits count flags mask script in
+    let act = rays_action rec z top rays hits count flags mask in
     let r = made_of_number act 0 (trace_pieces count) k a here in
     let t = made_of_number act 0 (trace_pieces count) m b there in
     let first : act k ≡ a = ap act (omega arith) ∙ r.1 in
     let second : act m ≡ b = ap act (omega arith) ∙ t.1 in
-    rays_apart rec z top rays hits count flags mask script k m l
+    rays_apart rec z top rays hits count flags mask k m l
     (not_broken (ranges.meets (range rays.buffer rays.offset (40 * count)) (range hits.buffer hits.offset (80 * count))) e) less r.0 t.0
     (subst (λ x. Clash x (act m) l) (sym first) (subst (λ x. Clash a x l) (sym second) clash))
 pieces_apart rec z _ s k m a b l e stage less here there clash = absurd cc

@@ -85,7 +85,7 @@ some_left count k less = omega (arith, less)
 has_rays : (rec : List Command) (z : Status) (c : Command) (k : ℕ) (a : Action) → slice_get (actions_of rec z c) k ≡ Some a → HasRays c k
 unfolding actions_of
 has_rays rec z (commands.Trace top rays count hits flags mask script) k a there =
-    some_left count k (made_of_number (rays_action rec z top rays hits count flags mask script) 0 (trace_pieces count) k a there).0
+    some_left count k (made_of_number (rays_action rec z top rays hits count flags mask) 0 (trace_pieces count) k a there).0
 has_rays rec z _ k a there = tt
 
 -- what reaches a location holds data

@@ -16,7 +16,6 @@ use Rattle.ray_permitted.proofs.Truth.{both, contradict, either, equal_is}
 use Rattle.ray_permitted.proofs.Sharing.{bytes_meet, low_of}
 use Rattle.ray_permitted.proofs.InfosApart.{Clash, BothWrite, ReadsLater, WritesLater}
 use Rattle.ray_flags.specs.declared.ray_flags.RayFlags.{RayFlags}
-use Rattle.ray_script.specs.declared.raw_rule.RawRule.{RawRule}
 use Rattle.ray_rules.specs.Access.{uses_at}
 use Rattle.ray_action.specs.Areas.{Bytes, ContentsOf, ContentsOfEach, is_contents_of_any}
 
@@ -80,14 +79,14 @@ reads_rays r h top uses l p e found =
     (λ it. no_contents h top l p it)
     (λ later. either (is_contents_of_any uses l) false later (λ used. no_contents_of_any h uses l p used) (λ none. absurd cc)))
 
-pub rays_apart : (rec : List Command) (z : Status) (top : ℕ) (rays hits : Spot) (count : ℕ) (flags : RayFlags) (mask : ℕ) (script : List RawRule) (k m : ℕ) (l : Location)
+pub rays_apart : (rec : List Command) (z : Status) (top : ℕ) (rays hits : Spot) (count : ℕ) (flags : RayFlags) (mask : ℕ) (k m : ℕ) (l : Location)
     → ranges.meets (range rays.buffer rays.offset (40 * count)) (range hits.buffer hits.offset (80 * count)) ≡ false
     → k < m → k < trace_pieces count → m < trace_pieces count
-    → Clash (rays_action rec z top rays hits count flags mask script k) (rays_action rec z top rays hits count flags mask script m) l → ⊥
-rays_apart rec z top rays hits count flags mask script k m l e less here there (BothWrite p q) = hits_differ hits count k m l less p q
-rays_apart rec z top rays hits count flags mask script k m l e less here there (ReadsLater p q) =
+    → Clash (rays_action rec z top rays hits count flags mask k) (rays_action rec z top rays hits count flags mask m) l → ⊥
+rays_apart rec z top rays hits count flags mask k m l e less here there (BothWrite p q) = hits_differ hits count k m l less p q
+rays_apart rec z top rays hits count flags mask k m l e less here there (ReadsLater p q) =
     reads_rays (rays_range rays count m) (hits_range hits count k) top (uses_at rec z top) l p q
     (λ r. rays_differ rays hits count m k l e there here r p)
-rays_apart rec z top rays hits count flags mask script k m l e less here there (WritesLater p q) =
+rays_apart rec z top rays hits count flags mask k m l e less here there (WritesLater p q) =
     reads_rays (rays_range rays count k) (hits_range hits count m) top (uses_at rec z top) l q p
     (λ r. rays_differ rays hits count k m l e here there r q)

@@ -44,7 +44,7 @@ some_refused order rec =
     subst (λ m. refused_from m (rule_refusal_from order rec 0 at_first rec) ≤ m) count (within_count order rec 0 at_first rec)
 
 pub break_no_rule : (rec : List Command) → AreSourced rec → UnrefusedBreakNoRule rec
-break_no_rule rec sourced n upto =
+break_no_rule rec sourced clients n upto =
     let within : refused_from (length rec) (rule_refusal (barriers rec) rec) ≤ length rec = some_refused (barriers rec) rec in record {
       accepted = record {
         each = λ i c less is. record {

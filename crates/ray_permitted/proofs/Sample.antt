@@ -22,6 +22,7 @@ use Rattle.ray_rules.specs.Structures.{v6, v11, v19}
 use Rattle.ray_rules.specs.Verdict.{hazard_table}
 use Rattle.ray_rules.specs.Kinds.{kind_of}
 use Rattle.ray_ready.specs.Accepted.{MayRun}
+use Rattle.ray_permitted.specs.Job.{recorded}
 use Rattle.ray_permitted.specs.Rules.{BreakNoRule}
 use Rattle.ray_ready.proofs.Unrefused.{kept_rows}
 use Rattle.ray_permitted.proofs.Truth.{same_some}
@@ -106,5 +107,5 @@ no_hazard (suc (suc (suc (suc (suc (suc (suc (suc zero)))))))) less = kept_rows 
 no_hazard (suc (suc (suc (suc (suc (suc (suc (suc (suc zero))))))))) less = kept_rows 9 (hazard_table (barriers sample) sample 9) refl
 no_hazard (suc (suc (suc (suc (suc (suc (suc (suc (suc (suc n)))))))))) less = absurd (omega (arith, less))
 
-pub sample_breaks_none : BreakNoRule sample 10
+pub sample_breaks_none : BreakNoRule (recorded sample) 10
 sample_breaks_none = record { accepted = record { each = λ i c less is. may_run i c is }; hazards = no_hazard }

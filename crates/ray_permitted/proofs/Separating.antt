@@ -17,7 +17,7 @@ use Rattle.ray_permitted.specs.Laws.{BarriersGoForward, BarriersSeparate}
 use Rattle.ray_permitted.specs.Separates.{accesses_conflict, some_share}
 use Rattle.ray_permitted.proofs.Sharing.{read_after_write, write_after_read, write_after_write}
 use Rattle.ray_permitted.proofs.Truth.{and_first, both, either, is_less, less_is}
-use Rattle.ray_permitted.proofs.Waits.{wait_below, wait_orders}
+use Rattle.ray_permitted.proofs.Waits.{wait_below, wait_later, wait_orders}
 
 -- ---- kinds and stages
 
@@ -71,17 +71,21 @@ by_hazards rec i j s t less from to (k25, (k26, (k27, more))) conflict =
     (λ share. write_after_read rec i j s t from to less k27 share))
 
 pub barriers_separate : BarriersSeparate
-barriers_separate rec n rules = record {
-  forward = barriers_forward rec n;
-  host = λ i j less within here. before_is rec i j HostCommand (kind_at rec j) less here refl refl;
-  host_waits = λ i j s waited within here there.
-      let below : last_wait rec j ≤ j = wait_below rec j in
-      before_is rec i j (Device s) HostCommand (omega (arith, waited, below)) here there (less_is i (last_wait rec j) waited);
-  device_waits = λ i j s t waited within here there.
-      let below : last_wait rec j ≤ j = wait_below rec j in
-      before_is rec i j (Device s) (Device t) (omega (arith, waited, below)) here there
-      (wait_orders (takes_stage s) rec i j t (found_device (slice_get rec j) t there) waited);
-  conflicts = λ i j s t less within here there conflict.
-      before_is rec i j (Device s) (Device t) less here there
-      (by_hazards rec i j s t less (stage_is rec i s here) (stage_is rec j t there) (rules.hazards j within) conflict);
+barriers_separate rec clients n rules = record {
+  accepted = rules.accepted;
+  separates = record {
+    forward = barriers_forward rec n;
+    host = λ i j less within here. before_is rec i j HostCommand (kind_at rec j) less here refl refl;
+    host_waits = λ i j s waited within here there.
+        let below : last_wait rec j ≤ j = wait_below rec j in
+        before_is rec i j (Device s) HostCommand (omega (arith, waited, below)) here there (less_is i (last_wait rec j) waited);
+    device_waits = λ i h j s t waited less within here host there.
+        let below : last_wait rec h ≤ h = wait_below rec h in
+        let later : last_wait rec h ≤ last_wait rec j = wait_later rec h j (omega (arith, less)) in
+        before_is rec i j (Device s) (Device t) (omega (arith, waited, below, less)) here there
+        (wait_orders (takes_stage s) rec i j t (found_device (slice_get rec j) t there) (omega (arith, waited, later)));
+    conflicts = λ i j s t less within here there conflict.
+        before_is rec i j (Device s) (Device t) less here there
+        (by_hazards rec i j s t less (stage_is rec i s here) (stage_is rec j t there) (rules.hazards j within) conflict);
+  };
 }

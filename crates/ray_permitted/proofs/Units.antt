@@ -1,18 +1,16 @@
 -- Which command and which piece an action of a recording belongs to.
 use Rattle.std.proofs.Common.{◌≡◌, ◌<◌, ◌≤◌, ◌+◌, ◌++◌, ℕ, zero, suc, List, [], ◌∷◌, Some, ◌⊎◌, inl, inr, refl, sym, ◌∙◌, ap, subst, arith, append_assoc, map, length, take}
-use Rattle.std.specs.Prelude.{slice_get}
-use Rattle.std.specs.Option.{option_map_or}
+use Rattle.std.specs.Prelude.{slice_get, unwrap_or}
 use Rattle.ray_cmd.specs.declared.command.Command.{Command}
 use Rattle.ray_rules.specs.Hazards.{status_at}
 use Rattle.ray_rules.specs.Status.{Status, at_first}
 use Rattle.ray_rules.specs.Status as status
 use Rattle.ray_action.specs.Action.{Rest}
 use Rattle.ray_action.specs.Pieces.{Numbered, actions, actions_from, actions_of, numbered}
-use Rattle.ray_action.specs.Running.{action_at, memory_before}
-use Rattle.ray_action.specs.Storing.{after}
+use Rattle.ray_action.specs.Clients.{Clients}
+use Rattle.ray_action.specs.Running.{action_at, memory_before, number_at, unit_after, unit_at}
 use Rattle.ray_ready.specs.Laws.{first_actions}
 use Rattle.ray_ready.proofs.Recording.{Follow, next_status}
-use Rattle.ray_permitted.specs.Work.{command_at}
 use Rattle.ray_permitted.proofs.Truth.{Part, Front, Back, in_front, item_at, made_of_item, never_none, part_of, within}
 
 -- ---- one action
@@ -145,21 +143,23 @@ first_of_all rec n = prefix rec 0 at_first rec n
 
 -- ---- by number
 
-pub unit_is : (units : List Numbered) (p : ℕ) (u : Numbered) → slice_get units p ≡ Some u → (action_at units p ≡ u.action) × (command_at units p ≡ u.command)
-unit_is units p u is = (
-  ap (λ found. option_map_or (λ (v : Numbered). v.action) found Rest) is,
-  ap (λ found. option_map_or (λ (v : Numbered). v.command) found 0) is,
-)
+pub whole_unit : (units : List Numbered) (p : ℕ) (u : Numbered) → slice_get units p ≡ Some u → unit_at units p ≡ u
+whole_unit units p u is = ap (λ found. unwrap_or found (numbered 0 Rest)) is
+
+pub unit_is : (units : List Numbered) (p : ℕ) (u : Numbered) → slice_get units p ≡ Some u → (action_at units p ≡ u.action) × (number_at units p ≡ u.command)
+unit_is units p u is =
+    let same = whole_unit units p u is in (ap (λ (v : Numbered). v.action) same, ap (λ (v : Numbered). v.command) same)
 
 -- what holds of the first of a list holds in the whole list
-pub action_in_front : (us rest : List Numbered) (p : ℕ) → p < length us → action_at (us ++ rest) p ≡ action_at us p
-action_in_front us rest p less =
+pub unit_in_front : (us rest : List Numbered) (p : ℕ) → p < length us → unit_at (us ++ rest) p ≡ unit_at us p
+unit_in_front us rest p less =
     let u = item_at us p less in
-    (unit_is (us ++ rest) p u.0 (in_front us rest p u.0 u.1)).0 ∙ sym (unit_is us p u.0 u.1).0
+    whole_unit (us ++ rest) p u.0 (in_front us rest p u.0 u.1) ∙ sym (whole_unit us p u.0 u.1)
 
-pub memory_in_front : (us rest : List Numbered) (p : ℕ) → p ≤ length us → memory_before (us ++ rest) p ≡ memory_before us p
-memory_in_front us rest zero upto = refl
-memory_in_front us rest (suc p) upto =
-    let before = memory_in_front us rest p (omega (arith, upto)) in
-    let same = action_in_front us rest p (omega (arith, upto)) in
-    λ i. after (same i) (before i)
+pub memory_in_front : (clients : Clients) (us rest : List Numbered) (p : ℕ) → p ≤ length us
+    → memory_before clients (us ++ rest) p ≡ memory_before clients us p
+memory_in_front clients us rest zero upto = refl
+memory_in_front clients us rest (suc p) upto =
+    let before = memory_in_front clients us rest p (omega (arith, upto)) in
+    let same = unit_in_front us rest p (omega (arith, upto)) in
+    λ i. unit_after clients (same i) (before i)

@@ -1,4 +1,4 @@
--- What holds of the schedules of a recording. (Own.)
+-- What holds of the schedules of a job. (Own.)
 use Rattle.std.specs.Prelude.{ℕ, ◌≡◌, ◌<◌, ◌≤◌, List, Option, Some, None, Bool, true, take, length}
 use Rattle.ray_schedule.specs.Conflicts.{AreOrdered, IsForward, IsLocal}
 use Rattle.ray_schedule.specs.Events.{Event, Fetches, Stores}
@@ -11,38 +11,39 @@ use Rattle.ray_schedule.specs.Laws.{MayRun, EverySchedule, ArePermitted, WavesRu
 use Rattle.ray_cmd.specs.declared.command.Command.{Command}
 use Rattle.ray_rules.specs.Order.{IsLongest, barriers, before}
 use Rattle.ray_rules.specs.Verdict.{rule_refusal}
-use Rattle.ray_action.specs.Memory.{Memory, nothing_live}
+use Rattle.ray_action.specs.Memory.{Memory}
 use Rattle.ray_action.specs.Areas.{AgreeOn}
 use Rattle.ray_action.specs.Action.{areas_read}
+use Rattle.ray_action.specs.Clients.{Clients}
 use Rattle.ray_action.specs.Outcomes.{Outcome}
 use Rattle.ray_action.specs.Readiness.{IsReady}
-use Rattle.ray_action.specs.Running.{action_at, memory_before, run_from, run_of}
+use Rattle.ray_action.specs.Running.{action_at, memory_before, run_of}
 use Rattle.ray_ready.specs.Accepted.{IsAccepted, refused_from}
 use Rattle.ray_ready.specs.Laws.{AreSources, GaveBefore, first_actions}
-use Rattle.ray_permitted.specs.Along.{run_along, run_kept}
-use Rattle.ray_permitted.specs.Rules.{BreakNoRule}
-use Rattle.ray_permitted.specs.Separates.{GoesForward, Separates}
-use Rattle.ray_permitted.specs.Work.{work_in, work_of}
+use Rattle.ray_permitted.specs.Along.{run_along, run_below, run_kept}
+use Rattle.ray_permitted.specs.Job.{Job, comes_before, on_one_queue}
+use Rattle.ray_permitted.specs.Rules.{BreakNoRule, IsRunnable}
+use Rattle.ray_permitted.specs.Separates.{GoesForward, NumbersSeparate}
+use Rattle.ray_permitted.specs.Work.{work_of}
 
 -- ---- from the rules to the order
 
 -- what schedules ask of the work of commands in an order: outcomes are told by what is read, conflicting
 -- actions are ordered, and the order goes forward
-pub record IsOrderly (rec : List Command) (order : ℕ → ℕ → Bool) (n : ℕ) : Type 0 where
-  pub local : IsLocal (work_in rec order n).device
-  pub ordered : AreOrdered (work_in rec order n).device order (work_in rec order n).count
-  pub forward : IsForward (work_in rec order n).device order (work_in rec order n).count
+pub record IsOrderly (job : Job) (n : ℕ) : Type 0 where
+  pub local : IsLocal (work_of job n).device
+  pub ordered : AreOrdered (work_of job n).device (comes_before job) (work_of job n).count
+  pub forward : IsForward (work_of job n).device (comes_before job) (work_of job n).count
 
--- accepted commands ask for orderly work in an order that separates them
-abbrev pub SeparatedAreOrderly : Type 0
-SeparatedAreOrderly =
-    (rec : List Command) (order : ℕ → ℕ → Bool) (n : ℕ) → IsAccepted rec n → Separates rec n order
-    → IsOrderly rec order n
+-- commands that may be run ask for orderly work
+abbrev pub RunnableAreOrderly : Type 0
+RunnableAreOrderly = (job : Job) (n : ℕ) → IsRunnable job n → IsOrderly job n
 
--- the order that barriers and waits give separates commands that break no rule
+-- the order that barriers and waits give separates commands that break no rule, whoever decides
 abbrev pub BarriersSeparate : Type 0
 BarriersSeparate =
-    (rec : List Command) (n : ℕ) → BreakNoRule rec n → Separates rec n (before (barriers rec) rec)
+    (rec : List Command) (clients : Clients) (n : ℕ) → BreakNoRule (on_one_queue rec clients) n
+    → IsRunnable (on_one_queue rec clients) n
 
 -- it goes forward among the commands of any recording
 abbrev pub BarriersGoForward : Type 0
@@ -50,25 +51,22 @@ BarriersGoForward = (rec : List Command) (n : ℕ) → GoesForward n (before (ba
 
 -- ---- every permitted schedule
 
--- every schedule of accepted commands that an order which separates them permits comes to the run of
--- recording order: to its text, or to its refusal
+-- every schedule of commands that may be run which the job's order permits comes to the run of recording
+-- order: to its text, or to its refusal
 abbrev pub SchedulesComeToTheRun : Type 0
 SchedulesComeToTheRun =
-    (rec : List Command) (order : ℕ → ℕ → Bool) (n : ℕ) (es : List Event) → IsAccepted rec n
-    → Separates rec n order → MayRun (work_in rec order n) es
-    → run_along rec n es ≡ run_from nothing_live (first_actions rec n)
+    (job : Job) (n : ℕ) (es : List Event) → IsRunnable job n → MayRun (work_of job n) es
+    → run_along job n es ≡ run_below job n
 
 -- each has the outcomes, the memory and the first fault of recording order
 abbrev pub SchedulesLeaveTheSame : Type 0
-SchedulesLeaveTheSame =
-    (rec : List Command) (order : ℕ → ℕ → Bool) (n : ℕ) → IsAccepted rec n → Separates rec n order
-    → EverySchedule (work_in rec order n)
+SchedulesLeaveTheSame = (job : Job) (n : ℕ) → IsRunnable job n → EverySchedule (work_of job n)
 
 -- recording order in the words of schedules is that of the run
 abbrev pub RecordingOrderIsTheRun : Type 0
 RecordingOrderIsTheRun =
-    (rec : List Command) (order : ℕ → ℕ → Bool) (n p : ℕ)
-    → before_unit (work_in rec order n) p ≡ memory_before (first_actions rec n) p
+    (job : Job) (n p : ℕ)
+    → before_unit (work_of job n) p ≡ memory_before job.clients (first_actions job.commands n) p
 
 -- ---- which schedules are permitted
 
@@ -76,45 +74,51 @@ RecordingOrderIsTheRun =
 -- the order
 abbrev pub SomeArePermitted : Type 0
 SomeArePermitted =
-    (rec : List Command) (order : ℕ → ℕ → Bool) (n : ℕ) → GoesForward n order
-    → ArePermitted (work_in rec order n)
+    (job : Job) (n : ℕ) → GoesForward n (comes_before job) → ArePermitted (work_of job n)
 
 -- the lengths of the longest chains rise along the order
 abbrev pub LongestChainsRise : Type 0
 LongestChainsRise =
-    (rec : List Command) (order : ℕ → ℕ → Bool) (n : ℕ) (longest : ℕ → ℕ)
-    → ((i : ℕ) → i < n → IsLongest order i (longest i))
-    → RisesAlong (work_in rec order n).device order (λ p. longest ((work_in rec order n).device.command p))
-    (work_in rec order n).count
+    (job : Job) (n : ℕ) (longest : ℕ → ℕ)
+    → ((i : ℕ) → i < n → IsLongest (comes_before job) i (longest i))
+    → RisesAlong (work_of job n).device (comes_before job) (λ p. longest ((work_of job n).device.command p))
+    (work_of job n).count
+
+-- they separate commands that may be run
+abbrev pub LongestChainsSeparate : Type 0
+LongestChainsSeparate =
+    (job : Job) (n : ℕ) (longest : ℕ → ℕ) → IsRunnable job n
+    → ((i : ℕ) → i < n → IsLongest (comes_before job) i (longest i))
+    → NumbersSeparate job.commands n longest
 
 -- ---- at each fetch
 
 -- each fetch along a permitted schedule reads what its action reads in recording order
 abbrev pub FetchesReadTheSame : Type 0
 FetchesReadTheSame =
-    (rec : List Command) (order : ℕ → ℕ → Bool) (n : ℕ) (es : List Event) (i p : ℕ) (e : Event)
-    → IsAccepted rec n → Separates rec n order → MayRun (work_in rec order n) es → StandsAt es i e
+    (job : Job) (n : ℕ) (es : List Event) (i p : ℕ) (e : Event)
+    → IsRunnable job n → MayRun (work_of job n) es → StandsAt es i e
     → Fetches e p
-    → AgreeOn (areas_read (action_at (first_actions rec n) p)) (after (work_in rec order n) (take i es)).memory
-    (memory_before (first_actions rec n) p)
+    → AgreeOn (areas_read (action_at (first_actions job.commands n) p)) (after (work_of job n) (take i es)).memory
+    (memory_before job.clients (first_actions job.commands n) p)
 
 -- its action is ready there, where each action before it gives an output in recording order
 abbrev pub FetchesAreReady : Type 0
 FetchesAreReady =
-    (rec : List Command) (order : ℕ → ℕ → Bool) (n : ℕ) (es : List Event) (i p : ℕ) (e : Event)
-    → IsAccepted rec n → Separates rec n order → MayRun (work_in rec order n) es → StandsAt es i e
-    → Fetches e p → GaveBefore (first_actions rec n) p
-    → IsReady (action_at (first_actions rec n) p) (after (work_in rec order n) (take i es)).memory
+    (job : Job) (n : ℕ) (es : List Event) (i p : ℕ) (e : Event)
+    → IsRunnable job n → MayRun (work_of job n) es → StandsAt es i e
+    → Fetches e p → GaveBefore job.clients (first_actions job.commands n) p
+    → IsReady (action_at (first_actions job.commands n) p) (after (work_of job n) (take i es)).memory
 
 -- and so it is where only those gave one whose writes it reads, and those whose writes these read, and so
 -- on
 abbrev pub FetchesAreReadyBySources : Type 0
 FetchesAreReadyBySources =
-    (rec : List Command) (order : ℕ → ℕ → Bool) (n : ℕ) (es : List Event) (i p : ℕ) (e : Event) (among : ℕ → Bool)
-    → IsAccepted rec n → Separates rec n order → MayRun (work_in rec order n) es → StandsAt es i e
+    (job : Job) (n : ℕ) (es : List Event) (i p : ℕ) (e : Event) (among : ℕ → Bool)
+    → IsRunnable job n → MayRun (work_of job n) es → StandsAt es i e
     → Fetches e p
-    → among p ≡ true → AreSources (first_actions rec n) among p
-    → IsReady (action_at (first_actions rec n) p) (after (work_in rec order n) (take i es)).memory
+    → among p ≡ true → AreSources job.clients (first_actions job.commands n) among p
+    → IsReady (action_at (first_actions job.commands n) p) (after (work_of job n) (take i es)).memory
 
 -- each fetch along a permitted schedule
 pub record AtEachFetch : Type 0 where
@@ -127,20 +131,20 @@ pub record AtEachFetch : Type 0 where
 -- each store along a permitted schedule still finds what its action read
 abbrev pub StoresFindTheSame : Type 0
 StoresFindTheSame =
-    (rec : List Command) (order : ℕ → ℕ → Bool) (n : ℕ) (es : List Event) (i p : ℕ) (e : Event)
-    → IsAccepted rec n → Separates rec n order → MayRun (work_in rec order n) es → StandsAt es i e
+    (job : Job) (n : ℕ) (es : List Event) (i p : ℕ) (e : Event)
+    → IsRunnable job n → MayRun (work_of job n) es → StandsAt es i e
     → Stores e p
-    → AgreeOn (areas_read (action_at (first_actions rec n) p)) (after (work_in rec order n) (take i es)).memory
-    (memory_before (first_actions rec n) p)
+    → AgreeOn (areas_read (action_at (first_actions job.commands n) p)) (after (work_of job n) (take i es)).memory
+    (memory_before job.clients (first_actions job.commands n) p)
 
 -- so its action is ready there where it was at its fetch
 abbrev pub StoresAreReady : Type 0
 StoresAreReady =
-    (rec : List Command) (order : ℕ → ℕ → Bool) (n : ℕ) (es : List Event) (i p : ℕ) (e : Event)
-    → IsAccepted rec n → Separates rec n order → MayRun (work_in rec order n) es → StandsAt es i e
+    (job : Job) (n : ℕ) (es : List Event) (i p : ℕ) (e : Event)
+    → IsRunnable job n → MayRun (work_of job n) es → StandsAt es i e
     → Stores e p
-    → IsReady (action_at (first_actions rec n) p) (memory_before (first_actions rec n) p)
-    → IsReady (action_at (first_actions rec n) p) (after (work_in rec order n) (take i es)).memory
+    → IsReady (action_at (first_actions job.commands n) p) (memory_before job.clients (first_actions job.commands n) p)
+    → IsReady (action_at (first_actions job.commands n) p) (after (work_of job n) (take i es)).memory
 
 -- each store along a permitted schedule
 pub record AtEachStore : Type 0 where
@@ -154,61 +158,68 @@ pub record AtEachStore : Type 0 where
 -- nothing that writes what it reads of the later ones
 abbrev pub ActionsInTurnAreReady : Type 0
 ActionsInTurnAreReady =
-    (rec : List Command) (order : ℕ → ℕ → Bool) (n p : ℕ) (es : List Event) → IsAccepted rec n
-    → AreInTurn (work_in rec order n) es → MayAsk (work_in rec order n) es p
-    → IsReady (action_at (first_actions rec n) p) (moment_of (work_in rec order n) es).memory
+    (job : Job) (n p : ℕ) (es : List Event) → IsAccepted job.commands n
+    → AreInTurn (work_of job n) es → MayAsk (work_of job n) es p
+    → IsReady (action_at (first_actions job.commands n) p) (moment_of (work_of job n) es).memory
 
 -- it reads there what it reads in recording order
 abbrev pub ActionsInTurnReadTheSame : Type 0
 ActionsInTurnReadTheSame =
-    (rec : List Command) (order : ℕ → ℕ → Bool) (n p : ℕ) (es : List Event) → AreInTurn (work_in rec order n) es
-    → MayAsk (work_in rec order n) es p
-    → AgreeOn (areas_read (action_at (first_actions rec n) p)) (moment_of (work_in rec order n) es).memory
-    (memory_before (first_actions rec n) p)
+    (job : Job) (n p : ℕ) (es : List Event) → AreInTurn (work_of job n) es
+    → MayAsk (work_of job n) es p
+    → AgreeOn (areas_read (action_at (first_actions job.commands n) p)) (moment_of (work_of job n) es).memory
+    (memory_before job.clients (first_actions job.commands n) p)
 
 -- ---- in waves
 
 -- a run in waves, up to the first fault, as schedules say it
 abbrev pub WavesOfCommandsRun : Type 0
-WavesOfCommandsRun =
-    (rec : List Command) (order : ℕ → ℕ → Bool) (n : ℕ) → WavesRun (work_in rec order n)
+WavesOfCommandsRun = (job : Job) (n : ℕ) → WavesRun (work_of job n)
+
+-- wave numbers that separate commands rise along the conflicts of their actions
+abbrev pub NumbersRise : Type 0
+NumbersRise =
+    (job : Job) (n : ℕ) (number : ℕ → ℕ) → IsAccepted job.commands n → NumbersSeparate job.commands n number
+    → AreRising (work_of job n).device (λ p. number ((work_of job n).device.command p)) (work_of job n).count
 
 -- before each wave its actions read what they read in recording order
 abbrev pub WavesReadTheSame : Type 0
 WavesReadTheSame =
-    (rec : List Command) (order : ℕ → ℕ → Bool) (n : ℕ) (number : ℕ → ℕ) (v bound p : ℕ) (memory : Memory)
-    → AreRising (work_in rec order n).device number (work_in rec order n).count
-    → IsDoneTo (work_in rec order n) number v bound memory → p < bound → number p ≡ v
-    → AgreeOn (areas_read (action_at (first_actions rec n) p)) memory (memory_before (first_actions rec n) p)
+    (job : Job) (n : ℕ) (number : ℕ → ℕ) (v bound p : ℕ) (memory : Memory)
+    → AreRising (work_of job n).device number (work_of job n).count
+    → IsDoneTo (work_of job n) number v bound memory → p < bound → number p ≡ v
+    → AgreeOn (areas_read (action_at (first_actions job.commands n) p)) memory (memory_before job.clients (first_actions job.commands n) p)
 
 -- and are ready there, whatever of the other commands break a data rule
 abbrev pub WavesAreReady : Type 0
 WavesAreReady =
-    (rec : List Command) (order : ℕ → ℕ → Bool) (n : ℕ) (number : ℕ → ℕ) (v bound p : ℕ) (memory : Memory)
-    → IsAccepted rec n
-    → AreRising (work_in rec order n).device number (work_in rec order n).count
-    → IsDoneTo (work_in rec order n) number v bound memory → p < bound → number p ≡ v
-    → IsReady (action_at (first_actions rec n) p) memory
+    (job : Job) (n : ℕ) (number : ℕ → ℕ) (v bound p : ℕ) (memory : Memory)
+    → IsAccepted job.commands n
+    → AreRising (work_of job n).device number (work_of job n).count
+    → IsDoneTo (work_of job n) number v bound memory → p < bound → number p ≡ v
+    → IsReady (action_at (first_actions job.commands n) p) memory
 
 -- the outcomes of recording order, up to the first one that stores nothing, tell the run
 abbrev pub OutcomesTellTheRun : Type 0
 OutcomesTellTheRun =
-    (rec : List Command) (order : ℕ → ℕ → Bool) (n b : ℕ) (kept : ℕ → Option Outcome)
-    → IsFirstFault (is_at_fault (work_in rec order n)) (work_in rec order n).count b
-    → ((p : ℕ) → p < (work_in rec order n).count → p ≤ b
-    → kept p ≡ Some (outcome_of (work_in rec order n) p))
-    → run_kept kept (first_actions rec n) ≡ run_from nothing_live (first_actions rec n)
+    (job : Job) (n b : ℕ) (kept : ℕ → Option Outcome)
+    → IsFirstFault (is_at_fault (work_of job n)) (work_of job n).count b
+    → ((p : ℕ) → p < (work_of job n).count → p ≤ b
+    → kept p ≡ Some (outcome_of (work_of job n) p))
+    → run_kept kept (first_actions job.commands n) ≡ run_below job n
 
 -- ---- what is refused, and what isn't
 
--- the first commands of a recording break no rule where none of them is refused
+-- the first commands of a recording on one queue break no rule where none of them is refused, whoever decides
 abbrev pub UnrefusedBreakNoRule : List Command → Type 0
 UnrefusedBreakNoRule rec =
-    (n : ℕ) → n ≤ refused_from (length rec) (rule_refusal (barriers rec) rec) → BreakNoRule rec n
+    (clients : Clients) (n : ℕ) → n ≤ refused_from (length rec) (rule_refusal (barriers rec) rec)
+    → BreakNoRule (on_one_queue rec clients) n
 
 -- and every permitted schedule of a whole recording that no rule on the recording alone refuses comes to its
 -- run
 abbrev pub RecordingComesToItsRun : List Command → Type 0
 RecordingComesToItsRun rec =
-    (es : List Event) → rule_refusal (barriers rec) rec ≡ None → MayRun (work_of rec (length rec)) es
-    → run_along rec (length rec) es ≡ run_of rec
+    (clients : Clients) (es : List Event) → rule_refusal (barriers rec) rec ≡ None
+    → MayRun (work_of (on_one_queue rec clients) (length rec)) es
+    → run_along (on_one_queue rec clients) (length rec) es ≡ run_of clients rec

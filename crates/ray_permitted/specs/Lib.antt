@@ -1,4 +1,5 @@
 pub mod Separates
+pub mod Job
 pub mod Work
 pub mod Along
 pub mod Rules

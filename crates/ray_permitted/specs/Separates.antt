@@ -26,8 +26,8 @@ abbrev pub GoesForward : ℕ → (ℕ → ℕ → Bool) → Type 0
 GoesForward n before = (i j : ℕ) → i < n → j < n → before i j ≡ true → i < j
 
 -- an order separates the first n commands of a recording. It goes forward; it puts a command of the host
--- before all later commands, a device command before what the host and the device do behind a later `wait`,
--- and a device command before a later one whose accesses conflict with its own
+-- before all later commands, a device command before what the host does behind a later `wait` and what the
+-- device does behind that, and a device command before a later one whose accesses conflict with its own
 pub record Separates (rec : List Command) (n : ℕ) (before : ℕ → ℕ → Bool) : Type 0 where
   pub forward : GoesForward n before
   pub host : (i j : ℕ) → i < j → j < n → kind_at rec i ≡ HostCommand → before i j ≡ true
@@ -35,8 +35,20 @@ pub record Separates (rec : List Command) (n : ℕ) (before : ℕ → ℕ → Bo
       (i j : ℕ) (stage : Stage) → i < last_wait rec j → j < n → kind_at rec i ≡ Device stage
       → kind_at rec j ≡ HostCommand → before i j ≡ true
   pub device_waits :
-      (i j : ℕ) (stage to : Stage) → i < last_wait rec j → j < n → kind_at rec i ≡ Device stage
-      → kind_at rec j ≡ Device to → before i j ≡ true
+      (i h j : ℕ) (stage to : Stage) → i < last_wait rec h → h < j → j < n → kind_at rec i ≡ Device stage
+      → kind_at rec h ≡ HostCommand → kind_at rec j ≡ Device to → before i j ≡ true
   pub conflicts :
       (i j : ℕ) (stage to : Stage) → i < j → j < n → kind_at rec i ≡ Device stage
       → kind_at rec j ≡ Device to → accesses_conflict rec i j ≡ true → before i j ≡ true
+
+-- wave numbers of the first n commands separate them. They rise from a command of the host to each later
+-- command, from a device command to what the host does behind a later `wait`, and from a device command to a
+-- later one whose accesses conflict with its own
+pub record NumbersSeparate (rec : List Command) (n : ℕ) (number : ℕ → ℕ) : Type 0 where
+  pub host : (i j : ℕ) → i < j → j < n → kind_at rec i ≡ HostCommand → number i < number j
+  pub host_waits :
+      (i j : ℕ) (stage : Stage) → i < last_wait rec j → j < n → kind_at rec i ≡ Device stage
+      → kind_at rec j ≡ HostCommand → number i < number j
+  pub conflicts :
+      (i j : ℕ) (stage to : Stage) → i < j → j < n → kind_at rec i ≡ Device stage
+      → kind_at rec j ≡ Device to → accesses_conflict rec i j ≡ true → number i < number j

@@ -1,11 +1,12 @@
-ghost use Rattle.ray_permitted.specs.Laws.{SeparatedAreOrderly, BarriersSeparate};
+ghost use Rattle.ray_permitted.specs.Laws.{RunnableAreOrderly, BarriersSeparate};
 ghost use Rattle.ray_permitted.specs.Laws.{BarriersGoForward, SchedulesComeToTheRun};
 ghost use Rattle.ray_permitted.specs.Laws.{UnrefusedBreakNoRule, RecordingComesToItsRun};
 ghost use Rattle.ray_permitted.specs.Laws.{ActionsInTurnAreReady, ActionsInTurnReadTheSame};
 ghost use Rattle.ray_permitted.specs.Laws.{SchedulesLeaveTheSame, RecordingOrderIsTheRun};
 ghost use Rattle.ray_permitted.specs.Laws.{SomeArePermitted, LongestChainsRise};
+ghost use Rattle.ray_permitted.specs.Laws.{LongestChainsSeparate};
 ghost use Rattle.ray_permitted.specs.Laws.{WavesOfCommandsRun, WavesReadTheSame, WavesAreReady};
-ghost use Rattle.ray_permitted.specs.Laws.{OutcomesTellTheRun};
+ghost use Rattle.ray_permitted.specs.Laws.{NumbersRise, OutcomesTellTheRun};
 ghost use Rattle.ray_permitted.specs.Laws.{AtEachFetch, AtEachStore};
 
 use ray_cmd::Recording;
@@ -14,7 +15,7 @@ use ray_cmd::Recording;
 /// conflicting actions are ordered, and the order goes forward. The order that barriers and waits
 /// give separates commands that break no rule. It does nothing. Own.
 pub fn rules_give_order()
-    ensures ordered { SeparatedAreOrderly }
+    ensures ordered { RunnableAreOrderly }
     ensures barriers { BarriersSeparate }
 {}
 
@@ -29,17 +30,20 @@ pub fn schedules_come_to_the_run()
 
 /// A law: in an order that goes forward, as that of barriers and waits does, recording order is
 /// permitted, and so are waves whose numbers rise along the order, as those of the longest chains
-/// do. It does nothing. Own.
+/// do, which separate the commands besides. It does nothing. Own.
 pub fn some_are_permitted()
     ensures permitted { SomeArePermitted }
     ensures barriers { BarriersGoForward }
     ensures chains { LongestChainsRise }
+    ensures separate { LongestChainsSeparate }
 {}
 
 /// A law: a run of commands in waves goes as in recording order, up to the first fault, each action
-/// of a wave below that is ready there, and its outcomes tell the run. It does nothing. Own.
+/// of a wave below that is ready there, and its outcomes tell the run. The numbers of waves may be
+/// any that separate the commands. It does nothing. Own.
 pub fn commands_run_in_waves()
     ensures waves { WavesOfCommandsRun }
+    ensures rise { NumbersRise }
     ensures reads { WavesReadTheSame }
     ensures ready { WavesAreReady }
     ensures outcomes { OutcomesTellTheRun }

@@ -1,7 +1,6 @@
 -- What the rules say of an action, in relational words over the status: no other consequence of them is used.
 use Rattle.std.proofs.Common.{◌≡◌, ℕ, true, false, List, [], ◌∷◌, Option, Some, None, IsSome}
 use Rattle.ray_flags.specs.Admission.{AsksBoth}
-use Rattle.ray_script.specs.Scripts.{refused_at}
 use Rattle.ray_geometries.specs.Contents as bottoms
 use Rattle.ray_top.specs.Contents as tops
 use Rattle.ray_cmd.specs.declared.asked.Asked.{Asked}
@@ -107,7 +106,6 @@ pub record MayTrace (rec : List Command) (z : Status) (trace : Tracing) : Type 0
   pub top : IsBuilt (look z.structures trace.top) kinds.Top by
   pub uses : trace.uses ≡ uses_of rec by
   pub fresh : (u : ℕ) → has (uses_of rec by) u ≡ true → IsFresh by.stamp (look z.structures u)
-  pub script : refused_at trace.script ≡ None
   pub flags : AsksBoth trace.flags → ⊥
 
 -- ---- every action

@@ -3,12 +3,11 @@ use Rattle.std.proofs.Common.{◌≡◌, ◌+◌, ◌*◌, ◌^◌, ◌-◌, ◌
 use Rattle.std.proofs.lemmas.Bool.Decides.{nat_tests}
 use Rattle.std.specs.Prelude.{not, ◌||◌, ◌&&◌, ◌==◌, nat_lt, slice_get, sum, unwrap_or}
 use Rattle.std.specs.List.{list_any, range_with_len}
-use Rattle.std.specs.Option.{option_map, option_map_or, option_and_then}
+use Rattle.std.specs.Option.{option_map_or, option_and_then}
 use Rattle.ray_flags.specs.Admission.{AsksBoth}
 use Rattle.ray_flags.specs.Flags.{ray_has, CullBackFacing, CullFrontFacing, CullNoOpaque, CullOpaque, NoOpaque, Opaque, SkipAabbs, SkipTriangles}
 use Rattle.ray_flags.specs.declared.ray_flags.RayFlags.{RayFlags}
 use Rattle.ray_flags.specs.declared.usage.Usage.{Usage}
-use Rattle.ray_script.specs.Scripts.{refused_at}
 use Rattle.ray_script.specs.declared.raw_rule.RawRule.{RawRule}
 use Rattle.ray_cmd.specs.declared.asked.Asked.{Asked}
 use Rattle.ray_cmd.specs.declared.asked.Asked.TheVariants as asked
@@ -16,7 +15,6 @@ use Rattle.ray_cmd.specs.declared.command.Command.{Command}
 use Rattle.ray_cmd.specs.declared.command.Command.TheVariants as commands
 use Rattle.ray_cmd.specs.declared.copy_mode.CopyMode.{CopyMode}
 use Rattle.ray_cmd.specs.declared.copy_mode.CopyMode.TheVariants as copies
-use Rattle.ray_cmd.specs.declared.place.Place.TheVariants.{Part}
 use Rattle.ray_cmd.specs.declared.region.Region.{Region}
 use Rattle.ray_cmd.specs.declared.spot.Spot.{Spot}
 use Rattle.ray_cmd.specs.declared.stretch.Stretch.{Stretch}
@@ -29,7 +27,7 @@ use Rattle.ray_rules.specs.declared.phase.Phase.{Phase}
 use Rattle.ray_rules.specs.declared.phase.Phase.TheVariants.{Idle, Recording, Ended}
 use Rattle.ray_rules.specs.Access.{rays_of_piece, uses_at}
 use Rattle.ray_rules.specs.Conflicts.{v16}
-use Rattle.ray_rules.specs.FlagRules.{are_several, is_contradiction, v22, v23}
+use Rattle.ray_rules.specs.FlagRules.{are_several, is_contradiction, v22}
 use Rattle.ray_rules.specs.Ids.{is_live, look}
 use Rattle.ray_rules.specs.Names.{lacks_buffer, lacks_structure, v1}
 use Rattle.ray_rules.specs.Origins.{uses_of}
@@ -208,10 +206,6 @@ ray_within from count k size b fits low high = omega (arith, fits, low, high)
 not_outside : (size end : ℕ) → nat_lt size end ≡ false → end ≤ size
 not_outside size end e = grind (arith, nat_tests, e)
 
-unmapped : (found : Option ℕ) → option_map Part found ≡ None → found ≡ None
-unmapped None e = refl
-unmapped (Some k) e = absurd cc
-
 -- flags that contradict each other break a rule
 several : (a b c d : Bool) → a ≡ true → b ≡ true → are_several (a ∷ b ∷ c ∷ d ∷ []) ≡ true
 several true true true true e f = refl
@@ -254,9 +248,8 @@ trace_allowed : (rec : List Command) (z : Status) (top : ℕ) (rays : Spot) (cou
       count = rays_of_piece count n;
       flags = flags;
       mask = cull_mask mask;
-      script = script;
     })
-unfolding v1 v4 v7 v20 v21 v22 v23
+unfolding v1 v4 v7 v20 v21 v22
 trace_allowed rec z top rays count hits flags mask script k n =
     let named = not_broken (lacks_structure z top || (lacks_buffer z rays.buffer || lacks_buffer z hits.buffer)) k.names in
     let live = is_there (look z.structures top) (neither_first (lacks_structure z top) (lacks_buffer z rays.buffer || lacks_buffer z hits.buffer) named) in
@@ -274,13 +267,12 @@ trace_allowed rec z top rays count hits flags mask script k n =
       top = is.built;
       uses = ap (λ o. option_map_or (uses_of rec) o []) built;
       fresh = λ u used. fresh_of by.stamp (look z.structures u) (fails_at (is_stale z by.stamp) (uses_of rec by) u (no_part (is_stale z by.stamp) (uses_of rec by) fresh) used);
-      script = unmapped (refused_at script) k.script;
       flags = λ both. not_both flags both (not_broken (is_contradiction flags) k.flags);
     }
 
 pieces_allowed : (rec : List Command) (z : Status) (top : ℕ) (rays : Spot) (count : ℕ) (hits : Spot) (flags : RayFlags) (mask : ℕ) (script : List RawRule)
     → Keeps rec z (commands.Trace top rays count hits flags mask script) → (ns : List ℕ)
-    → AreOfBytes rec z (map (rays_action rec z top rays hits count flags mask script) ns)
+    → AreOfBytes rec z (map (rays_action rec z top rays hits count flags mask) ns)
 pieces_allowed rec z top rays count hits flags mask script k [] = tt
 pieces_allowed rec z top rays count hits flags mask script k (n ∷ ns) =
     ((trace_allowed rec z top rays count hits flags mask script k n, tt), pieces_allowed rec z top rays count hits flags mask script k ns)
@@ -358,5 +350,5 @@ command_leads rec i z (commands.Property what structures dst) m is may ties =
 command_leads rec i z (commands.Barrier src_stages src_access dst_stages dst_access buffers) m is may ties = bytes_on rec i z (Rest ∷ []) m ((tt, tt), tt) ties
 command_leads rec i z (commands.Trace top rays count hits flags mask script) m is may ties =
     let k = keeps rec z (commands.Trace top rays count hits flags mask script) may.rules in
-    bytes_on rec i z (map (rays_action rec z top rays hits count flags mask script) (range_with_len 0 (trace_pieces count))) m
+    bytes_on rec i z (map (rays_action rec z top rays hits count flags mask) (range_with_len 0 (trace_pieces count))) m
     (pieces_allowed rec z top rays count hits flags mask script k (range_with_len 0 (trace_pieces count))) ties

@@ -17,6 +17,7 @@ use Rattle.ray_cmd.specs.declared.copy_mode.CopyMode.TheVariants as copies
 use Rattle.ray_action.specs.declared.form.Form.{Form}
 use Rattle.ray_action.specs.Memory.{Contents, as_bottom}
 use Rattle.ray_action.specs.Action.{Tracing, MakeBuffer, MakeStructure, DestroyBuffer, DestroyStructure, ShowSizes, ShowBytes, UpdateBytes, FillBytes, CopyBytes, BuildBottom, UpdateBottom, BuildTop, UpdateTop, CopyStructure, SerializeStructure, DeserializeStructure, TellProperty, TraceRays, Rest, Impossible}
+use Rattle.ray_action.specs.Clients.{Meaning}
 use Rattle.ray_action.specs.Outcomes.{Outcome, Fault, Undefined, bottom_outcome, bytes_outcome, compact_copy, compacted_of, copy_outcome, deserialize_outcome, fitting_in, hits_outcome, kept_outcome, linked_outcome, opened_outcome, serialized_into, size_of_serialized, structure_in, property_outcome, top_outcome, trace_outcome}
 use Rattle.ray_action.specs.Readiness.{IsCopyReady, FitsMode}
 use Rattle.ray_action.specs.Seeing.{SeenBytes, SeenStructures}
@@ -103,29 +104,29 @@ restored used None form is there = absurd cc
 restored used (Some bytes) None is there = absurd cc
 restored used (Some bytes) (Some form) is there = opened form used bytes (broken_line bytes) refl
 
-traced : (trace : Tracing) (uses : SeenStructures) (rays : SeenBytes) (t : Option tops.TopValue) → IsSome rays → IsSome t → IsDefined (trace_outcome trace uses rays t)
-traced trace uses None t is there = absurd cc
-traced trace uses (Some rays) None is there = absurd cc
-traced trace uses (Some rays) (Some t) is there = hits _
+traced : (meaning : Meaning) (trace : Tracing) (uses : SeenStructures) (rays : SeenBytes) (t : Option tops.TopValue) → IsSome rays → IsSome t → IsDefined (trace_outcome meaning trace uses rays t)
+traced meaning trace uses None t is there = absurd cc
+traced meaning trace uses (Some rays) None is there = absurd cc
+traced meaning trace uses (Some rays) (Some t) is there = hits _
 
 pub defined : ReadyIsDefined
-defined (MakeBuffer id size content) memory ready = tt
-defined (MakeStructure id form) memory ready = tt
-defined (DestroyBuffer id) memory ready = tt
-defined (DestroyStructure id) memory ready = tt
-defined (ShowSizes kind counts) memory ready = tt
-defined (ShowBytes from form) memory ready = bytes _ ready
-defined (UpdateBytes to content) memory ready = tt
-defined (FillBytes to value) memory ready = tt
-defined (CopyBytes from to) memory ready = bytes _ ready
-defined (BuildBottom build flags geometries) memory ready = bottom _ _
-defined (UpdateBottom build src geometries) memory ready = made _ _ ready.0 (λ old. bottom _ _)
-defined (BuildTop build flags uses instances) memory ready = top _ _
-defined (UpdateTop build src uses instances) memory ready = made _ _ (some _ ready.0.top ready.0.is_it) (λ old. top _ _)
-defined (CopyStructure mode src dst) memory ready = copied mode _ _ ready.0 ready.1
-defined (SerializeStructure src to) memory ready = made _ (serialized_into to.size) ready (written to.size)
-defined (DeserializeStructure from dst uses) memory ready = restored _ _ _ ready.bytes ready.dst
-defined (TellProperty what structures to) memory ready = told _ ready
-defined (TraceRays trace) memory ready = traced trace _ _ _ ready.rays (some _ ready.top ready.is_it)
-defined Rest memory ready = tt
-defined Impossible memory ready = ready
+defined meaning (MakeBuffer id size content) memory ready = tt
+defined meaning (MakeStructure id form) memory ready = tt
+defined meaning (DestroyBuffer id) memory ready = tt
+defined meaning (DestroyStructure id) memory ready = tt
+defined meaning (ShowSizes kind counts) memory ready = tt
+defined meaning (ShowBytes from form) memory ready = bytes _ ready
+defined meaning (UpdateBytes to content) memory ready = tt
+defined meaning (FillBytes to value) memory ready = tt
+defined meaning (CopyBytes from to) memory ready = bytes _ ready
+defined meaning (BuildBottom build flags geometries) memory ready = bottom _ _
+defined meaning (UpdateBottom build src geometries) memory ready = made _ _ ready.0 (λ old. bottom _ _)
+defined meaning (BuildTop build flags uses instances) memory ready = top _ _
+defined meaning (UpdateTop build src uses instances) memory ready = made _ _ (some _ ready.0.top ready.0.is_it) (λ old. top _ _)
+defined meaning (CopyStructure mode src dst) memory ready = copied mode _ _ ready.0 ready.1
+defined meaning (SerializeStructure src to) memory ready = made _ (serialized_into to.size) ready (written to.size)
+defined meaning (DeserializeStructure from dst uses) memory ready = restored _ _ _ ready.bytes ready.dst
+defined meaning (TellProperty what structures to) memory ready = told _ ready
+defined meaning (TraceRays trace) memory ready = traced meaning trace _ _ _ ready.rays (some _ ready.top ready.is_it)
+defined meaning Rest memory ready = tt
+defined meaning Impossible memory ready = ready

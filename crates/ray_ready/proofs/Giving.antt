@@ -40,6 +40,7 @@ use Rattle.ray_action.specs.Memory.{Contents, Memory, Bottom, Top, ContentsAt, S
 use Rattle.ray_action.specs.Action.{Action, MakeBuffer, MakeStructure, DestroyBuffer, DestroyStructure, ShowSizes, ShowBytes, UpdateBytes, FillBytes, CopyBytes, BuildBottom, UpdateBottom, BuildTop, UpdateTop, CopyStructure, SerializeStructure, DeserializeStructure, TellProperty, TraceRays, Rest, Impossible}
 use Rattle.ray_action.specs.Seeing.{SeenBytes, see_structures}
 use Rattle.ray_action.specs.Building.{all_used}
+use Rattle.ray_action.specs.Clients.{Meaning}
 use Rattle.ray_action.specs.Outcomes.{Output, Outcome, Nothing, Holds, Gives, Breaks, Undefined, bad_bytes, bottom_outcome, compact_copy, compacted_of, copy_outcome, deserialize_outcome, fitting_in, kept_outcome, linked_outcome, of_bottom, of_top, opened_outcome, structure_in, outcome_of, top_outcome}
 use Rattle.ray_action.specs.Readiness.{IsReady}
 
@@ -230,34 +231,34 @@ MayGive (DeserializeStructure from dst uses) m o = MayRestore (m (StructureAt ds
 MayGive _ m o = Unit {0}
 
 -- what it gives it may give
-pub gives_may : (a : Action) (m : Memory) (o : Output) → outcome_of a m ≡ Gives o → MayGive a m o
-gives_may (MakeBuffer id size content) m o e = tt
-gives_may (MakeStructure id form) m o e = tt
-gives_may (DestroyBuffer id) m o e = tt
-gives_may (DestroyStructure id) m o e = tt
-gives_may (ShowSizes kind counts) m o e = tt
-gives_may (ShowBytes from form) m o e = tt
-gives_may (UpdateBytes to content) m o e = tt
-gives_may (FillBytes to value) m o e = tt
-gives_may (CopyBytes from to) m o e = tt
-gives_may (BuildBottom build flags gs) m o e = bottom_gives build.info _ o e
-gives_may (UpdateBottom build src gs) m o e =
+pub gives_may : (meaning : Meaning) (a : Action) (m : Memory) (o : Output) → outcome_of meaning a m ≡ Gives o → MayGive a m o
+gives_may meaning (MakeBuffer id size content) m o e = tt
+gives_may meaning (MakeStructure id form) m o e = tt
+gives_may meaning (DestroyBuffer id) m o e = tt
+gives_may meaning (DestroyStructure id) m o e = tt
+gives_may meaning (ShowSizes kind counts) m o e = tt
+gives_may meaning (ShowBytes from form) m o e = tt
+gives_may meaning (UpdateBytes to content) m o e = tt
+gives_may meaning (FillBytes to value) m o e = tt
+gives_may meaning (CopyBytes from to) m o e = tt
+gives_may meaning (BuildBottom build flags gs) m o e = bottom_gives build.info _ o e
+gives_may meaning (UpdateBottom build src gs) m o e =
     let source = of_bottom_gives (m (ContentsAt src)) _ o e in
     bottom_gives build.info _ o source.1.1
-gives_may (BuildTop build flags uses instances) m o e =
+gives_may meaning (BuildTop build flags uses instances) m o e =
     let gives = top_gives build.info _ o e in
     (gives.0, (gives.1.0, read_top flags _ _ None (count_of instances) _ gives.0 refl gives.1.1))
-gives_may (UpdateTop build src uses instances) m o e =
+gives_may meaning (UpdateTop build src uses instances) m o e =
     let source = of_top_gives (m (ContentsAt src)) _ o e in
     let gives = top_gives build.info _ o source.1.1 in
     (gives.0, (gives.1.0, read_top source.0.contents.flags _ _ (Some source.0.contents.instances) (count_of instances) _ gives.0 refl gives.1.1))
-gives_may (CopyStructure mode src dst) m o e = copy_gives mode (m (ContentsAt src)) (m (StructureAt dst)) o e
-gives_may (SerializeStructure src to) m o e = tt
-gives_may (DeserializeStructure from dst uses) m o e = restore_gives (all_used (see_structures m uses) uses) (bytes_at m from) (m (StructureAt dst)) o e
-gives_may (TellProperty what structures to) m o e = tt
-gives_may (TraceRays trace) m o e = tt
-gives_may Rest m o e = tt
-gives_may Impossible m o e = tt
+gives_may meaning (CopyStructure mode src dst) m o e = copy_gives mode (m (ContentsAt src)) (m (StructureAt dst)) o e
+gives_may meaning (SerializeStructure src to) m o e = tt
+gives_may meaning (DeserializeStructure from dst uses) m o e = restore_gives (all_used (see_structures m uses) uses) (bytes_at m from) (m (StructureAt dst)) o e
+gives_may meaning (TellProperty what structures to) m o e = tt
+gives_may meaning (TraceRays trace) m o e = tt
+gives_may meaning Rest m o e = tt
+gives_may meaning Impossible m o e = tt
 
 -- ---- what stands in for an output
 
@@ -344,13 +345,13 @@ given_or (Gives o) other = o
 given_or (Breaks fault) other = other
 given_or Undefined other = other
 
-abbrev pub whole_output : Action → Memory → Output
-whole_output a m = given_or (outcome_of a m) (stand_in a m)
+abbrev pub whole_output : Meaning → Action → Memory → Output
+whole_output meaning a m = given_or (outcome_of meaning a m) (stand_in a m)
 
-whole_by : (a : Action) (m : Memory) (x : Outcome) (other : Output) → outcome_of a m ≡ x → MayGive a m other → MayGive a m (given_or x other)
-whole_by a m (Gives o) other e may = gives_may a m o e
-whole_by a m (Breaks fault) other e may = may
-whole_by a m Undefined other e may = may
+whole_by : (meaning : Meaning) (a : Action) (m : Memory) (x : Outcome) (other : Output) → outcome_of meaning a m ≡ x → MayGive a m other → MayGive a m (given_or x other)
+whole_by meaning a m (Gives o) other e may = gives_may meaning a m o e
+whole_by meaning a m (Breaks fault) other e may = may
+whole_by meaning a m Undefined other e may = may
 
-pub whole_may : (a : Action) (m : Memory) → IsReady a m → MayGive a m (whole_output a m)
-whole_may a m ready = whole_by a m (outcome_of a m) (stand_in a m) refl (stand_may a m ready)
+pub whole_may : (meaning : Meaning) (a : Action) (m : Memory) → IsReady a m → MayGive a m (whole_output meaning a m)
+whole_may meaning a m ready = whole_by meaning a m (outcome_of meaning a m) (stand_in a m) refl (stand_may a m ready)

@@ -16,5 +16,6 @@ pub mod InfoRules
 pub mod Commands
 pub mod Recording
 pub mod Sources
+pub mod Scripts
 pub mod Sample
 pub mod Unrefused

@@ -251,7 +251,6 @@ trace_ready rec i k z m trace ties may =
             each_stands _ (λ v. IsSome (bounds_in by.top.used v.id)) (IsStanding by.top.used (bottoms_in (see_structures m trace.uses)))
             (stands rec i k z m trace ties may by.top by.is_it by.in_use) (by.active n d less);
       };
-      script = may.script;
       flags = may.flags;
     }
 

@@ -1,7 +1,6 @@
 -- The induction over a recording: each action is ready in its turn.
 use Rattle.std.proofs.Common.{◌≡◌, ◌+◌, ◌++◌, ◌<◌, ◌≤◌, ℕ, zero, suc, List, [], ◌∷◌, Option, Some, None, ◌⊎◌, inl, inr, refl, sym, ◌∙◌, ap, subst, arith, add-one, map, length, take}
-use Rattle.std.specs.Prelude.{slice_get}
-use Rattle.std.specs.Option.{option_map_or}
+use Rattle.std.specs.Prelude.{slice_get, unwrap_or}
 use Rattle.ray_cmd.specs.declared.command.Command.{Command}
 use Rattle.ray_cmd.specs.declared.structure_kind.StructureKind.{StructureKind}
 use Rattle.ray_rules.specs.declared.built.Built.{Built}
@@ -10,10 +9,11 @@ use Rattle.ray_rules.specs.Status.{Status, at_first}
 use Rattle.ray_rules.specs.Status as status
 use Rattle.ray_action.specs.Memory.{Memory, nothing_live}
 use Rattle.ray_action.specs.Action.{Action, Rest}
+use Rattle.ray_action.specs.Clients.{Clients, Meaning}
 use Rattle.ray_action.specs.Outcomes.{Output, Outcome, Gives, Breaks, Undefined, outcome_of}
 use Rattle.ray_action.specs.Pieces.{Numbered, actions, actions_from, actions_of, numbered}
 use Rattle.ray_action.specs.Readiness.{IsReady}
-use Rattle.ray_action.specs.Running.{Run, Text, Refused, Unknown, action_at, memory_before, run_from, then_run, with_text}
+use Rattle.ray_action.specs.Running.{Run, Text, Refused, Unknown, memory_before, run_from, then_run, unit_after, unit_at, unit_outcome, with_text}
 use Rattle.ray_action.specs.Storing.{after, put}
 use Rattle.ray_action.specs.Text.{text_of}
 use Rattle.ray_ready.specs.Accepted.{IsAccepted, MayRun}
@@ -146,23 +146,28 @@ given_is (Gives o) is = (o, refl)
 given_is (Breaks fault) is = absurd is
 given_is Undefined is = absurd is
 
-stored_next : (n : ℕ) (us : List Numbered) (a : Action) (m : Memory) (o : Output) → outcome_of a m ≡ Gives o → AreReadyBelow n us (put a (Gives o) m)
-    → AreReadyBelow n us (after a m)
-stored_next n us a m o e is = subst (AreReadyBelow n us) (sym (ap (λ x. put a x m) e)) is
+stored_next : (meaning : Meaning) (n : ℕ) (us : List Numbered) (a : Action) (m : Memory) (o : Output) → outcome_of meaning a m ≡ Gives o → AreReadyBelow n us (put a (Gives o) m)
+    → AreReadyBelow n us (after meaning a m)
+stored_next meaning n us a m o e is = subst (AreReadyBelow n us) (sym (ap (λ x. put a x m) e)) is
 
-ready_next : (n : ℕ) (left : List Numbered) (m : Memory) (a : Action) → option_map_or (λ (u : Numbered). u.action) (head_of left) Rest ≡ a → IsGiven (outcome_of a m)
-    → AreReadyBelow n left m → AreReadyBelow n (tail_of left) (after a m)
-ready_next n [] m a same given ready = tt
-ready_next n (u ∷ us) m a same given ready =
-    let is = given_is (outcome_of u.action m) (subst (λ b. IsGiven (outcome_of b m)) (sym same) given) in
-    subst (λ b. AreReadyBelow n us (after b m)) same (stored_next n us u.action m is.0 is.1 (ready.1 is.0 (λ less. gives_may u.action m is.0 is.1)))
+ready_next : (clients : Clients) (n : ℕ) (left : List Numbered) (m : Memory) (v : Numbered) → unwrap_or (head_of left) (numbered 0 Rest) ≡ v → IsGiven (unit_outcome clients v m)
+    → AreReadyBelow n left m → AreReadyBelow n (tail_of left) (unit_after clients v m)
+ready_next clients n [] m v same given ready = tt
+ready_next clients n (u ∷ us) m v same given ready =
+    let is = given_is (unit_outcome clients u m) (subst (λ w. IsGiven (unit_outcome clients w m)) (sym same) given) in
+    subst (λ w. AreReadyBelow n us (unit_after clients w m)) same
+    (stored_next (clients u.command) n us u.action m is.0 is.1 (ready.1 is.0 (λ less. gives_may (clients u.command) u.action m is.0 is.1)))
 
-ready_from : (n : ℕ) (us : List Numbered) (p : ℕ) → AreReadyBelow n us nothing_live → GaveBefore us p → AreReadyBelow n (left_at us p) (memory_before us p)
-ready_from n us zero ready gave = ready
-ready_from n us (suc p) ready gave =
-    ready_next n (left_at us p) (memory_before us p) (action_at us p)
-    (sym (ap (λ found. option_map_or (λ (u : Numbered). u.action) found Rest) (head_is us p))) (gave p (omega arith))
-    (ready_from n us p ready (λ q less. gave q (omega (arith, less))))
+-- the one at a number is the first of those that are left
+pub first_left : (us : List Numbered) (p : ℕ) → unwrap_or (head_of (left_at us p)) (numbered 0 Rest) ≡ unit_at us p
+first_left us p = sym (ap (λ found. unwrap_or found (numbered 0 Rest)) (head_is us p))
+
+ready_from : (clients : Clients) (n : ℕ) (us : List Numbered) (p : ℕ) → AreReadyBelow n us nothing_live → GaveBefore clients us p
+    → AreReadyBelow n (left_at us p) (memory_before clients us p)
+ready_from clients n us zero ready gave = ready
+ready_from clients n us (suc p) ready gave =
+    ready_next clients n (left_at us p) (memory_before clients us p) (unit_at us p) (first_left us p) (gave p (omega arith))
+    (ready_from clients n us p ready (λ q less. gave q (omega (arith, less))))
 
 pub the_first : (n : ℕ) (left : List Numbered) (m : Memory) (unit : Numbered) → head_of left ≡ Some unit → unit.command < n → AreReadyBelow n left m → IsReady unit.action m
 the_first n [] m unit is less ready = absurd cc
@@ -174,10 +179,10 @@ pub itself : (rec : List Command) → Follow rec 0 rec
 itself rec n k c same is = subst (λ q. slice_get rec q ≡ Some c) (sym (same ∙ omega arith)) is
 
 pub are_ready : ActionsAreReady
-are_ready rec n p unit accepted is less gave =
+are_ready clients rec n p unit accepted is less gave =
     let us : List Numbered = actions rec in
     let ready : AreReadyBelow n us nothing_live = all_ready rec n 0 at_first rec nothing_live accepted (itself rec) refl (at_beginning rec) in
-    the_first n (left_at us p) (memory_before us p) unit (sym (head_is us p) ∙ is) less (ready_from n us p ready gave)
+    the_first n (left_at us p) (memory_before clients us p) unit (sym (head_is us p) ∙ is) less (ready_from clients n us p ready gave)
 
 -- ---- the run
 
@@ -191,11 +196,12 @@ then_known unit (Gives o) later is known e = known o refl (no_unknown_text (text
 then_known unit (Breaks fault) later is known e = absurd cc
 then_known unit Undefined later is known e = absurd is
 
-run_known : (n : ℕ) (us : List Numbered) (m : Memory) → AreReadyBelow n us m → AreBelow n us → run_from m us ≡ Unknown → ⊥
-run_known n [] m ready below e = absurd cc
-run_known n (u ∷ us) m ready below e =
-    then_known u (outcome_of u.action m) (run_from (after u.action m) us) (defined u.action m (ready.0 below.0))
-    (λ o is. run_known n us (after u.action m) (stored_next n us u.action m o is (ready.1 o (λ less. gives_may u.action m o is))) below.1) e
+run_known : (clients : Clients) (n : ℕ) (us : List Numbered) (m : Memory) → AreReadyBelow n us m → AreBelow n us → run_from clients m us ≡ Unknown → ⊥
+run_known clients n [] m ready below e = absurd cc
+run_known clients n (u ∷ us) m ready below e =
+    let meaning = clients u.command in
+    then_known u (unit_outcome clients u m) (run_from clients (unit_after clients u m) us) (defined meaning u.action m (ready.0 below.0))
+    (λ o is. run_known clients n us (unit_after clients u m) (stored_next meaning n us u.action m o is (ready.1 o (λ less. gives_may meaning u.action m o is))) below.1) e
 
 taken : (n : ℕ) (rec : List Command) (k : ℕ) (c : Command) → slice_get (take n rec) k ≡ Some c → slice_get rec k ≡ Some c
 taken zero rec k c is = absurd cc
@@ -209,9 +215,9 @@ at_most (suc n) [] = omega arith
 at_most (suc n) (d ∷ rec) = let rest : length (take n rec) ≤ n = at_most n rec in omega (arith, rest)
 
 pub runs_known : RunsAreKnown
-runs_known rec n accepted e =
+runs_known clients rec n accepted e =
     let few : length (take n rec) ≤ n = at_most n rec in
-    run_known n (first_actions rec n) nothing_live
+    run_known clients n (first_actions rec n) nothing_live
     (all_ready rec n 0 at_first (take n rec) nothing_live accepted
     (λ q k c same is. subst (λ p. slice_get rec p ≡ Some c) (sym (same ∙ omega arith)) (taken n rec k c is)) refl (at_beginning rec))
     (actions_below rec n 0 at_first (take n rec) (omega (arith, few))) e

@@ -2,46 +2,45 @@
 -- what breaks a data rule stores nothing there is one in which it stores what it might have given: there each
 -- action is ready, and the two hold the same wherever such an action reads.
 use Rattle.std.proofs.Common.{◌≡◌, ◌<◌, ◌≤◌, ℕ, zero, suc, Bool, true, false, List, [], ◌∷◌, Some, refl, sym, ◌∙◌, ap, subst, arith}
-use Rattle.std.specs.Prelude.{if◌then◌else◌, slice_get}
-use Rattle.std.specs.Option.{option_map_or}
+use Rattle.std.specs.Prelude.{if◌then◌else◌, slice_get, unwrap_or}
 use Rattle.ray_rules.specs.Status.{at_first}
 use Rattle.ray_action.specs.Memory.{Location, Memory, nothing_live}
 use Rattle.ray_action.specs.Areas.{AgreeOn, cover}
-use Rattle.ray_action.specs.Action.{Action, Rest, areas_read}
-use Rattle.ray_action.specs.Outcomes.{Output, Outcome, Gives, Breaks, Undefined, outcome_of}
-use Rattle.ray_action.specs.Pieces.{Numbered, actions}
+use Rattle.ray_action.specs.Action.{Rest, areas_read}
+use Rattle.ray_action.specs.Clients.{Clients}
+use Rattle.ray_action.specs.Outcomes.{Output, Outcome, Gives, Breaks, Undefined}
+use Rattle.ray_action.specs.Pieces.{Numbered, actions, numbered}
 use Rattle.ray_action.specs.Readiness.{IsReady}
-use Rattle.ray_action.specs.Running.{action_at, memory_before}
-use Rattle.ray_action.specs.Storing.{after, left, put, writes}
+use Rattle.ray_action.specs.Running.{action_at, memory_before, number_at, unit_after, unit_at, unit_outcome}
+use Rattle.ray_action.specs.Storing.{left, put, writes}
 use Rattle.ray_action.proofs.Local.{outcomes_local}
 use Rattle.ray_ready.specs.Laws.{AreSources, IsGiven, SourcesAreEnough}
 use Rattle.ray_ready.proofs.Local.{ready_local}
 use Rattle.ray_ready.proofs.Giving.{given_or, stand_in, whole_may, whole_output}
 use Rattle.ray_ready.proofs.Leading.{AreReadyBelow}
-use Rattle.ray_ready.proofs.Recording.{all_ready, at_beginning, head_is, head_of, itself, left_at, tail_of, the_first}
+use Rattle.ray_ready.proofs.Recording.{all_ready, at_beginning, first_left, head_is, head_of, itself, left_at, tail_of, the_first}
 
 -- the memory after an action that stores what it gives, or what it might have given
-abbrev whole_after : Action → Memory → Memory
-whole_after a m = put a (Gives (whole_output a m)) m
+abbrev whole_after : Clients → Numbered → Memory → Memory
+whole_after clients u m = put u.action (Gives (whole_output (clients u.command) u.action m)) m
 
-abbrev whole_before : List Numbered → ℕ → Memory
-whole_before units zero = nothing_live
-whole_before units (suc p) = whole_after (action_at units p) (whole_before units p)
+abbrev whole_before : Clients → List Numbered → ℕ → Memory
+whole_before clients units zero = nothing_live
+whole_before clients units (suc p) = whole_after clients (unit_at units p) (whole_before clients units p)
 
 -- ---- there each action is ready
 
-whole_next : (n : ℕ) (left : List Numbered) (m : Memory) (a : Action) → option_map_or (λ (u : Numbered). u.action) (head_of left) Rest ≡ a
-    → AreReadyBelow n left m → AreReadyBelow n (tail_of left) (whole_after a m)
-whole_next n [] m a same ready = tt
-whole_next n (u ∷ us) m a same ready =
-    subst (λ b. AreReadyBelow n us (whole_after b m)) same
-    (ready.1 (whole_output u.action m) (λ less. whole_may u.action m (ready.0 less)))
+whole_next : (clients : Clients) (n : ℕ) (left : List Numbered) (m : Memory) (v : Numbered) → unwrap_or (head_of left) (numbered 0 Rest) ≡ v
+    → AreReadyBelow n left m → AreReadyBelow n (tail_of left) (whole_after clients v m)
+whole_next clients n [] m v same ready = tt
+whole_next clients n (u ∷ us) m v same ready =
+    subst (λ w. AreReadyBelow n us (whole_after clients w m)) same
+    (ready.1 (whole_output (clients u.command) u.action m) (λ less. whole_may (clients u.command) u.action m (ready.0 less)))
 
-whole_ready : (n : ℕ) (us : List Numbered) (p : ℕ) → AreReadyBelow n us nothing_live → AreReadyBelow n (left_at us p) (whole_before us p)
-whole_ready n us zero ready = ready
-whole_ready n us (suc p) ready =
-    whole_next n (left_at us p) (whole_before us p) (action_at us p)
-    (sym (ap (λ found. option_map_or (λ (u : Numbered). u.action) found Rest) (head_is us p))) (whole_ready n us p ready)
+whole_ready : (clients : Clients) (n : ℕ) (us : List Numbered) (p : ℕ) → AreReadyBelow n us nothing_live → AreReadyBelow n (left_at us p) (whole_before clients us p)
+whole_ready clients n us zero ready = ready
+whole_ready clients n us (suc p) ready =
+    whole_next clients n (left_at us p) (whole_before clients us p) (unit_at us p) (first_left us p) (whole_ready clients n us p ready)
 
 -- ---- the two runs hold the same
 
@@ -55,49 +54,52 @@ given_same (Breaks fault) other is = absurd is
 given_same Undefined other is = absurd is
 
 -- after an action that sees the same in both and gives an output, or doesn't write there
-same_after : (a : Action) (w m : Memory) (l : Location) → w l ≡ m l → (writes a l ≡ true → (outcome_of a w ≡ outcome_of a m) × IsGiven (outcome_of a m))
-    → whole_after a w l ≡ after a m l
-same_after a w m l same sees =
-    same_if (writes a l) (left a (Gives (whole_output a w)) l (w l)) (left a (outcome_of a m) l (m l)) (w l) (m l)
+same_after : (clients : Clients) (u : Numbered) (w m : Memory) (l : Location) → w l ≡ m l
+    → (writes u.action l ≡ true → (unit_outcome clients u w ≡ unit_outcome clients u m) × IsGiven (unit_outcome clients u m))
+    → whole_after clients u w l ≡ unit_after clients u m l
+same_after clients u w m l same sees =
+    let a = u.action in
+    let whole_of : Output = whole_output (clients u.command) a w in
+    same_if (writes a l) (left a (Gives whole_of) l (w l)) (left a (unit_outcome clients u m) l (m l)) (w l) (m l)
     (λ there.
     let s = sees there in
-    let whole : Gives (whole_output a w) ≡ outcome_of a w = given_same (outcome_of a w) (stand_in a w) (subst IsGiven (sym s.0) s.1) in
+    let whole : Gives whole_of ≡ unit_outcome clients u w = given_same (unit_outcome clients u w) (stand_in a w) (subst IsGiven (sym s.0) s.1) in
     λ i. left a ((whole ∙ s.0) i) l (same i))
     same
 
 -- what action r reads, before each action up to it, where this is so of those among the sources before it
-same_to : (units : List Numbered) (among : ℕ → Bool) (p r : ℕ) (l : Location) → AreSources units among p → r ≤ p → among r ≡ true
+same_to : (clients : Clients) (units : List Numbered) (among : ℕ → Bool) (p r : ℕ) (l : Location) → AreSources clients units among p → r ≤ p → among r ≡ true
     → cover (areas_read (action_at units r)) l ≡ true
-    → ((q : ℕ) → q < r → among q ≡ true → AgreeOn (areas_read (action_at units q)) (whole_before units q) (memory_before units q))
-    → (k : ℕ) → k ≤ r → whole_before units k l ≡ memory_before units k l
-same_to units among p r l sources within is reads agree zero below = refl
-same_to units among p r l sources within is reads agree (suc k) below =
-    same_after (action_at units k) (whole_before units k) (memory_before units k) l
-    (same_to units among p r l sources within is reads agree k (omega (arith, below)))
+    → ((q : ℕ) → q < r → among q ≡ true → AgreeOn (areas_read (action_at units q)) (whole_before clients units q) (memory_before clients units q))
+    → (k : ℕ) → k ≤ r → whole_before clients units k l ≡ memory_before clients units k l
+same_to clients units among p r l sources within is reads agree zero below = refl
+same_to clients units among p r l sources within is reads agree (suc k) below =
+    same_after clients (unit_at units k) (whole_before clients units k) (memory_before clients units k) l
+    (same_to clients units among p r l sources within is reads agree k (omega (arith, below)))
     (λ there.
     let member : among k ≡ true = sources.closed k r l (omega (arith, below)) within is there reads in (
-      outcomes_local (action_at units k) (whole_before units k) (memory_before units k) (agree k (omega (arith, below)) member),
+      outcomes_local (clients (number_at units k)) (action_at units k) (whole_before clients units k) (memory_before clients units k) (agree k (omega (arith, below)) member),
       sources.gave k (omega (arith, below, within)) member,
     ))
 
 -- so it is of all those below a number
-same_below : (units : List Numbered) (among : ℕ → Bool) (p : ℕ) → AreSources units among p → (n r : ℕ) → r < n → r ≤ p → among r ≡ true
-    → AgreeOn (areas_read (action_at units r)) (whole_before units r) (memory_before units r)
-same_below units among p sources zero r less within is = absurd (omega (arith, less))
-same_below units among p sources (suc n) r less within is = λ l reads.
-    same_to units among p r l sources within is reads
-    (λ q before member. same_below units among p sources n q (omega (arith, less, before)) (omega (arith, within, before)) member) r (omega arith)
+same_below : (clients : Clients) (units : List Numbered) (among : ℕ → Bool) (p : ℕ) → AreSources clients units among p → (n r : ℕ) → r < n → r ≤ p → among r ≡ true
+    → AgreeOn (areas_read (action_at units r)) (whole_before clients units r) (memory_before clients units r)
+same_below clients units among p sources zero r less within is = absurd (omega (arith, less))
+same_below clients units among p sources (suc n) r less within is = λ l reads.
+    same_to clients units among p r l sources within is reads
+    (λ q before member. same_below clients units among p sources n q (omega (arith, less, before)) (omega (arith, within, before)) member) r (omega arith)
 
 unit_is : (units : List Numbered) (p : ℕ) (unit : Numbered) → slice_get units p ≡ Some unit → action_at units p ≡ unit.action
-unit_is units p unit is = ap (λ found. option_map_or (λ (u : Numbered). u.action) found Rest) is
+unit_is units p unit is = ap (λ found. (unwrap_or found (numbered 0 Rest)).action) is
 
 pub sources_enough : SourcesAreEnough
-sources_enough rec n p unit among accepted is less member sources =
+sources_enough clients rec n p unit among accepted is less member sources =
     let us : List Numbered = actions rec in
     let ready : AreReadyBelow n us nothing_live = all_ready rec n 0 at_first rec nothing_live accepted (itself rec) refl (at_beginning rec) in
-    let there : IsReady unit.action (whole_before us p) =
-    the_first n (left_at us p) (whole_before us p) unit (sym (head_is us p) ∙ is) less (whole_ready n us p ready) in
-    let same : AgreeOn (areas_read unit.action) (whole_before us p) (memory_before us p) =
-    subst (λ a. AgreeOn (areas_read a) (whole_before us p) (memory_before us p)) (unit_is us p unit is)
-    (same_below us among p sources (suc p) p (omega arith) (omega arith) member) in
-    ready_local unit.action (whole_before us p) (memory_before us p) same there
+    let there : IsReady unit.action (whole_before clients us p) =
+    the_first n (left_at us p) (whole_before clients us p) unit (sym (head_is us p) ∙ is) less (whole_ready clients n us p ready) in
+    let same : AgreeOn (areas_read unit.action) (whole_before clients us p) (memory_before clients us p) =
+    subst (λ a. AgreeOn (areas_read a) (whole_before clients us p) (memory_before clients us p)) (unit_is us p unit is)
+    (same_below clients us among p sources (suc p) p (omega arith) (omega arith) member) in
+    ready_local unit.action (whole_before clients us p) (memory_before clients us p) same there

@@ -1,4 +1,5 @@
-ghost use Rattle.ray_ready.specs.Laws.{ActionsAreReady, KeptAreAccepted, ReadinessIsLocal};
+ghost use Rattle.ray_ready.specs.Laws.{AcceptedHaveScripts, ActionsAreReady};
+ghost use Rattle.ray_ready.specs.Laws.{KeptAreAccepted, ReadinessIsLocal};
 ghost use Rattle.ray_ready.specs.Laws.{ReadyIsDefined, RunsAreKnown, SourcesAreEnough};
 ghost use Rattle.ray_ready.specs.Laws.{UnrefusedKeepRules};
 
@@ -39,6 +40,11 @@ pub fn runs_are_known()
 /// It does nothing. Own.
 pub fn unrefused_keep_rules()
     ensures { UnrefusedKeepRules }
+{}
+
+/// A law: the script of each command that may be run is one. It does nothing. Own.
+pub fn accepted_have_scripts()
+    ensures { AcceptedHaveScripts }
 {}
 
 /// A law: of a recording, the commands below a number may be run where they keep the static rules.

@@ -9,6 +9,6 @@
 mod laws;
 
 pub use crate::laws::{
-    actions_are_ready, kept_are_accepted, readiness_is_local, ready_is_defined, runs_are_known,
-    sources_are_enough, unrefused_keep_rules,
+    accepted_have_scripts, actions_are_ready, kept_are_accepted, readiness_is_local,
+    ready_is_defined, runs_are_known, sources_are_enough, unrefused_keep_rules,
 };

@@ -3,7 +3,7 @@ ghost use Rattle.std.specs.Prelude.{◌≡◌, length};
 ghost use Rattle.ray_slabs.specs.AxisRows.{IsFit, near_row, far_row, lifted_far};
 
 use crate::axis::Axis;
-use crate::rows::{high_row, lifted, overlap_row, over, under};
+use crate::rows::{high_row, lifted, over, overlap_row, under};
 use std::simd::prelude::*;
 
 // A key that is beyond all that are compared with it, with 2^31 more.
@@ -20,9 +20,7 @@ pub(crate) fn near_row(axis: Axis, lo: u32x8, hi: u32x8) -> u32x8
     match axis {
         Axis::Rising { factor, start } => over(lifted(start), high_row(lo, factor)),
         Axis::Falling { factor, start } => under(lifted(start), high_row(hi, factor)),
-        Axis::Flat { from, to } => {
-            overlap_row(lo, hi, lifted(from), lifted(to), LIFTED_BEYOND)
-        }
+        Axis::Flat { from, to } => { overlap_row(lo, hi, lifted(from), lifted(to), LIFTED_BEYOND) }
     }
 }
 

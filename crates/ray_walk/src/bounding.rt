@@ -60,11 +60,7 @@ fn whole() -> Box3
 
 /// What the slabs of a ray tell of eight boxes, if there are any.
 #[inline(always)]
-pub(crate) fn eight_of(
-    _ray: &ObjectRay,
-    slabs: &Option<Slabs>,
-    lanes: &Lanes8,
-) -> Option<Eight>
+pub(crate) fn eight_of(_ray: &ObjectRay, slabs: &Option<Slabs>, lanes: &Lanes8) -> Option<Eight>
     requires { IfSome slabs.now (AreBounds _ray.now whole None) }
     ensures { IfSome result (IsEight _ray.now lanes.now) }
 {

@@ -1,6 +1,6 @@
-pub mod Completeness
-pub mod EveryOrder
-pub mod SelfRuns
+pub mod OneRequest
+pub mod LastRead
+pub mod Jobs
+pub mod Calls
 pub mod Telling
 pub mod Texts
-pub mod Unrefused

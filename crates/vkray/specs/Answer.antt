@@ -1,85 +1,135 @@
 -- What an input ends with, by what it is asked for: a text, or why there is none, as one function. (Own.)
-use Rattle.std.specs.Prelude.{ℕ, List, length, Option, Some, None, Result, Ok, Err, codes}
+use Rattle.std.specs.Prelude.{ℕ, List, [], length, Option, Some, None, Result, Ok, Err, Bool, true, false, codes}
+use Rattle.ray_schedule.specs.Events.{Event}
+use Rattle.ray_schedule.specs.Laws.{after}
 use Rattle.ray_cmd.specs.declared.command.Command.{Command}
 use Rattle.ray_cmd.specs.declared.fault.RecordingFault.{RecordingFault}
 use Rattle.ray_cmd.specs.declared.fault.RecordingFault.TheVariants as recordings
 use Rattle.ray_cmd.specs.declared.refusal.Refusal.{Refusal}
 use Rattle.ray_cmd.specs.Recordings.{recording_in}
-use Rattle.ray_rules.specs.Order.{barriers}
 use Rattle.ray_rules.specs.Verdict.{rule_refusal}
+use Rattle.ray_action.specs.Memory.{Memory}
 use Rattle.ray_action.specs.Running as action
-use Rattle.ray_action.specs.Running.{Text, Unknown}
-use Rattle.ray_exec.specs.Runs.{run_below}
-use Rattle.vkray.specs.declared.asked.Asked.{Asked}
-use Rattle.vkray.specs.declared.asked.Asked.TheVariants.{Run, Check}
+use Rattle.ray_action.specs.Running.{Run, Text, Unknown}
+use Rattle.ray_permitted.specs.Along.{memory_below, run_along, run_below}
+use Rattle.ray_permitted.specs.Job.{Job, recorded}
+use Rattle.ray_permitted.specs.Work.{work_of}
+use Rattle.vkray.specs.declared.asked.Asked.TheVariants as asked
+use Rattle.vkray.specs.declared.input_fault.InputFault.TheVariants.{NotJson, BadShape, Refused}
+use Rattle.vkray.specs.declared.request.Request.{Request}
+use Rattle.vkray.specs.declared.request.Request.TheVariants.{Input, Generate, RunSelf}
 use Rattle.vkray.specs.declared.stop.Stop.{Stop}
-use Rattle.vkray.specs.declared.stop.Stop.TheVariants.{NotJson, BadShape, Refused, NoMemory}
-use Rattle.vkray.specs.declared.request.Scene.{Scene}
-use Rattle.vkray.specs.Counting.{counts_line, last_shown}
+use Rattle.vkray.specs.declared.stop.Stop.TheVariants as stops
+use Rattle.vkray.specs.Counting.{counts_line, last_shown_in}
 use Rattle.vkray.specs.Scenes.{text_of_scene}
 
 -- a text, or why there is none
 abbrev pub Ending : Type 0
 Ending = Result (List ℕ) Stop
 
+-- the ending of a recording that a command's refusal ends
+abbrev pub refused : Refusal → Ending
+refused refusal = Err (stops.Input (Refused refusal))
+
+-- ---- the job of a request
+
+-- whether a request runs what its input says
+abbrev pub runs : Request → Bool
+runs (Input (asked.Run workers)) = true
+runs (Input asked.Check) = false
+runs (Generate scene) = false
+runs (RunSelf by) = true
+
+-- the job of a recording that was read, or why there is none
+abbrev pub job_of_read : Result (List Command) RecordingFault → Result Job Stop
+job_of_read (Ok rec) = Ok (recorded rec)
+job_of_read (Err recordings.NotJson) = Err (stops.Input NotJson)
+job_of_read (Err (recordings.BadShape command)) = Err (stops.Input (BadShape command))
+job_of_read (Err recordings.NoMemory) = Err stops.NoMemory
+
+-- the job that a request has of the bytes of its input: a recording on one queue, by its scripts. The making
+-- up of a scene has none
+abbrev pub job_of : Request → List ℕ → Result Job Stop
+job_of (Input what) input = job_of_read (recording_in input)
+job_of (Generate scene) input = Err stops.NoMemory
+job_of (RunSelf by) input = job_of_read (recording_in input)
+
+-- ---- what is told of a run
+
 -- what a run ends with: its text, or the refusal of the first command that breaks a data rule. A run that has
 -- no meaning, as none has that is run, tells nothing
-abbrev pub ending_of_run : action.Run → Ending
+abbrev pub ending_of_run : Run → Ending
 ending_of_run (Text text) = Ok text
-ending_of_run (action.Refused refusal) = Err (Refused refusal)
-ending_of_run Unknown = Err NoMemory
-
--- the same where the commands after those that are run end it, and not their text
-abbrev pub ending_before : action.Run → Stop → Ending
-ending_before (Text text) stop = Err stop
-ending_before (action.Refused refusal) stop = Err (Refused refusal)
-ending_before Unknown stop = Err NoMemory
-
--- a run with the refusal of its recording by V1 to V32, where there is one, which ends it
-abbrev pub run_with : List Command → Option Refusal → Ending
-run_with rec None = ending_of_run (run_below rec (length rec))
-run_with rec (Some refusal) = ending_before (run_below rec refusal.command) (Refused refusal)
-
--- a run of a recording
-abbrev pub ran : List Command → Ending
-ran rec = run_with rec (rule_refusal (barriers rec) rec)
-
--- a refusal, and where there is none another ending
-abbrev pub refused_or : Option Refusal → Ending → Ending
-refused_or None otherwise = otherwise
-refused_or (Some refusal) otherwise = Err (Refused refusal)
-
--- what rules say of a recording: `ok`, or its refusal
-abbrev pub checked : List Command → Ending
-checked rec = refused_or (rule_refusal (barriers rec) rec) (Ok (codes "ok\n"))
-
--- what a recording is asked for. How many workers there are makes no difference
-abbrev pub ending_of : Asked → List Command → Ending
-ending_of (Run workers) rec = ran rec
-ending_of Check rec = checked rec
-
--- the same of what was read
-abbrev pub ending_of_read : (List Command → Ending) → Result (List Command) RecordingFault → Ending
-ending_of_read ending (Ok rec) = ending rec
-ending_of_read ending (Err recordings.NotJson) = Err NotJson
-ending_of_read ending (Err (recordings.BadShape command)) = Err (BadShape command)
-ending_of_read ending (Err recordings.NoMemory) = Err NoMemory
-
--- the answer to what an input is asked for
-unfoldable pub answer_of : Asked → List ℕ → Ending
-answer_of asked input = ending_of_read (ending_of asked) (recording_in input)
-
--- ---- a self run
+ending_of_run (action.Refused refusal) = refused refusal
+ending_of_run Unknown = Err stops.NoMemory
 
 -- a line in place of the text of a run
 abbrev pub in_place_of_text : List ℕ → Ending → Ending
 in_place_of_text line (Ok text) = Ok line
 in_place_of_text line (Err stop) = Err stop
 
--- the run of a recording, and the counts of the records that its last command reads, of so many rays
-abbrev pub counted : ℕ → List Command → Ending
-counted rays rec = in_place_of_text (counts_line rays (last_shown rec)) (ran rec)
+-- what a request tells of a run of its job and of the memory after it: the text, or of a self run the counts
+-- of the records that the last command reads
+abbrev pub told_of : Request → Job → Run → Memory → Ending
+told_of (RunSelf by) job run memory =
+    in_place_of_text (counts_line by.scene.rays (last_shown_in memory job.commands)) (ending_of_run run)
+told_of request job run memory = ending_of_run run
 
--- the answer to the words that ask for a self run: the recording of their scene is read and run
-unfoldable pub self_answer : Scene → Ending
-self_answer scene = ending_of_read (counted scene.rays) (recording_in (text_of_scene scene))
+-- what it tells along a schedule of all commands, and in recording order
+abbrev pub told_along : Request → Job → List Event → Ending
+told_along request job es =
+    told_of request job (run_along job (length job.commands) es) (after (work_of job (length job.commands)) es).memory
+
+abbrev pub told_in_order : Request → Job → Ending
+told_in_order request job =
+    told_of request job (run_below job (length job.commands)) (memory_below job (length job.commands))
+
+-- ---- the answer
+
+-- what a run ends with where the commands after those that are run end it, and not their text
+abbrev pub ending_before : Run → Ending → Ending
+ending_before (Text text) ending = ending
+ending_before (action.Refused refusal) ending = refused refusal
+ending_before Unknown ending = Err stops.NoMemory
+
+-- what a job ends with of which the rules on commands alone refuse one: the commands below it are run
+abbrev pub refused_before : Job → Refusal → Ending
+refused_before job refusal = ending_before (run_below job refusal.command) (refused refusal)
+
+-- the run of a job with the refusal of its commands by those rules, where there is one
+abbrev pub run_with : Request → Job → Option Refusal → Ending
+run_with request job None = told_in_order request job
+run_with request job (Some refusal) = refused_before job refusal
+
+abbrev pub ran : Request → Job → Ending
+ran request job = run_with request job (rule_refusal job.order job.commands)
+
+-- what the rules say of a job: `ok`, or the refusal of its commands
+abbrev pub refused_or : Option Refusal → Ending → Ending
+refused_or None otherwise = otherwise
+refused_or (Some refusal) otherwise = refused refusal
+
+abbrev pub checked : Job → Ending
+checked job = refused_or (rule_refusal job.order job.commands) (Ok (codes "ok\n"))
+
+-- what is done with a job, where there is one
+abbrev pub with_job : (Job → Ending) → Result Job Stop → Ending
+with_job ending (Ok job) = ending job
+with_job ending (Err stop) = Err stop
+
+-- the answer to a request, of the bytes of its input. How many workers there are makes no difference
+unfoldable pub answer_of : Request → List ℕ → Ending
+answer_of (Input (asked.Run workers)) input = with_job (ran (Input (asked.Run workers))) (job_of (Input (asked.Run workers)) input)
+answer_of (Input asked.Check) input = with_job checked (job_of (Input asked.Check) input)
+answer_of (Generate scene) input = Ok (text_of_scene scene)
+answer_of (RunSelf by) input = with_job (ran (RunSelf by)) (job_of (RunSelf by) input)
+
+-- the input of a request that reads none: the recording of a self run's scene
+abbrev pub made_up : Request → List ℕ
+made_up (RunSelf by) = text_of_scene by.scene
+made_up request = []
+
+-- the input of a request, where the source has these bytes left
+abbrev pub input_of : Request → Option (List ℕ) → Option (List ℕ)
+input_of (Input what) left = left
+input_of request left = Some (made_up request)

@@ -1,23 +1,20 @@
 -- How a call of the program ends, by what it did to its source and its sink. (Own.)
-use Rattle.std.specs.Prelude.{◌≡◌, ◌≤◌, ◌<◌, ◌+◌, ◌^◌, ℕ, List, [], ◌++◌, length, take, drop, Option, Some, None, Ok, Err, IfSome, ◌⊎◌, String}
+use Rattle.std.specs.Prelude.{◌≡◌, ◌≤◌, ◌<◌, ◌+◌, ◌^◌, ℕ, List, [], ◌++◌, length, take, drop, Option, Some, None, Ok, Err, IfSome, ◌⊎◌, String, codes}
 use Rattle.std.specs.declared.alloc.Global.{Global}
-use Rattle.ray_cmd.specs.declared.command.Command.{Command}
-use Rattle.ray_cmd.specs.Recordings.{recording_in}
 use Rattle.ray_io.specs.Faults.{HasRisen}
 use Rattle.ray_io.specs.ReadAll.{LeavesAllBut}
-use Rattle.ray_rules.specs.Order.{barriers}
 use Rattle.ray_rules.specs.Verdict.{rule_refusal}
-use Rattle.ray_action.specs.Running.{Text}
-use Rattle.ray_exec.specs.Runs.{run_below}
-use Rattle.vkray.specs.declared.asked.Asked.{Asked}
-use Rattle.vkray.specs.declared.request.Scene.{Scene}
-use Rattle.vkray.specs.declared.request.SelfRun.{SelfRun}
+use Rattle.ray_permitted.specs.Job.{Job}
+use Rattle.vkray.specs.declared.asked.Asked.TheVariants as asked
+use Rattle.vkray.specs.declared.request.Request.{Request}
+use Rattle.vkray.specs.declared.request.Request.TheVariants.{Input, Generate, RunSelf}
 use Rattle.vkray.specs.declared.status.Status.{Status}
 use Rattle.vkray.specs.declared.status.Status.TheVariants as statuses
-use Rattle.vkray.specs.declared.stop.Stop.TheVariants.{BadWords, ReadFault, TooLong, NotJson, BadShape, Refused, NoMemory}
-use Rattle.vkray.specs.Answer.{Ending, answer_of, self_answer}
+use Rattle.vkray.specs.declared.stop.Stop.TheVariants.{BadWords, ReadFault, TooLong, NoMemory}
+use Rattle.vkray.specs.declared.stop.Stop.TheVariants as stops
+use Rattle.vkray.specs.Answer.{Ending, answer_of, job_of, made_up, told_in_order}
 use Rattle.vkray.specs.Scenes.{text_of_scene}
-use Rattle.vkray.specs.Words.{AreWords, AskInput, Asks, AsksFor, AsksSelfRun}
+use Rattle.vkray.specs.Words.{AreWords, AskInput, Requests}
 use Rattle.vkray.specs.Written.{status_of, text_of}
 
 -- the greatest number of bytes of an input: 2^26
@@ -89,42 +86,27 @@ IsCut writing text = IfSome writing.before (λ bytes. (count : ℕ) × (count �
 abbrev pub HasFailed : Writing → Type 0
 HasFailed writing = HasRisen writing.faults_before writing.faults_after ⊎ HasRisen writing.zero_writes_before writing.zero_writes_after
 
--- the words ask an input for something, it was read to its end, and its answer to that is this
-pub record IsAnswerOfInput (words : List (String Global)) (reading : Reading) (ending : Ending) : Type 0 where
-  pub asked : Asked
-  pub asks : Asks words asked
+-- the bytes are the input of a request: they were read to their end, or nothing was read and they are made up
+abbrev pub IsFrom : Request → Reading → List ℕ → Type 0
+IsFrom (Input what) reading input = IsRead reading input
+IsFrom request reading input = (reading.after ≡ reading.before) × (input ≡ made_up request)
+
+-- an ending is the answer to what the words ask for
+pub record IsAnswer (words : List (String Global)) (reading : Reading) (ending : Ending) : Type 0 where
+  pub request : Request
+  pub asks : Requests words request
   pub input : List ℕ
-  pub read : IsRead reading input
-  pub is : answer_of asked input ≡ ending
-
--- the words ask for the recording of a scene, which is this text, and nothing was read
-pub record IsGenerated (words : List (String Global)) (reading : Reading) (text : List ℕ) : Type 0 where
-  pub scene : Scene
-  pub asks : AsksFor words scene
-  pub unread : reading.after ≡ reading.before
-  pub is : text_of_scene scene ≡ text
-
--- the words ask for a self run, which ends with this, and nothing was read
-pub record IsSelfAnswer (words : List (String Global)) (reading : Reading) (ending : Ending) : Type 0 where
-  pub asked : SelfRun
-  pub asks : AsksSelfRun words asked
-  pub unread : reading.after ≡ reading.before
-  pub is : self_answer asked.scene ≡ ending
-
--- an answer of an input, or of a self run
-abbrev pub IsAnswer : List (String Global) → Reading → Ending → Type 0
-IsAnswer words reading ending = IsAnswerOfInput words reading ending ⊎ IsSelfAnswer words reading ending
+  pub from : IsFrom request reading input
+  pub is : answer_of request input ≡ ending
 
 -- what the words and the source give: bad words read nothing; a read failed, or there are too many bytes; or else the
--- answer of the input or of a self run, or the recording of a scene
+-- answer to what the words ask for
 abbrev pub IsEnding : List (String Global) → Reading → Ending → Type 0
-IsEnding words reading (Ok text) = IsAnswer words reading (Ok text) ⊎ IsGenerated words reading text
+IsEnding words reading (Ok text) = IsAnswer words reading (Ok text)
 IsEnding words reading (Err BadWords) = (¬ AreWords words) × (reading.after ≡ reading.before)
 IsEnding words reading (Err ReadFault) = AskInput words × HasRisen reading.faults_before reading.faults_after × (¬ TakesTooMany reading) × TakesPrefix reading
 IsEnding words reading (Err TooLong) = AskInput words × IsTooLong reading
-IsEnding words reading (Err NotJson) = IsAnswer words reading (Err NotJson)
-IsEnding words reading (Err (BadShape command)) = IsAnswer words reading (Err (BadShape command))
-IsEnding words reading (Err (Refused refusal)) = IsAnswer words reading (Err (Refused refusal))
+IsEnding words reading (Err (stops.Input fault)) = IsAnswer words reading (Err (stops.Input fault))
 IsEnding words reading (Err NoMemory) = ⊥
 
 -- a text was sent: it is written, and the status is its own; or a write failed
@@ -148,25 +130,40 @@ pub record IsOutOfMemory (reading : Reading) (writing : Writing) (result : Statu
 abbrev pub Answers : List (String Global) → Reading → Writing → Status → Type 0
 Answers words reading writing result = IsOutOfMemory reading writing result ⊎ IsTold words reading writing result
 
--- a call that is to be answered: the word is this, the source gives all of an input within the limit without a fault, the
--- sink takes what is written, and the input is a recording that breaks no rule V1 to V32
-pub record IsGoodCall (asked : Asked) (words : List (String Global)) (reading : Reading) (writing : Writing) (input : List ℕ) (commands : List Command) : Type 0 where
-  pub asks : Asks words asked
+-- the source gives all of an input within the limit, without a fault
+pub record IsGiven (reading : Reading) (input : List ℕ) : Type 0 where
   pub told : reading.before ≡ Some input
   pub limited : length input ≤ most_bytes
   pub source_holds : ¬ HasRisen reading.faults_before reading.faults_after
+
+-- the input of a request is to be had: the source gives it, or it is made up
+abbrev pub GivesInput : Request → Reading → List ℕ → Type 0
+GivesInput (Input what) reading input = IsGiven reading input
+GivesInput request reading input = input ≡ made_up request
+
+-- a call that is to be answered: the words ask for this, the input is to be had, and the sink takes what is written
+pub record IsGoodCall (request : Request) (words : List (String Global)) (reading : Reading) (writing : Writing) (input : List ℕ) : Type 0 where
+  pub asks : Requests words request
+  pub given : GivesInput request reading input
   pub sink_holds : ¬ HasFailed writing
-  pub reads : recording_in input ≡ Ok commands
-  pub rules : rule_refusal (barriers commands) commands ≡ None
 
--- the recording of a scene is read as these commands, which break no rule V1 to V32
-pub record IsGoodScene (scene : Scene) (commands : List Command) : Type 0 where
-  pub reads : recording_in (text_of_scene scene) ≡ Ok commands
-  pub rules : rule_refusal (barriers commands) commands ≡ None
+-- the input of a request is a job that breaks no rule on its commands alone
+pub record IsKept (request : Request) (input : List ℕ) : Type 0 where
+  pub job : Job
+  pub is_it : job_of request input ≡ Ok job
+  pub rules : rule_refusal job.order job.commands ≡ None
 
--- a recording whose run has this text
-pub record Runs (commands : List Command) (text : List ℕ) : Type 0 where
-  pub run : run_below commands (length commands) ≡ Text text
+-- the run of such a job in recording order has a text, by which the request tells this
+pub record RunsTo (request : Request) (input : List ℕ) (text : List ℕ) : Type 0 where
+  pub kept : IsKept request input
+  pub told : told_in_order request kept.job ≡ Ok text
+
+-- an input that is valid for a request, and the text of its answer
+abbrev pub IsValid : Request → List ℕ → List ℕ → Type 0
+IsValid (Input (asked.Run workers)) input text = RunsTo (Input (asked.Run workers)) input text
+IsValid (Input asked.Check) input text = IsKept (Input asked.Check) input × (text ≡ codes "ok\n")
+IsValid (Generate scene) input text = text ≡ text_of_scene scene
+IsValid (RunSelf by) input text = RunsTo (RunSelf by) input text
 
 -- a whole text is written, or memory ran out
 abbrev pub IsCompleted : Writing → List ℕ → Status → Type 0

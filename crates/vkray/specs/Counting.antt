@@ -1,5 +1,5 @@
 -- The line of a self run: how many records of hits are of each kind and each face. (Own.)
-use Rattle.std.specs.Prelude.{ℕ, ◌-◌, ◌/◌, ◌==◌, List, [], ◌++◌, length, codes, decimal, unwrap_or}
+use Rattle.std.specs.Prelude.{ℕ, ◌-◌, ◌/◌, ◌==◌, Bool, true, false, if◌then◌else◌, List, [], ◌++◌, length, codes, decimal, unwrap_or}
 use Rattle.std.specs.List.{count_by}
 use Rattle.std.specs.Simd.{first_chunks}
 use Rattle.ray_bytes.specs.Hits.{hit_of_bytes}
@@ -8,19 +8,24 @@ use Rattle.ray_cmd.specs.declared.command.Command.TheVariants as commands
 use Rattle.ray_rules.specs.Ranges.{range}
 use Rattle.ray_action.specs.Memory.{Memory, bytes_at}
 use Rattle.ray_action.specs.Pieces.{command_at}
-use Rattle.ray_exec.specs.Runs.{memory_below}
 
 -- the bytes of the range that a command reads: of no other command any, and none where one of them is missing
 abbrev pub shown_by : Memory → Command → List ℕ
 shown_by memory (commands.Read buffer offset size form) = unwrap_or (bytes_at memory (range buffer offset size)) []
 shown_by memory _ = []
 
--- those that the last command of a recording reads of a memory, and of the memory that the run leaves
+-- those that the last command of a recording reads of a memory
 abbrev pub last_shown_in : Memory → List Command → List ℕ
 last_shown_in memory rec = shown_by memory (command_at rec (length rec - 1))
 
-abbrev pub last_shown : List Command → List ℕ
-last_shown rec = last_shown_in (memory_below rec (length rec)) rec
+-- whether a command reads bytes to show them
+abbrev pub is_read : Command → Bool
+is_read (commands.Read buffer offset size form) = true
+is_read _ = false
+
+-- how many commands are run so that what the last one reads stands there: all but a last `read`
+abbrev pub quiet_length : List Command → ℕ
+quiet_length rec = if is_read (command_at rec (length rec - 1)) then length rec - 1 else length rec
 
 -- the records of hits that bytes hold, 80 bytes each
 abbrev pub records_in : List ℕ → List (List ℕ)

@@ -9,12 +9,12 @@ use Rattle.ray_exec.specs.declared.run_fault.RunFault.{RunFault}
 use Rattle.ray_exec.specs.declared.run_fault.RunFault.TheVariants as runs
 use Rattle.vkray.specs.declared.asked.Asked.{Asked}
 use Rattle.vkray.specs.declared.asked.Asked.TheVariants.{Run, Check}
-use Rattle.vkray.specs.declared.request.Scene.{Scene}
 use Rattle.vkray.specs.declared.stop.Stop.{Stop}
-use Rattle.vkray.specs.declared.stop.Stop.TheVariants.{BadWords, ReadFault, TooLong, NotJson, BadShape, Refused, NoMemory}
+use Rattle.vkray.specs.declared.input_fault.InputFault.TheVariants.{NotJson, BadShape, Refused}
+use Rattle.vkray.specs.declared.stop.Stop.TheVariants.{BadWords, ReadFault, TooLong, NoMemory}
+use Rattle.vkray.specs.declared.stop.Stop.TheVariants as stops
 use Rattle.vkray.specs.Answer.{Ending}
 use Rattle.vkray.specs.Call.{Reading, IsEnding}
-use Rattle.vkray.specs.Scenes.{text_of_scene}
 
 -- the stop of each fault
 abbrev pub stop_of_read : ReadError → Stop
@@ -23,12 +23,12 @@ stop_of_read reads.TooLong = TooLong
 stop_of_read reads.NoMemory = NoMemory
 
 abbrev pub stop_of_recording : RecordingFault → Stop
-stop_of_recording recordings.NotJson = NotJson
-stop_of_recording (recordings.BadShape command) = BadShape command
+stop_of_recording recordings.NotJson = stops.Input NotJson
+stop_of_recording (recordings.BadShape command) = stops.Input (BadShape command)
 stop_of_recording recordings.NoMemory = NoMemory
 
 abbrev pub stop_of_run : RunFault → Stop
-stop_of_run (runs.Refused refusal) = Refused refusal
+stop_of_run (runs.Refused refusal) = stops.Input (Refused refusal)
 stop_of_run runs.NoMemory = NoMemory
 
 -- the answer of an input is this stop, which is none of the words or the source; want of memory is free
@@ -36,20 +36,13 @@ abbrev pub StopsSo : Ending → Stop → Type 0
 StopsSo ending BadWords = ⊥
 StopsSo ending ReadFault = ⊥
 StopsSo ending TooLong = ⊥
-StopsSo ending NotJson = ending ≡ Err NotJson
-StopsSo ending (BadShape command) = ending ≡ Err (BadShape command)
-StopsSo ending (Refused refusal) = ending ≡ Err (Refused refusal)
+StopsSo ending (stops.Input fault) = ending ≡ Err (stops.Input fault)
 StopsSo ending NoMemory = Unit {0}
 
 -- a result is the answer of an input; want of memory is free
 abbrev pub Ends : Ending → Result (Vec ℕ Global) Stop → Type 0
 Ends ending (Ok text) = ending ≡ Ok text.items
 Ends ending (Err stop) = StopsSo ending stop
-
--- a result is the text of a scene's recording; want of memory is free
-abbrev pub IsOfScene : Scene → Result (Vec ℕ Global) Stop → Type 0
-IsOfScene scene (Ok text) = text.items ≡ text_of_scene scene
-IsOfScene scene (Err stop) = stop ≡ NoMemory
 
 -- a result is a line of counts; want of memory is free
 abbrev pub IsCounted : List ℕ → Result (Vec ℕ Global) Stop → Type 0
@@ -61,9 +54,7 @@ abbrev pub is_told : Stop → Bool
 is_told BadWords = true
 is_told ReadFault = true
 is_told TooLong = true
-is_told NotJson = true
-is_told (BadShape command) = true
-is_told (Refused refusal) = true
+is_told (stops.Input fault) = true
 is_told NoMemory = false
 
 -- a stop is what the words and the source give; want of memory is free
@@ -71,9 +62,7 @@ abbrev pub StopsCall : List (String Global) → Reading → Stop → Type 0
 StopsCall words reading BadWords = IsEnding words reading (Err BadWords)
 StopsCall words reading ReadFault = IsEnding words reading (Err ReadFault)
 StopsCall words reading TooLong = IsEnding words reading (Err TooLong)
-StopsCall words reading NotJson = IsEnding words reading (Err NotJson)
-StopsCall words reading (BadShape command) = IsEnding words reading (Err (BadShape command))
-StopsCall words reading (Refused refusal) = IsEnding words reading (Err (Refused refusal))
+StopsCall words reading (stops.Input fault) = IsEnding words reading (Err (stops.Input fault))
 StopsCall words reading NoMemory = Unit {0}
 
 -- a result is what the words and the source give

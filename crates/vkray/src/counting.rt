@@ -2,7 +2,7 @@
 ghost use Rattle.std.specs.Prelude.{◌≡◌, ◌==◌, [], IfOk, option_copied, string_bytes, unwrap_or};
 ghost use Rattle.ray_bytes.specs.Hits.{hit_of_bytes};
 ghost use Rattle.ray_memory.specs.State.{memory_of};
-ghost use Rattle.vkray.specs.Counting.{counts_line, last_shown_in, shown_by};
+ghost use Rattle.vkray.specs.Counting.{counts_line, is_read, last_shown_in, quiet_length, shown_by};
 ghost use Rattle.vkray.specs.Counting.{count_of_kind, count_of_face};
 ghost use Rattle.vkray.specs.Counting.{faces_text, kinds_text, records_line};
 ghost use Rattle.vkray.specs.Endings.{IsCounted};
@@ -45,6 +45,25 @@ fn shown_by<'s>(state: &'s State, command: &Command) -> &'s [u8]
         }
         _ => &[],
     }
+}
+
+// How many commands are run so that what the last one reads stands there: all but a last `read`.
+pub(crate) fn quiet_length(recording: &Recording) -> u32
+    ensures { result ≡ quiet_length recording.now }
+{
+    let count = recording.len();
+    if count > 0 && is_read(recording.command(count - 1)) {
+        count - 1
+    } else {
+        count
+    }
+}
+
+// Whether a command reads bytes to show them.
+fn is_read(command: &Command) -> bool
+    ensures { result ≡ is_read command.now }
+{
+    matches!(command, Command::Read { .. })
 }
 
 // These bytes, and none where there aren't any.

@@ -3,14 +3,16 @@
 //!
 //! `main` of the program hands [`vkray`] the standard streams, tests hand it sources and sinks in
 //! memory. Its clauses `answer` and `complete` say how a call ends and what is written, by `answer_of`
-//! of `specs/Answer`, which goes from an input to its text or why it has none, and by `specs/Call`.
+//! of `specs/Answer`, which goes from a request and its input to a text or why there is none, and by
+//! `specs/Call`.
 //!
-//! Its clause `headline` says of a run that ends well that what is written is the text of every order
-//! that the barriers and waits of the recording permit, by `specs/Headline`.
+//! Its clause `headline` says of every request that runs, where it ends well, that what is written is
+//! what is told along every order which its job permits, by `specs/Headline`. What the job is, and
+//! what is told, are functions of the request in `specs/Answer`: a request more is a line in each.
 //!
 //! A recording runs up to the command that a rule V1 to V32 refuses, by `check_rules` of ray_check;
-//! `run_waves` of ray_exec runs so many commands. A self run reads and runs the recording of a
-//! made-up scene by the same calls, and counts the records that it leaves, by `specs/Counting`.
+//! ray_exec runs so many commands. A self run reads and runs the recording of a made-up scene by the
+//! same calls, and counts the records that it leaves, by `specs/Counting`.
 //!
 //! It stands on ray_io (all bytes read and written), ray_cmd (the recording), ray_check (the rules on
 //! the recording alone), ray_exec (its run) and ray_scene (recordings that are made up).
@@ -19,6 +21,7 @@
 mod asked;
 mod counting;
 mod executing;
+mod input_fault;
 mod line;
 mod reply;
 mod request;
@@ -28,6 +31,7 @@ mod stop;
 mod top_call;
 mod words;
 
+pub use input_fault::InputFault;
 pub use line::refusal_line;
 pub use ray_exec::{Gate, NoGate};
 pub use ray_scene::gen_text;

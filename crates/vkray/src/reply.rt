@@ -1,7 +1,8 @@
 ghost use Rattle.std.specs.Prelude.{◌≡◌, Err, IfOk, OnOk, true};
 ghost use Rattle.vkray.specs.Endings.{is_told};
-ghost use Rattle.vkray.specs.Written.{status_of, text_of};
+ghost use Rattle.vkray.specs.Written.{line_of_fault, status_of, status_of_fault, text_of};
 
+use crate::input_fault::InputFault;
 use crate::line::{bad_shape_line, refusal_line};
 use crate::status::Status;
 use crate::stop::Stop;
@@ -25,16 +26,26 @@ impl Reply {
             Stop::BadWords => Reply::of_line(alloc, Status::BadWords, b"bad-words\n"),
             Stop::ReadFault => Reply::of_line(alloc, Status::ReadFault, b"read-fault\n"),
             Stop::TooLong => Reply::of_line(alloc, Status::TooLong, b"too-long\n"),
-            Stop::NotJson => Reply::of_line(alloc, Status::BadRecording, b"not-json\n"),
-            Stop::BadShape(command) => {
+            Stop::Input(fault) => Reply::of_fault(alloc, fault),
+            Stop::NoMemory => Err(NoMemory),
+        }
+    }
+
+    // The line that says what is wrong with an input.
+    fn of_fault(alloc: Global, fault: InputFault) -> Result<Reply, NoMemory>
+        ensures status { IfOk result (λ reply. reply.status ≡ status_of_fault fault) }
+        ensures text { IfOk result (λ reply. reply.text.items ≡ line_of_fault fault) }
+    {
+        match fault {
+            InputFault::NotJson => Reply::of_line(alloc, Status::BadRecording, b"not-json\n"),
+            InputFault::BadShape(command) => {
                 let line = bad_shape_line(alloc, command)?;
                 Reply::of_line(alloc, Status::BadRecording, line.as_bytes())
             }
-            Stop::Refused(refusal) => {
+            InputFault::Refused(refusal) => {
                 let line = refusal_line(alloc, &refusal)?;
                 Reply::of_line(alloc, Status::Refused, line.as_bytes())
             }
-            Stop::NoMemory => Err(NoMemory),
         }
     }
 

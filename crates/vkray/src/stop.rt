@@ -1,4 +1,5 @@
-use ray_cmd::{RecordingFault, Refusal};
+use crate::input_fault::InputFault;
+use ray_cmd::RecordingFault;
 use ray_exec::RunFault;
 use ray_io::ReadError;
 
@@ -11,12 +12,8 @@ pub enum Stop {
     ReadFault,
     /// The input is longer than 2^26 bytes.
     TooLong,
-    /// The input is no JSON.
-    NotJson,
-    /// The command of this number is the first that has no shape of a command.
-    BadShape(u32),
-    /// A command breaks a rule, and no lesser one does.
-    Refused(Refusal),
+    /// The input is none that can be answered.
+    Input(InputFault),
     /// Memory ran out.
     NoMemory,
 }
@@ -44,8 +41,8 @@ impl From<RecordingFault> for Stop {
 
     fn from(fault: RecordingFault) -> Stop {
         match fault {
-            RecordingFault::NotJson => Stop::NotJson,
-            RecordingFault::BadShape(command) => Stop::BadShape(command),
+            RecordingFault::NotJson => Stop::Input(InputFault::NotJson),
+            RecordingFault::BadShape(command) => Stop::Input(InputFault::BadShape(command)),
             RecordingFault::NoMemory => Stop::NoMemory,
         }
     }
@@ -59,7 +56,7 @@ impl From<RunFault> for Stop {
 
     fn from(fault: RunFault) -> Stop {
         match fault {
-            RunFault::Refused(refusal) => Stop::Refused(refusal),
+            RunFault::Refused(refusal) => Stop::Input(InputFault::Refused(refusal)),
             RunFault::NoMemory => Stop::NoMemory,
         }
     }

@@ -1,17 +1,13 @@
-ghost use Rattle.std.specs.Prelude.{◌≡◌, ℕ, List, IfOk, Some, codes};
-ghost use Rattle.ray_cmd.specs.declared.command.Command.{Command};
+ghost use Rattle.std.specs.Prelude.{◌≡◌, ℕ, List, [], IfOk, Some, true};
 ghost use Rattle.ray_scene.specs.Grid.{IsScene};
-ghost use Rattle.vkray.specs.declared.asked.Asked.TheVariants.{Check, Run};
-ghost use Rattle.vkray.specs.declared.request.Scene.{Scene as AScene};
-ghost use Rattle.vkray.specs.declared.request.SelfRun.{SelfRun as ASelfRun};
-ghost use Rattle.vkray.specs.Words.{AskInput, AskRun, AsksFor, AsksSelfRun};
-ghost use Rattle.vkray.specs.Answer.{Ending};
-ghost use Rattle.vkray.specs.Call.{reading, writing, Answers, HasFailed, IsEnding, IsSent, IsGoodCall, IsCompleted};
-ghost use Rattle.vkray.specs.Call.{IsGoodScene, Runs, TakesPrefix};
-ghost use Rattle.vkray.specs.Counting.{counts_line, last_shown};
-ghost use Rattle.vkray.specs.Headline.{AreCountsOfScene, IsTextOfInput};
-ghost use Rattle.vkray.specs.Scenes.{text_of_scene};
-ghost use Rattle.vkray.specs.Endings.{EndsCall, IsOfScene};
+ghost use Rattle.vkray.specs.declared.request.Request.{Request as ARequest};
+ghost use Rattle.vkray.specs.declared.request.Request.TheVariants.{Generate};
+ghost use Rattle.vkray.specs.Answer.{answer_of, input_of, runs, Ending};
+ghost use Rattle.vkray.specs.Call.{reading, writing, Answers, IsCompleted, IsEnding, IsGoodCall};
+ghost use Rattle.vkray.specs.Call.{IsSent, IsValid, TakesPrefix};
+ghost use Rattle.vkray.specs.Endings.{Ends, EndsCall};
+ghost use Rattle.vkray.specs.Headline.{IsWrittenOfEveryOrder};
+ghost use Rattle.vkray.specs.Words.{AskInput, Requests};
 ghost use Rattle.vkray.specs.Written.{status_of, text_of};
 
 use crate::executing::{execute, run_self};
@@ -48,38 +44,22 @@ pub fn vkray<R: Threads + Sync, S: Source, K: Sink, G: Gate + Sync>(
         (writing K.taken K.faults K.zero_writes sink.old sink.new)
         result }
 
-    // A run that ends well has written the text of every order that the barriers permit.
-    ensures headline { (workers : ℕ) (input : List ℕ) → AskRun words.now workers
-        → result ≡ Status.Done → S.left source.old ≡ Some input
-        → IsTextOfInput input (writing K.taken K.faults K.zero_writes sink.old sink.new) }
+    // A request that runs, and ends well, has written what is told along every order of its job that
+    // the barriers permit.
+    ensures headline { (request : ARequest) (input : List ℕ) → runs request ≡ true
+        → Requests words.now request → result ≡ Status.Done
+        → input_of request (S.left source.old) ≡ Some input
+        → IsWrittenOfEveryOrder request input
+        (writing K.taken K.faults K.zero_writes sink.old sink.new) }
 
-    // So it is with the counts of a self run that ends well.
-    ensures self_headline { (asked : ASelfRun) → AsksSelfRun words.now asked
-        → result ≡ Status.Done
-        → AreCountsOfScene asked.scene (writing K.taken K.faults K.zero_writes sink.old sink.new) }
-
-    // A good input is answered: the run's whole text is written, and `ok` by a check.
-    ensures complete { (workers : ℕ) (input text : List ℕ) (commands : List Command)
-        → IsGoodCall (Run workers) words.now
+    // A good call with a valid input is answered: the whole text is written.
+    ensures complete { (request : ARequest) (input text : List ℕ)
+        → IsGoodCall request words.now
         (reading S.left S.faults source.old source.new)
         (writing K.taken K.faults K.zero_writes sink.old sink.new)
-        input commands → Runs commands text
+        input
+        → IsValid request input text
         → IsCompleted (writing K.taken K.faults K.zero_writes sink.old sink.new) text result }
-    ensures checked { (input : List ℕ) (commands : List Command) → IsGoodCall Check words.now
-        (reading S.left S.faults source.old source.new)
-        (writing K.taken K.faults K.zero_writes sink.old sink.new)
-        input commands
-        → IsCompleted (writing K.taken K.faults K.zero_writes sink.old sink.new) (codes "ok\n") result }
-    ensures generated { (scene : AScene) → AsksFor words.now scene
-        → ¬ HasFailed (writing K.taken K.faults K.zero_writes sink.old sink.new)
-        → IsCompleted (writing K.taken K.faults K.zero_writes sink.old sink.new) (text_of_scene scene) result }
-
-    ensures counted { (asked : ASelfRun) (commands : List Command) (text : List ℕ)
-        → AsksSelfRun words.now asked
-        → ¬ HasFailed (writing K.taken K.faults K.zero_writes sink.old sink.new)
-        → IsGoodScene asked.scene commands → Runs commands text
-        → IsCompleted (writing K.taken K.faults K.zero_writes sink.old sink.new)
-        (counts_line asked.scene.rays (last_shown commands)) result }
 
     // Words that ask no input read nothing, and for want of memory nothing is written.
     ensures unread { ¬ AskInput words.now → source.new ≡ source.old }
@@ -151,9 +131,10 @@ fn read_and_run<R: Threads + Sync, S: Source, G: Gate + Sync>(
 }
 
 // The recording of a scene.
+#[tactic(auto, unfolding(crate::specs::Answer::answer_of))]
 fn generate(alloc: Global, scene: Scene) -> Result<Vec<u8>, Stop>
     requires { IsScene scene.side scene.layers scene.rays }
-    ensures { IsOfScene scene result }
+    ensures { Ends (answer_of (Generate scene) []) result }
 {
     match gen_text(alloc, scene.side, scene.layers, scene.rays) {
         Ok(text) => Ok(text),

@@ -5,13 +5,14 @@ use Rattle.vkray.specs.Call.{most_bytes}
 use Rattle.vkray.specs.Codes.{code_of}
 use Rattle.vkray.specs.Written.{status_of, text_of}
 use Rattle.vkray.specs.declared.asked.Asked.TheVariants.{Check}
+use Rattle.vkray.specs.declared.request.Request.TheVariants.{Input}
 use Rattle.vkray.specs.declared.status.Status.TheVariants.{NoMemory}
 use Rattle.vkray.specs.declared.stop.Stop.TheVariants.{TooLong}
 
 -- what a check of bytes ends with: more than 2^26 are too many, and of others it is the answer to `check`
 abbrev pub IsEndingOfCheck : List ℕ → Ending → Type 0
 IsEndingOfCheck bytes ending =
-    ((most_bytes < length bytes) × (ending ≡ Err TooLong)) ⊎ ((length bytes ≤ most_bytes) × (ending ≡ answer_of Check bytes))
+    ((most_bytes < length bytes) × (ending ≡ Err TooLong)) ⊎ ((length bytes ≤ most_bytes) × (ending ≡ answer_of (Input Check) bytes))
 
 -- the number that says that the text has no room in the buffer
 abbrev pub no_room : ℕ

@@ -1,9 +1,11 @@
 ghost use Rattle.std.specs.Prelude.{◌≡◌, ◌≤◌, IfOk, length, string_bytes};
+ghost use Rattle.ray_permitted.specs.Job.{recorded};
 ghost use Rattle.vkray.specs.Answer.{Ending, answer_of, checked};
 ghost use Rattle.vkray.specs.Call.{most_bytes};
 ghost use Rattle.vkray.specs.Lines as lines;
 ghost use Rattle.vkray.specs.Written.{status_of, text_of};
 ghost use Rattle.vkray.specs.declared.asked.Asked.TheVariants.{Check};
+ghost use Rattle.vkray.specs.declared.request.Request.TheVariants.{Input};
 ghost use Rattle.vkray_c.specs.Checks.{IsEndingOfCheck};
 
 use crate::reply::Reply;
@@ -26,8 +28,8 @@ pub(crate) fn check_bytes(alloc: Global, bytes: &[u8]) -> Result<Reply, NoMemory
 // The same of bytes that are not too many.
 #[tactic(auto, unfolding(vkray::specs::Answer::answer_of))]
 fn check_within(alloc: Global, bytes: &[u8]) -> Result<Reply, NoMemory>
-    ensures status { IfOk result (λ reply. reply.status ≡ status_of (answer_of Check bytes.now)) }
-    ensures text { IfOk result (λ reply. reply.text.items ≡ text_of (answer_of Check bytes.now)) }
+    ensures status { IfOk result (λ reply. reply.status ≡ status_of (answer_of (Input Check) bytes.now)) }
+    ensures text { IfOk result (λ reply. reply.text.items ≡ text_of (answer_of (Input Check) bytes.now)) }
 {
     match read_recording(alloc, bytes) {
         Ok(recording) => check_recording(alloc, &recording),
@@ -51,8 +53,8 @@ fn bad_shape_line(alloc: Global, command: u32) -> Result<String, NoMemory>
 
 // What the rules say of a recording: `ok`, or the line of its refusal.
 fn check_recording(alloc: Global, recording: &Recording) -> Result<Reply, NoMemory>
-    ensures status { IfOk result (λ reply. reply.status ≡ status_of (checked recording.now)) }
-    ensures text { IfOk result (λ reply. reply.text.items ≡ text_of (checked recording.now)) }
+    ensures status { IfOk result (λ reply. reply.status ≡ status_of (checked (recorded recording.now))) }
+    ensures text { IfOk result (λ reply. reply.text.items ≡ text_of (checked (recorded recording.now))) }
 {
     match check_rules(alloc, recording)? {
         Some(refusal) => {

@@ -3,7 +3,6 @@ use Rattle.std.proofs.lemmas.Bool.Decides.{nat_tests}
 use Rattle.ray_geom.specs.Scene.{RayValue}
 use Rattle.ray_top.specs.Trees.{without_tree}
 use Rattle.ray_candidates.specs.Standing.{structures_in}
-use Rattle.ray_script.specs.Meaning.{script_decision}
 use Rattle.ray_device.specs.Tracing.{IsHit}
 use Rattle.ray_bytes.specs.declared.hit_record.HitRecord.{HitRecord}
 use Rattle.ray_bytes.specs.Hits.{hit_bytes}
@@ -18,9 +17,9 @@ pub returns-in-Err-clause-value : goal.returns-in-Err-clause-value
 returns-in-Err-clause-value g c =
     let k = c.loop-k.k in
     let within : k < c.args.count = (let t = c.loop-k-test.true in grind (arith, nat_tests)) in
-    rays_told (without_tree c.args.top.now) (structures_in c.args.bottoms.now) c.args.script.now c.args.flags c.args.mask c.args.rays.now c.args.first
+    rays_told (without_tree c.args.top.now) (structures_in c.args.bottoms.now) (g.C.Client.meaning c.args.client.now) c.args.flags c.args.mask c.args.rays.now c.args.first
     k c.args.count c.loop-k.out.items c.in-Err.fault c.loop-k.invariant.given
-    (subst (λ (r : Option RayValue). IsHit (hit_by (script_decision c.args.script.now) (without_tree c.args.top.now) (structures_in c.args.bottoms.now) c.args.flags c.args.mask (c.args.first + k) r) (Err c.in-Err.fault))
+    (subst (λ (r : Option RayValue). IsHit (hit_by (g.C.Client.meaning c.args.client.now) (without_tree c.args.top.now) (structures_in c.args.bottoms.now) c.args.flags c.args.mask (c.args.first + k) r) (Err c.in-Err.fault))
     c.ray-ray.ensures c.in-Err.ensures.value)
     within
 
@@ -28,12 +27,12 @@ pub returns-in-Err-clause-bound : goal.returns-in-Err-clause-bound
 returns-in-Err-clause-bound g c =
     let top = c.args.top.now in
     let bottoms = c.args.bottoms.now in
-    let rules = c.args.script.now in
+    let meaning = g.C.Client.meaning c.args.client.now in
     let k = c.loop-k.k in
     let within : k < c.args.count = (let t = c.loop-k-test.true in grind (arith, nat_tests)) in
-    answered_more HitRecord Output (most_in top bottoms rules c.args.flags c.args.mask c.args.rays.now c.args.first) k c.args.count c.args.steps.now c.loop-k.steps c.hit.new.steps
+    answered_more HitRecord Output (most_in top bottoms meaning c.args.flags c.args.mask c.args.rays.now c.args.first) k c.args.count c.args.steps.now c.loop-k.steps c.hit.new.steps
     c.in-Err.fault c.loop-k.invariant.bound
-    (subst (λ (r : Option RayValue). OnAnswered {X = HitRecord} (Err c.in-Err.fault) (c.hit.new.steps ≤ c.loop-k.steps + most_by top bottoms rules c.args.flags c.args.mask (c.args.first + k) r))
+    (subst (λ (r : Option RayValue). OnAnswered {X = HitRecord} (Err c.in-Err.fault) (c.hit.new.steps ≤ c.loop-k.steps + most_by top bottoms meaning c.args.flags c.args.mask (c.args.first + k) r))
     c.ray-ray.ensures c.in-Err.ensures.bound)
     within
 
@@ -41,7 +40,7 @@ pub loop-k-preserved : goal.loop-k-preserved
 loop-k-preserved g c =
     let top = c.args.top.now in
     let bottoms = c.args.bottoms.now in
-    let rules = c.args.script.now in
+    let meaning = g.C.Client.meaning c.args.client.now in
     let flags = c.args.flags in
     let mask = c.args.mask in
     let first = c.args.first in
@@ -49,12 +48,12 @@ loop-k-preserved g c =
     let so_far = c.loop-k.invariant in
     record {
       given =
-          rays_more (without_tree top) (structures_in bottoms) rules flags mask c.args.rays.now first k c.loop-k.out.items (hit_bytes c.in-Ok.hit) so_far.given
-          (subst (λ (r : Option RayValue). IsHit (hit_by (script_decision rules) (without_tree top) (structures_in bottoms) flags mask (first + k) r) (Ok c.in-Ok.hit)) c.ray-ray.ensures
+          rays_more (without_tree top) (structures_in bottoms) meaning flags mask c.args.rays.now first k c.loop-k.out.items (hit_bytes c.in-Ok.hit) so_far.given
+          (subst (λ (r : Option RayValue). IsHit (hit_by meaning (without_tree top) (structures_in bottoms) flags mask (first + k) r) (Ok c.in-Ok.hit)) c.ray-ray.ensures
           c.in-Ok.ensures.value)
           ∙ ap (λ (b : List ℕ). Gives (Bytes b)) (sym c.in_ok-push-in-Ok.ensures);
       rising = (let before = so_far.rising in let now = c.hit.ensures.rising in omega (arith, before, now));
       bound =
-          summed_more (most_in top bottoms rules flags mask c.args.rays.now first) k c.args.steps.now c.loop-k.steps c.hit.new.steps so_far.bound
-          (subst (λ (r : Option RayValue). c.hit.new.steps ≤ c.loop-k.steps + most_by top bottoms rules flags mask (first + k) r) c.ray-ray.ensures c.in-Ok.ensures.bound);
+          summed_more (most_in top bottoms meaning flags mask c.args.rays.now first) k c.args.steps.now c.loop-k.steps c.hit.new.steps so_far.bound
+          (subst (λ (r : Option RayValue). c.hit.new.steps ≤ c.loop-k.steps + most_by top bottoms meaning flags mask (first + k) r) c.ray-ray.ensures c.in-Ok.ensures.bound);
     }

@@ -5,7 +5,7 @@ use Rattle.ray_exec.proofs.drawing.draw_all.Given as goal
 
 abbrev pub invariant-loop-number : goal.invariant-loop-number
 invariant-loop-number g l =
-    (l.seat.table ≡ l.claims.table) × All (IsDrawn l.rec (memory_of l.state) l.pieces) l.outs.items
+    (l.seat.table ≡ l.claims.table) × All (IsDrawn l.rec (g.F.Fetcher.clients l.fetcher l.rec) (memory_of l.state) l.pieces) l.outs.items
 
 abbrev pub decreases-loop-number : goal.decreases-loop-number
 decreases-loop-number g l = l.claims.n - length l.seat.drawn

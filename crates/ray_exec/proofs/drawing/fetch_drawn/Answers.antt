@@ -15,10 +15,14 @@ pub given_now-requires-clause-ready : goal.given_now-requires-clause-ready
 given_now-requires-clause-ready g c κs within =
     (c.requires.ready.each _ (among_get c.args.pieces.now c.args.number (part 0 0) c.requires.within)).1
 
+pub given_now-requires-clause-can : goal.given_now-requires-clause-can
+given_now-requires-clause-can g c κs within =
+    c.requires.ready.can_each _ (among_get c.args.pieces.now c.args.number (part 0 0) c.requires.within)
+
 pub returns-in-Ok : goal.returns-in-Ok
 returns-in-Ok g c = record {
   within = c.requires.within;
   given = λ (piece : Piece) there.
-      subst (λ p. IsGivenBy c.args.rec.now (memory_of c.args.state.now) p c.in-Ok.given)
+      subst (λ p. IsGivenBy c.args.rec.now (g.F.Fetcher.clients c.args.fetcher.now c.args.rec.now) (memory_of c.args.state.now) p c.in-Ok.given)
       (get_or_from_slice_get c.args.pieces.now c.args.number piece (part 0 0) there) c.in-Ok.ensures;
 }

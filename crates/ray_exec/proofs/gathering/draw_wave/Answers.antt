@@ -6,5 +6,5 @@ use Rattle.ray_exec.proofs.gathering.draw_wave.Goals as goal
 
 pub gather_all-requires-clause-filled : goal.gather_all-requires-clause-filled
 gather_all-requires-clause-filled g c =
-    subst (AreFilled c.args.rec.now (memory_of c.args.state.now) c.args.pieces.now) (sym c.in_ok-places.ensures)
-    (filled_none c.args.rec.now (memory_of c.args.state.now) c.args.pieces.now)
+    subst (AreFilled c.args.rec.now (g.F.Fetcher.clients c.args.fetcher.now c.args.rec.now) (memory_of c.args.state.now) c.args.pieces.now) (sym c.in_ok-places.ensures)
+    (filled_none c.args.rec.now (g.F.Fetcher.clients c.args.fetcher.now c.args.rec.now) (memory_of c.args.state.now) c.args.pieces.now)

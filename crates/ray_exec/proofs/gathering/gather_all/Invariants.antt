@@ -4,8 +4,8 @@ use Rattle.ray_exec.specs.Given.{AreFilled}
 use Rattle.ray_exec.proofs.gathering.gather_all.Given as goal
 
 abbrev pub invariant-loop-worked : goal.invariant-loop-worked
-invariant-loop-worked l =
+invariant-loop-worked g l =
     (l.seat.table ≡ l.claims.table)
-    × AreFilled l.fn.rec (memory_of l.fn.state) l.fn.pieces l.places.items
-    × (goal.iterator-loop-worked).can_next l.worked-iterator
-    × (goal.iterator-loop-worked).is_finite l.worked-iterator
+    × AreFilled l.fn.rec (g.F.Fetcher.clients l.fn.fetcher l.fn.rec) (memory_of l.fn.state) l.fn.pieces l.places.items
+    × (goal.iterator-loop-worked g).can_next l.worked-iterator
+    × (goal.iterator-loop-worked g).is_finite l.worked-iterator

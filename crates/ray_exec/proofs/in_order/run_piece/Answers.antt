@@ -10,7 +10,7 @@ use Rattle.ray_exec.proofs.in_order.run_piece.Goals as goal
 pub store-requires-clause-storable : goal.store-requires-clause-storable
 store-requires-clause-storable g c =
     let given = c.in-Ok.ensures in
-    can_be_stored c.args.rec.now c.args.piece c.in-Ok.out.piece c.in-Ok.out.output (memory_of c.args.state.now) given.0 c.requires.ready given.1
+    can_be_stored (g.F.Fetcher.clients c.args.fetcher.now c.args.rec.now) c.args.rec.now c.args.piece c.in-Ok.out.piece c.in-Ok.out.output (memory_of c.args.state.now) given.0 c.requires.ready given.1
 
 pub returns-in-Ok-clause-ok : goal.returns-in-Ok-clause-ok
 returns-in-Ok-clause-ok g c =

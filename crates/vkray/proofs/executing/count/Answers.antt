@@ -1,7 +1,35 @@
+use Rattle.std.proofs.Common.{◌≡◌, ◌≤◌, length, None, subst, sym, arith}
+use Rattle.ray_action.specs.Clients.{scripts}
 use Rattle.ray_memory.specs.State.{memory_of}
-use Rattle.vkray.proofs.SelfRuns.{count_ends}
+use Rattle.ray_permitted.specs.Job.{recorded}
+use Rattle.ray_permitted.specs.Rules.{BreakNoRule}
+use Rattle.ray_ready.specs.Accepted.{refused_from}
+use Rattle.ray_rules.specs.Order.{barriers}
+use Rattle.ray_rules.specs.Verdict.{rule_refusal}
+use Rattle.vkray.specs.Answer.{ran}
+use Rattle.vkray.specs.Endings.{StopsSo}
+use Rattle.vkray.specs.declared.request.Request.TheVariants.{RunSelf}
+use Rattle.vkray.proofs.LastRead.{count_ends, stops}
 use Rattle.vkray.proofs.executing.count.Goals as goal
 
 pub returns-in-Ok : goal.returns-in-Ok
 returns-in-Ok g c =
-    count_ends c.args.rays c.args.recording.now (memory_of c.run_in.new.state) _ c.counted_line.result c.in-Ok.ensures.run c.in-Ok.ensures.left c.counted_line.ensures
+    let rec = c.args.recording.now in
+    let value = c.in-Ok-None.ensures.value in
+    let found = c.in-Ok-None.field-0-is in
+    let none : rule_refusal (barriers rec) rec ≡ None = cc in
+    let kept : BreakNoRule (recorded rec) (length rec) =
+    c.unrefused_break_no_rule.ensures (scripts rec) (length rec) (subst (λ r. length rec ≤ refused_from (length rec) r) (sym none) (omega arith)) in
+    count_ends c.args.asked rec kept none c.quiet_length-until.result c.quiet_length-until.ensures _ (memory_of c.run_until.new.state) c.counted_line.result
+    c.in-Ok.ensures.run c.in-Ok.ensures.left c.counted_line.ensures
+
+pub returns-in-Ok-None : goal.returns-in-Ok-None
+returns-in-Ok-None g c =
+    let rec = c.args.recording.now in
+    let value = c.in-Ok-None.ensures.value in
+    let found = c.in-Ok-None.field-0-is in
+    let none : rule_refusal (barriers rec) rec ≡ None = cc in
+    let kept : BreakNoRule (recorded rec) (length rec) =
+    c.unrefused_break_no_rule.ensures (scripts rec) (length rec) (subst (λ r. length rec ≤ refused_from (length rec) r) (sym none) (omega arith)) in
+    subst (λ stop. StopsSo (ran (RunSelf c.args.asked) (recorded rec)) stop) (sym c.from.ensures)
+    (stops c.args.asked rec kept none c.quiet_length-until.result c.quiet_length-until.ensures c.in-Err-run_until.fault c.in-Err-run_until.ensures.run)

@@ -3,6 +3,7 @@ use Rattle.std.specs.Prelude.{IsSome, unwrap_or}
 use Rattle.ray_rules.specs.declared.byte_range.ByteRange.{ByteRange}
 use Rattle.ray_rules.specs.Ranges.{range}
 use Rattle.ray_action.specs.Memory.{bytes_at}
+use Rattle.ray_action.specs.Clients.{Meaning}
 use Rattle.ray_action.specs.Outcomes.{outcome_of}
 use Rattle.ray_action.specs.Pieces.{host_action}
 use Rattle.ray_action.specs.Running.{text_with}
@@ -24,9 +25,9 @@ returns-in-Read c =
     let m = memory_of c.args.self.now in
     let r : range c.in-Read.buffer c.in-Read.offset c.in-Read.size ≡ record { buffer = c.in-Read.buffer; from = c.from.result; size = c.from-in-Read.result } =
     λ i. record { buffer = c.in-Read.buffer; from = sym c.from.ensures i; size = sym c.from-in-Read.ensures i } in
-    let text = read-text c.args.command.now c.in-Read.buffer c.in-Read.offset c.in-Read.size c.in-Read.form m c.in-Read.is c.requires in
+    let text = λ (meaning : Meaning). read-text meaning c.args.command.now c.in-Read.buffer c.in-Read.offset c.in-Read.size c.in-Read.form m c.in-Read.is c.requires in
     if-ok c.read.result
     (λ t. t.items ≡ bytes_text c.in-Read.form (unwrap_or (bytes_at m (record { buffer = c.in-Read.buffer; from = c.from.result; size = c.from-in-Read.result })) []))
-    (λ t. t.items ≡ text_with (host_action c.args.command.now) (outcome_of (host_action c.args.command.now) m))
-    (λ t is. is ∙ sym (text ∙ ap (λ (s : ByteRange). bytes_text c.in-Read.form (unwrap_or (bytes_at m s) [])) r))
+    (λ t. (meaning : Meaning) → t.items ≡ text_with (host_action c.args.command.now) (outcome_of meaning (host_action c.args.command.now) m))
+    (λ t is meaning. is ∙ sym (text meaning ∙ ap (λ (s : ByteRange). bytes_text c.in-Read.form (unwrap_or (bytes_at m s) [])) r))
     c.read.ensures

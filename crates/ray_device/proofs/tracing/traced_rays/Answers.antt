@@ -5,7 +5,7 @@ use Rattle.ray_memory.specs.State.{memory_of}
 use Rattle.ray_device.specs.Fetching.{IsFetched}
 use Rattle.ray_action.specs.Traceable.{bottoms_of}
 use Rattle.ray_device.specs.Tracing.{rays_outcome, traced_through}
-use Rattle.ray_device.proofs.tracing.by_script.Goals as goal
+use Rattle.ray_device.proofs.tracing.traced_rays.Goals as goal
 
 pub returns-clause-value : goal.returns-clause-value
 returns-clause-value g c =
@@ -13,6 +13,6 @@ returns-clause-value g c =
     let rays = c.in-Some-Some.rays.now in
     let top = without_tree c.in-Some-Some.top.now in
     subst (λ (o : Outcome). IsFetched o c.hits.result)
-    ((λ i. rays_outcome top (λ id. c.bottoms-bottoms.ensures.value id i) a.script.now a.flags a.mask rays a.first a.count)
-    ∙ (λ i. traced_through (bottoms_of (memory_of a.state.now)) (c.in-Some-Some.ensures i) (c.in-Some-Some.ensures'.value i) a.first a.count a.flags a.mask a.script.now))
+    ((λ i. rays_outcome top (λ id. c.bottoms-bottoms.ensures.value id i) (g.C.Client.meaning a.client.now) a.flags a.mask rays a.first a.count)
+    ∙ (λ i. traced_through (bottoms_of (memory_of a.state.now)) (c.in-Some-Some.ensures i) (c.in-Some-Some.ensures'.value i) a.first a.count a.flags a.mask (g.C.Client.meaning a.client.now)))
     c.hits.ensures.value
