@@ -1,5 +1,5 @@
 -- The slab test of eight boxes, lane by lane.
-use Rattle.std.proofs.Common.{◌≡◌, ◌∙◌, ℕ, ℤ, pos, negsuc, neg_ℤ, ◌+ℤ◌, ◌-ℤ◌, ◌≤ℤ◌, Bool, true, false, cond, ◌&&◌, ◌+◌, ◌-◌, ◌*◌, ◌%◌, ◌<◌, ◌≤◌, ◌^◌, List, length, refl, sym, ap, subst, arith, nat_le, slice_index_or, FitsSigned, of_z, to_z, to_z-of_z, w32}
+use Rattle.std.proofs.Common.{map, ◌≡◌, ◌∙◌, ℕ, ℤ, pos, negsuc, neg_ℤ, ◌+ℤ◌, ◌-ℤ◌, ◌≤ℤ◌, Bool, true, false, cond, ◌&&◌, ◌+◌, ◌-◌, ◌*◌, ◌%◌, ◌<◌, ◌≤◌, ◌^◌, List, length, refl, sym, ap, subst, arith, nat_le, slice_index_or, FitsSigned, of_z, to_z, to_z-of_z, w32}
 use Rattle.std.specs.Prelude.{int_le}
 use Rattle.std.proofs.lemmas.Int.{ints}
 use Rattle.std.proofs.lemmas.Bool.Decides.{nat_tests}
@@ -138,7 +138,14 @@ far-by (Flat from to) safe fit p q few many = refl
 
 planes-at : (row : List ℤ) (k : ℕ) → k < length row → IsWithin (2 ^ 19) (slice_index_or row k (pos 0))
     → slice_index_or (planes_row row) k 0 ≡ natural_part (slice_index_or row k (pos 0) +ℤ pos (2 ^ 19))
-planes-at row k small within = get_or-map plane_of_word row k (pos 0) 0 small ∙ plane-word (slice_index_or row k (pos 0)) within
+planes-at row k small within =
+    let long = length-map row (of_z w32) in
+    get_or-map (λ a. (2 ^ 19 + a) % 2 ^ 32) (map (of_z w32) row) k 0 0 (omega (arith, long, small))
+    ∙ (ap (λ a. (2 ^ 19 + a) % 2 ^ 32) (get_or-map (of_z w32) row k (pos 0) 0 small)
+    ∙ plane-word (slice_index_or row k (pos 0)) within)
+
+planes-long : (row : List ℤ) → length (planes_row row) ≡ length row
+planes-long row = length-map (map (of_z w32) row) (λ a. (2 ^ 19 + a) % 2 ^ 32) ∙ length-map row (of_z w32)
 
 over-at : (start : ℕ) (row : List ℕ) (factor k : ℕ) → k < length row
     → slice_index_or (keys_over start (high_row row factor)) k 0 ≡ (start + high_of_word factor (slice_index_or row k 0)) % 2 ^ 32
@@ -186,10 +193,10 @@ far-long (Flat from to) lo hi a b = refl
 
 module _ (axis : Axis) (safe : IsSafe axis) (fit : IsFit axis) (lo hi : List ℤ) (a : length lo ≡ 8) (b : length hi ≡ 8) where
   lo-long : length (planes_row lo) ≡ 8
-  lo-long = length-map lo plane_of_word ∙ a
+  lo-long = planes-long lo ∙ a
 
   hi-long : length (planes_row hi) ≡ 8
-  hi-long = length-map hi plane_of_word ∙ b
+  hi-long = planes-long hi ∙ b
 
   pub near-is : (row : List ℕ) → row ≡ near_row axis (planes_row lo) (planes_row hi) → IsNearRow axis lo hi row
   near-is row e = record {

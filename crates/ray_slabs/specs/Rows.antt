@@ -10,10 +10,7 @@ lifted key = natural_part (key +ℤ pos (2 ^ 31))
 
 -- a plane as how far it is from -2^19
 abbrev pub plane_of_word : ℤ → ℕ
-plane_of_word p = (cast_unsigned w32 p + 2 ^ 19) % 2 ^ 32
-
-abbrev pub planes_row : List ℤ → List ℕ
-planes_row row = map plane_of_word row
+plane_of_word p = (2 ^ 19 + cast_unsigned w32 p) % 2 ^ 32
 
 -- how far it is from the plane at -2^19, in keys
 abbrev pub high_of_word : ℕ → ℕ → ℕ
@@ -40,3 +37,7 @@ stored_word p = (p * 1024 % 2 ^ 32 + 2 ^ 31) % 2 ^ 32
 
 abbrev pub overlap_row : List ℕ → List ℕ → ℕ → ℕ → ℕ → List ℕ
 overlap_row lo hi from to other = zip2 (λ l h. cond (nat_le (stored_word l) to && nat_le from (stored_word h)) 0 other) lo hi
+
+-- eight planes
+abbrev pub planes_row : List ℤ → List ℕ
+planes_row row = keys_over (2 ^ 19) (map (cast_unsigned w32) row)

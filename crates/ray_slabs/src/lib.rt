@@ -2,7 +2,8 @@
 //! in whole numbers of 32 bits, before any box is tested exactly.
 //!
 //! [`Slabs::new`] makes, once for a ray in an object's space and the root's box, a multiplier and
-//! an offset for each axis. [`Slabs::test`] then takes a product and an addition for each plane. A
+//! an offset for each axis. [`Slabs::test`] then takes a product and an addition for each plane, and
+//! [`Slabs::test8`] does so for eight boxes at once, by vectors (`AreBoundsAt` of `specs/Eights`). A
 //! key counts distances from where the root's box is entered, in a power of two that is fine enough
 //! for the ray. The layer above uses the clause `bounds` of [`Slabs::new`], `AreBounds` of
 //! `specs/Bounds`: each box in the root's box that is met at a distance up to the limit is kept,

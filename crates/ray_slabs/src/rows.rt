@@ -1,7 +1,8 @@
 //! Eight numbers at once: planes from -2^19 on, and keys with 2^31 more.
-ghost use Rattle.std.specs.Prelude.{◌≡◌, length};
+ghost use Rattle.std.specs.Prelude.{◌≡◌, length, map};
+ghost use Rattle.std.specs.Int.{w32, cast_unsigned};
 ghost use Rattle.ray_slabs.specs.Rows.{keys_over, keys_under, high_row, planes_row, lesser_row};
-ghost use Rattle.ray_slabs.specs.Rows.{greater_row, overlap_row, plane_of_word, lifted};
+ghost use Rattle.ray_slabs.specs.Rows.{greater_row, overlap_row, lifted};
 
 use std::simd::prelude::*;
 
@@ -18,25 +19,26 @@ pub(crate) fn planes_row(row: &[i32; 8]) -> u32x8
     ensures planes { result ≡ planes_row row.now }
     ensures long { length row.now ≡ 8 }
 {
-    let [a, b, c, d, e, f, g, h] = *row;
-    u32x8::from_array([
-        plane(a),
-        plane(b),
-        plane(c),
-        plane(d),
-        plane(e),
-        plane(f),
-        plane(g),
-        plane(h),
-    ])
+    over(1 << 19, words_row(row))
 }
 
-// A plane as how far it is from -2^19.
+// Eight numbers by their bits.
 #[inline(always)]
-fn plane(p: i32) -> u32
-    ensures { result ≡ plane_of_word p }
+fn words_row(row: &[i32; 8]) -> u32x8
+    ensures words { result ≡ map (cast_unsigned w32) row.now }
+    ensures long { length row.now ≡ 8 }
 {
-    p.cast_unsigned().wrapping_add(1 << 19)
+    let [a, b, c, d, e, f, g, h] = *row;
+    u32x8::from_array([
+        a.cast_unsigned(),
+        b.cast_unsigned(),
+        c.cast_unsigned(),
+        d.cast_unsigned(),
+        e.cast_unsigned(),
+        f.cast_unsigned(),
+        g.cast_unsigned(),
+        h.cast_unsigned(),
+    ])
 }
 
 // How far each plane is from the one at -2^19, in keys.
