@@ -7,3 +7,4 @@ pub mod Ordered
 pub mod Passing
 pub mod Raised
 pub mod Longest
+pub mod Covering

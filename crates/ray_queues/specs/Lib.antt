@@ -8,3 +8,4 @@ pub mod Marks
 pub mod Kinds
 pub mod Keeping
 pub mod Rows
+pub mod Covering
