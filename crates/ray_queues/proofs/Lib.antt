@@ -1,6 +1,7 @@
 pub mod Alone
 pub mod Moving
 pub mod Counting
+pub mod Reaching
 pub mod Marking
 pub mod Named
 pub mod Ordered

@@ -1,12 +1,14 @@
 -- What is carried by signals, and the marks of them.
 use Rattle.std.proofs.Common.{◌≡◌, ◌≢◌, ◌<◌, ◌∙◌, ℕ, suc, ◌+◌, Bool, true, false, ◌||◌, List, [], ◌∷◌, ◌++◌, Option, Some, None, All, length, map, take, get_or, refl, sym, ap, subst, arith}
 use Rattle.std.specs.Prelude.{◌==◌, max, if◌then◌else◌}
+use Rattle.std.specs.BTreeMap.{is_at}
 use Rattle.std.specs.List.{find}
+use Rattle.std.specs.Map.{lookup}
 use Rattle.std.specs.Option.{option_map, option_or}
+use Rattle.std.specs.Ordering.{nat_cmp}
 use Rattle.std.proofs.lemmas.Bool.Decides.{nat_tests}
 use Rattle.std.proofs.lemmas.List.{map-append, take_more}
-use Rattle.std.proofs.lemmas.List.Elements.{All-append, All-map}
-use Rattle.std.proofs.lemmas.List.Folds.{find-append}
+use Rattle.std.proofs.lemmas.List.Elements.{All-map}
 use Rattle.ray_chains.specs.declared.stage.Stage.{Stage}
 use Rattle.ray_chains.specs.Fronts.{greatest_of}
 use Rattle.ray_chains.specs.QueueLaws.{source_of}
@@ -15,11 +17,11 @@ use Rattle.ray_chains.proofs.Across.{signals-carry}
 use Rattle.ray_rules.specs.Order.{always}
 use Rattle.ray_submits.specs.declared.point.SemaphorePoint.{SemaphorePoint}
 use Rattle.ray_submits.specs.Submits.{QueueCommands}
-use Rattle.ray_queues.specs.declared.marks.Mark.{Mark}
 use Rattle.ray_queues.specs.declared.marks.Marks.{Marks}
 use Rattle.ray_queues.specs.declared.per_queue.PerQueue.{PerQueue}
+use Rattle.ray_queues.specs.declared.rising.Mark.{Mark}
 use Rattle.ray_queues.specs.Events.{event_at, timeline_point}
-use Rattle.ray_queues.specs.Marks.{AreMarks, IsSent, first_enough, is_enough, mark_of, number_for, number_sent, numbers_in}
+use Rattle.ray_queues.specs.Marks.{AddMarks, AreMarks, IsSent, first_enough, found_for, is_enough, list_of, mark_of, number_for, number_sent, numbers_in, reaches}
 use Rattle.ray_queues.specs.Numbers.{all_queues, greater_queues}
 use Rattle.ray_queues.specs.Sources.{ArePerQueue, front_from, number_met}
 use Rattle.ray_queues.proofs.Counting.{all-queues, greater-queues, same-queues}
@@ -77,12 +79,11 @@ met-zero q n wait numbers e is = subst (ArePerQueue (number_for q n wait)) (sym 
 
 pub met-mark :
     (q : QueueCommands) (n : ℕ) (wait : TimelinePoint) (marks : Marks) (o : Option Mark) (numbers : PerQueue)
-    → (wait.value == 0) ≡ false → o ≡ find (is_enough wait) marks.list.items → numbers ≡ numbers_in o
+    → (wait.value == 0) ≡ false → o ≡ found_for marks wait → numbers ≡ numbers_in o
     → AreMarks q n marks → ArePerQueue (number_for q n wait) numbers
 met-mark q n wait marks o numbers e found is are =
     subst (ArePerQueue (number_for q n wait)) (sym is)
-    (by-mark q n wait o e (ap (option_map (λ (m : Mark). m.submit)) found ∙ are.found wait) (λ m f.
-    found-all (IsSent q n) (is_enough wait) marks.list.items m are.sent (sym found ∙ f)))
+    (by-mark q n wait o e (ap (option_map (λ (m : Mark). m.submit)) found ∙ are.found wait) (λ m f. are.sent wait m (sym found ∙ f)))
 
 -- ---- several waits
 
@@ -125,11 +126,17 @@ met-more q n k waits d numbers one both below are is e =
 
 -- ---- from a command to the next
 
-pub marks-none : (q : QueueCommands) (marks : Marks) → marks.list.items ≡ [] → AreMarks q 0 marks
-marks-none q marks e = record {
-  found = λ wait. ap (λ ms. option_map (λ (m : Mark). m.submit) (find (is_enough wait) ms)) e;
-  sent = subst (All (IsSent q 0)) (sym e) (λ i d below. absurd (omega (arith, below)));
-}
+none-is : {A : Type 0} (m : Mark) → None ≡ Some m → A
+none-is m e = absurd cc
+
+pub marks-none : (q : QueueCommands) (marks : Marks) → marks.raised.entries ≡ [] → AreMarks q 0 marks
+marks-none q marks e =
+    let nothing : (wait : TimelinePoint) → found_for marks wait ≡ None =
+    λ wait. ap (λ es. find (reaches wait.value) (list_of (lookup (is_at (nat_cmp wait.semaphore)) es))) e in
+    record {
+      found = λ wait. ap (option_map (λ (m : Mark). m.submit)) (nothing wait);
+      sent = λ wait m f. none-is m (sym (nothing wait) ∙ f);
+    }
 
 here-none : (o : Option ℕ) (n : ℕ) → or_here o false n ≡ o
 here-none None n = refl
@@ -150,7 +157,7 @@ pub marks-still :
     → AreMarks q n marks → AreMarks q (suc n) marks
 marks-still q n marks other are = record {
   found = λ wait. are.found wait ∙ sym ((λ i. or_here (first_enough q wait n) (other wait i) n) ∙ here-none (first_enough q wait n) n);
-  sent = λ i d below. later q n (get_or marks.list.items i d) (are.sent i d below);
+  sent = λ wait m f. later q n m (are.sent wait m f);
 }
 
 find-new :
@@ -175,27 +182,33 @@ either : (a b : Option Mark) (t : Bool) (n : ℕ) → option_map (λ (m : Mark).
 either None b t n e = e
 either (Some m) b t n e = refl
 
+-- what holds of each of two holds of the first that is there
+of-either : (P : Mark → Type 0) (a b : Option Mark) (m : Mark) → option_or a b ≡ Some m → (a ≡ Some m → P m) → (b ≡ Some m → P m) → P m
+of-either P None b m e first second = second e
+of-either P (Some x) b m e first second = first e
+
 -- a `submit`
 pub marks-sent :
     (q : QueueCommands) (n queue : ℕ) (old new : Marks) (signals : List SemaphorePoint) (numbers : PerQueue)
     → event_at q n ≡ Submit queue (map timeline_point signals) → ArePerQueue (number_sent q queue n) numbers
-    → new.list.items ≡ old.list.items ++ map (mark_of n numbers) signals → AreMarks q n old → AreMarks q (suc n) new
-marks-sent q n queue old new signals numbers is carried added are = record {
-  found = λ wait.
-      ap (λ ms. option_map (λ (m : Mark). m.submit) (find (is_enough wait) ms)) added
-      ∙ (ap (option_map (λ (m : Mark). m.submit)) (find-append (is_enough wait) old.list.items (map (mark_of n numbers) signals))
-      ∙ (either (find (is_enough wait) old.list.items) (find (is_enough wait) (map (mark_of n numbers) signals))
-      (signals_enough wait (Submit queue (map timeline_point signals))) n (find-new wait n queue numbers signals)
-      ∙ λ i. or_here (are.found wait i) (signals_enough wait (sym is i)) n));
-  sent =
-      subst (All (IsSent q (suc n))) (sym added)
-      (All-append (IsSent q (suc n)) old.list.items (map (mark_of n numbers) signals)
-      (λ i d below. later q n (get_or old.list.items i d) (are.sent i d below))
-      (All-map (IsSent q (suc n)) (mark_of n numbers) signals (λ i d below. record {
-        queue = queue;
-        signals = map timeline_point signals;
-        is = is;
-        below = omega arith;
-        numbers = carried;
-      })));
-}
+    → AddMarks old (map (mark_of n numbers) signals) new → AreMarks q n old → AreMarks q (suc n) new
+marks-sent q n queue old new signals numbers is carried added are =
+    let here : List Mark = map (mark_of n numbers) signals in
+    let all : All (IsSent q (suc n)) here =
+    All-map (IsSent q (suc n)) (mark_of n numbers) signals (λ i d below. record {
+      queue = queue;
+      signals = map timeline_point signals;
+      is = is;
+      below = omega arith;
+      numbers = carried;
+    }) in
+    record {
+      found = λ wait.
+          ap (option_map (λ (m : Mark). m.submit)) (added.found wait)
+          ∙ (either (found_for old wait) (find (is_enough wait) here)
+          (signals_enough wait (Submit queue (map timeline_point signals))) n (find-new wait n queue numbers signals)
+          ∙ λ i. or_here (are.found wait i) (signals_enough wait (sym is i)) n);
+      sent = λ wait m f.
+          of-either (IsSent q (suc n)) (found_for old wait) (find (is_enough wait) here) m (sym (added.found wait) ∙ f)
+          (λ g. later q n m (are.sent wait m g)) (λ g. found-all (IsSent q (suc n)) (is_enough wait) here m all g);
+    }

@@ -1,5 +1,5 @@
 -- What is kept of the order goes on from a command to the next.
-use Rattle.std.proofs.Common.{◌≡◌, ◌<◌, ◌≤◌, ◌∙◌, ℕ, suc, Bool, true, false, List, ◌++◌, Option, Some, None, Result, Ok, Err, map, refl, sym, ap, subst, arith}
+use Rattle.std.proofs.Common.{◌≡◌, ◌<◌, ◌≤◌, ◌∙◌, ℕ, suc, Bool, true, false, List, Option, Some, None, Result, Ok, Err, map, refl, sym, ap, subst, arith}
 use Rattle.std.specs.Prelude.{OnOk, if◌then◌else◌}
 use Rattle.std.specs.Option.{option_map_or}
 use Rattle.ray_chains.specs.Keeping.{hands_to}
@@ -15,7 +15,7 @@ use Rattle.ray_queues.specs.declared.marks.Marks.{Marks}
 use Rattle.ray_queues.specs.declared.per_queue.PerQueue.{PerQueue}
 use Rattle.ray_queues.specs.Events.{event_at, event_of, waits_in}
 use Rattle.ray_queues.specs.Keeping.{IsHere, passed_by}
-use Rattle.ray_queues.specs.Marks.{AreMarks, mark_of, number_sent}
+use Rattle.ray_queues.specs.Marks.{AddMarks, AreMarks, mark_of, number_sent}
 use Rattle.ray_queues.specs.Sources.{ArePerQueue, IsEvent, number_met}
 use Rattle.ray_queues.proofs.Marking.{marks-sent, marks-still}
 use Rattle.ray_queues.proofs.Named.{submission-below}
@@ -75,10 +75,10 @@ queue-here q n s have is = subst (λ o. queue_in o < 4) is.submission (submissio
 pub marks-present :
     (q : QueueCommands) (n : ℕ) (s : Submission) (old new : Marks) (numbers : PerQueue) (signals : List SemaphorePoint)
     → IsHere q n commands.Submit (Some s) → ArePerQueue (number_sent q s.queue n) numbers → signals ≡ s.signals
-    → new.list.items ≡ old.list.items ++ map (mark_of n numbers) signals → AreMarks q n old → AreMarks q (suc n) new
+    → AddMarks old (map (mark_of n numbers) signals) new → AreMarks q n old → AreMarks q (suc n) new
 marks-present q n s old new numbers signals is carried same added are =
     marks-sent q n s.queue old new s.signals numbers (event-here q n commands.Submit (Some s) is) carried
-    (added ∙ ap (λ ps. old.list.items ++ map (mark_of n numbers) ps) same) are
+    (subst (λ ps. AddMarks old (map (mark_of n numbers) ps) new) same added) are
 
 -- ---- waits of the host
 

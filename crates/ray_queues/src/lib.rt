@@ -15,7 +15,8 @@
 //! It stands on ray_submits (the recording and its submissions), ray_sync (what barriers are to
 //! chains), ray_chains and ray_rules (the theory of chains, the order of one queue). What the
 //! commands of a queue at a stage did has reached a stage of a queue below one number; so a number
-//! for each two stages of each two queues is all that is kept, with those that each signal carries.
+//! for each two stages of each two queues is all that is kept, with those that are carried by each
+//! signal that raises its semaphore.
 #![tactic(auto)]
 
 mod arrived;
@@ -25,6 +26,7 @@ mod limits;
 mod marks;
 mod order;
 mod per_queue;
+mod rising;
 mod sources;
 mod targets;
 mod wave_kind;

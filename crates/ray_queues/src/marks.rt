@@ -1,33 +1,28 @@
-ghost use Rattle.std.specs.Prelude.{◌≡◌, ◌++◌, ℕ, List, OnOk, if◌then◌else◌, map};
-ghost use Rattle.std.specs.List.{find};
+ghost use Rattle.std.specs.Prelude.{◌≡◌, ◌∷◌, [], ℕ, List, None, OnOk, Some, if◌then◌else◌, map};
+ghost use Rattle.std.specs.BTreeMap.{get, is_at};
 ghost use Rattle.std.specs.Option.{option_map};
+ghost use Rattle.std.specs.Ordering.{nat_cmp};
 ghost use Rattle.ray_queues.specs.Events.{timeline_point};
-ghost use Rattle.ray_queues.specs.Marks.{AreMarks, is_enough, mark_of, number_for, number_sent};
-ghost use Rattle.ray_queues.specs.Marks.{numbers_in};
+ghost use Rattle.ray_queues.specs.Marks.{AddMarks, AreMarks, found_for, list_of, mark_of};
+ghost use Rattle.ray_queues.specs.Marks.{number_for, number_sent, numbers_in};
 ghost use Rattle.ray_queues.specs.Numbers.{all_stages};
 ghost use Rattle.ray_queues.specs.Sources.{ArePerQueue, IsArrived, number_met};
 ghost use Rattle.ray_submits.specs.Submits.{QueueCommands};
 
 use crate::arrived::Arrived;
 use crate::per_queue::{PerQueue, PerStage};
+use crate::rising::{Mark, Rising};
 use ray_chains::Stage;
 use ray_submits::SemaphorePoint;
 use std::alloc::{AllocError as NoMemory, Global};
+use std::collections::BTreeMap;
 
-/// What a submission signalled, and below which numbers what was done is carried by it.
-#[derive(Clone, Copy, Debug, PartialEq, Eq)]
-pub(crate) struct Mark {
-    pub(crate) semaphore: u32,
-    pub(crate) value: u64,
-    // The number of its `submit`.
-    pub(crate) submit: u32,
-    pub(crate) numbers: PerQueue,
-}
-
-/// What has been signalled, in order.
+/// What has been signalled: for each semaphore the signals that raise it, in order. What they say of
+/// a wait is `found_for` of them.
 #[derive(Drop)]
 pub(crate) struct Marks {
-    pub(crate) list: Vec<Mark>,
+    pub(crate) alloc: Global,
+    pub(crate) raised: BTreeMap<u32, Rising>,
 }
 
 impl Marks {
@@ -36,16 +31,19 @@ impl Marks {
         ensures { (q : QueueCommands) → AreMarks q 0 result }
     {
         Marks {
-            list: Vec::new(alloc),
+            alloc,
+            raised: BTreeMap::new(alloc),
         }
     }
 
     // The first signal that is enough for a wait.
     fn find(&self, wait: &SemaphorePoint) -> Option<&Mark>
-        ensures { option_map (λ m. m.now) result
-            ≡ find (is_enough (timeline_point wait.now)) self.now.list.items }
+        ensures { option_map (λ m. m.now) result ≡ found_for self.now (timeline_point wait.now) }
     {
-        self.list.iter().find(|mark| is_enough(mark, wait))
+        match self.raised.get(&wait.semaphore) {
+            Some(rising) => rising.find(wait.value),
+            None => None,
+        }
     }
 
     // Below which numbers what was done is carried by what meets a wait.
@@ -80,11 +78,10 @@ impl Marks {
         signals: &[SemaphorePoint],
         numbers: PerQueue,
     ) -> Result<(), NoMemory>
-        ensures { OnOk result (self.new.list.items ≡ self.old.list.items
-            ++ map (mark_of n numbers) signals.now) }
+        ensures { OnOk result (AddMarks self.old (map (mark_of n numbers) signals.now) self.new) }
     {
         for point in signals {
-            self.list.push(Mark {
+            self.raise(Mark {
                 semaphore: point.semaphore,
                 value: point.value,
                 submit: n,
@@ -93,13 +90,37 @@ impl Marks {
         }
         Ok(())
     }
-}
 
-// Whether a signal is enough for a wait.
-fn is_enough(mark: &Mark, wait: &SemaphorePoint) -> bool
-    ensures { result ≡ is_enough (timeline_point wait.now) mark.now }
-{
-    mark.semaphore == wait.semaphore && wait.value <= mark.value
+    // Goes on past a signal.
+    fn raise(&mut self, mark: Mark) -> Result<(), NoMemory>
+        ensures { OnOk result (AddMarks self.old (mark ∷ []) self.new) }
+    {
+        let mut rising = self.taken(mark.semaphore);
+        rising.raise(mark)?;
+        self.put(mark.semaphore, rising)
+    }
+
+    // Takes out the signals of a semaphore.
+    fn taken(&mut self, semaphore: u32) -> Rising
+        ensures list { result ≡ list_of (get nat_cmp self.old.raised semaphore) }
+        ensures others { (other : ℕ) → get nat_cmp self.new.raised other
+            ≡ (if is_at (nat_cmp semaphore) other then None else get nat_cmp self.old.raised other) }
+    {
+        match self.raised.remove(&semaphore) {
+            Some(rising) => rising,
+            None => Rising::new(self.alloc),
+        }
+    }
+
+    // Puts them back.
+    fn put(&mut self, semaphore: u32, rising: Rising) -> Result<(), NoMemory>
+        ensures { OnOk result ((other : ℕ) → get nat_cmp self.new.raised other
+            ≡ (if is_at (nat_cmp semaphore) other then Some rising
+            else get nat_cmp self.old.raised other)) }
+    {
+        self.raised.insert(semaphore, rising)?;
+        Ok(())
+    }
 }
 
 // The numbers of a signal, 0 where there is none.

@@ -87,7 +87,8 @@ impl QueueOrder {
 
 /// The order over queues of the commands of a recording below `until`, which is at most their
 /// number. Beside what is looked up of semaphores it takes a number of steps that is linear in
-/// `until`; for a wait it goes over all signals before it.
+/// `until`; for a wait and for a signal it looks its semaphore up, and searches the signals that
+/// raised it.
 ///
 /// # Errors
 ///
