@@ -1,0 +1,4 @@
+pub mod HitGroup
+pub mod Tables
+pub mod Shapes
+pub mod Reading
