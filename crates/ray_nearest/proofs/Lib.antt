@@ -3,6 +3,7 @@ pub mod Waits
 mod Popping
 mod Pending
 mod Moving
+mod Farther
 mod Underway
 pub mod Growing
 pub mod Added

@@ -1,23 +1,18 @@
 -- Limits, keys and turns in order.
-use Rattle.std.proofs.Common.{◌≡◌, ◌∙◌, refl, sym, ap, suc, Bool, true, false, List, [], ◌∷◌, All, Option, Some, None, arith}
-use Rattle.std.specs.Cmp.{IsTotalOrder}
-use Rattle.std.specs.Ordering.{is_lt, is_le, is_gt, ordering_reverse, ordering_then}
+use Rattle.std.proofs.Common.{◌≡◌, ◌∙◌, refl, sym, ap, true, false, Option, Some, None}
+use Rattle.std.specs.Ordering.{is_lt, is_le, ordering_then}
 use Rattle.std.specs.declared.cmp.Ordering.{Ordering}
 use Rattle.std.specs.declared.cmp.Ordering.TheVariants.{Less, Equal, Greater}
-use Rattle.std.proofs.lemmas.Cmp.{tied_itself, upto}
 use Rattle.ray_geom.specs.declared.ratio.Ratio.{Ratio}
 use Rattle.ray_geom.specs.Frac.{frac_cmp}
 use Rattle.ray_geom.specs.Ratio.{ratio_cmp, ratio_of}
 use Rattle.ray_geom.specs.RatioLaws.{ratio_cmp-total}
-use Rattle.ray_query.specs.declared.commit.Commit.{Commit}
 use Rattle.ray_query.specs.declared.found.Found.{Found}
-use Rattle.ray_query.specs.declared.key.Key.{Key}
-use Rattle.ray_query.specs.Key.{found_key, is_below, key_cmp, key_lt}
+use Rattle.ray_query.specs.Key.{found_key, key_lt}
 use Rattle.ray_nearest.specs.declared.turn.Turn.{Turn}
 use Rattle.ray_nearest.specs.declared.turn.Turn.TheVariants.{Node, Candidate}
 use Rattle.ray_nearest.specs.Adding.{HasValue}
-use Rattle.ray_query.specs.Limits.{Holds, is_open}
-use Rattle.ray_query.specs.Limits.{distance_of, is_within}
+use Rattle.ray_query.specs.Limits.{is_within}
 use Rattle.ray_query.proofs.Orders.{le-from_not_lt}
 use Rattle.ray_nearest.specs.TurnLaws.{turn_cmp}
 use Rattle.ray_nearest.specs.Turns.{is_before, turn_at}

@@ -8,14 +8,12 @@ use Rattle.std.proofs.lemmas.List.Sorted.{All-permutation, IsPermutation-sym, su
 use Rattle.std.proofs.lemmas.List.Sums.{sum_by-cons}
 use Rattle.ray_geom.specs.declared.ratio.Ratio.{Ratio}
 use Rattle.ray_geom.specs.Ratio.{ratio_cmp, ratio_of}
-use Rattle.ray_geom.specs.RatioLaws.{ratio_cmp-total}
 use Rattle.ray_flags.specs.declared.ray_flags.RayFlags.{RayFlags}
 use Rattle.ray_query.specs.declared.candidate.Candidate.{Candidate as Offer}
 use Rattle.ray_query.specs.declared.commit.Commit.{Commit}
 use Rattle.ray_query.specs.declared.decision.Decision.{Decision}
 use Rattle.ray_query.specs.declared.found.Found.{Found}
 use Rattle.ray_query.specs.declared.key.Key.{Key}
-use Rattle.ray_query.specs.Key.{found_key, key_lt}
 use Rattle.ray_query.specs.Laws.{LeavesOut, OverStays}
 use Rattle.ray_query.specs.Machine.{QueryValue, query_of}
 use Rattle.ray_query.specs.Play.{QueryState, play, play_one, start}
@@ -32,11 +30,12 @@ use Rattle.ray_query.specs.Limits.{is_open}
 use Rattle.ray_nearest.specs.Taking.{IsNext, IsKnown, Takes}
 use Rattle.ray_nearest.specs.Turns.{is_before, turn_at}
 use Rattle.ray_query.proofs.Members.{Member-flat_map, Each-member, Member, Member-append, Member-append_left, Member-append_right}
-use Rattle.ray_query.proofs.Orders.{Each, Each-from_All, key_lt-not_both, lt-chain, lt-from_not_le, never, ratio_le-chain}
+use Rattle.ray_query.proofs.Orders.{Each, Each-from_All, never}
 use Rattle.ray_query.proofs.Orders.{beyond-farther, beyond-passed}
-use Rattle.ray_nearest.proofs.Orders.{key-nearer, turn-farther, within-value}
-use Rattle.ray_query.proofs.Rising.{AreApart-first, Differs, IsAbove, above_other, in_key_order-first}
-use Rattle.ray_nearest.proofs.Pending.{Fits, keys, pending, pending-keys, pending-permuted, stands, stands-farther, unopened, weight}
+use Rattle.ray_nearest.proofs.Orders.{within-value}
+use Rattle.ray_query.proofs.Rising.{in_key_order-first}
+use Rattle.ray_nearest.proofs.Farther.{AreApart-pending, Each-both, Each-by, all-farther, rest-above}
+use Rattle.ray_nearest.proofs.Pending.{Fits, keys, pending, pending-permuted, stands, stands-farther, unopened, weight}
 use Rattle.ray_query.proofs.Plays.{IsReached, play-same, plays_in, reached-play_one}
 use Rattle.ray_nearest.proofs.Moving.{Moves, moves_nodes, moves_opened}
 
@@ -68,66 +67,8 @@ pub record IsUnderway (IsNode : WalkNode → Type 0) (s : SceneValue) (meaning :
   pub bound : (limit : Option Ratio) → Each (Reaches limit) marks → now + sum_by (unopened s limit) items ≤ begun + opened_in s limit
   pub rising : begun ≤ now
 
-Each-by : {X : Type 0} (P Q : X → Type 0) (xs : List X) → ((x : X) → P x → Q x) → Each P xs → Each Q xs
-Each-by P Q [] h each = tt
-Each-by P Q (x ∷ xs) h (first, rest) = (h x first, Each-by P Q xs h rest)
-
-Each-both : {X : Type 0} (P Q R : X → Type 0) (xs : List X) → ((x : X) → P x → Q x → R x) → Each P xs → Each Q xs → Each R xs
-Each-both P Q R [] h p q = tt
-Each-both P Q R (x ∷ xs) h (p, ps) (q, qs) = (h x p q, Each-both P Q R xs h ps qs)
-
 module _ (IsNode : WalkNode → Type 0) (s : SceneValue) where
-  AreApart-pending : (items : List Turn) → ((k : Key) → sum_by (keys s k) items ≤ 1) → AreApart (pending s items)
-  AreApart-pending items once = record {
-    once = λ k.
-        let sum : sum_by (has_key k) (pending s items) ≡ sum_by (keys s k) items = pending-keys s k items in
-        let most : sum_by (keys s k) items ≤ 1 = once k in
-        omega (arith, sum, most);
-  }
-
   module _ (scene : IsScene IsNode s) where
-    -- where none of the others is before a turn, nothing that they stand for is nearer than the turn
-    rest-farther : (x : Turn) (rest : List Turn) → All (Fits IsNode s) rest → All (λ y. is_before y x ≡ false) rest
-        → (f : Found) → Member f (pending s rest) → is_le (ratio_cmp (turn_at x) (ratio_of f.t)) ≡ true
-    rest-farther x rest fit first f m = by (Member-flat_map (stands s) rest f m)
-      where
-        by : (y : Turn) × Member y rest × Member f (stands s y) → is_le (ratio_cmp (turn_at x) (ratio_of f.t)) ≡ true
-        by (y, among, here) =
-            ratio_le-chain (turn_at x) (turn_at y) (ratio_of f.t)
-            (turn-farther x y (Each-member (λ z. is_before z x ≡ false) rest y (Each-from_All (λ z. is_before z x ≡ false) rest first) among))
-            (stands-farther IsNode s scene y (Each-member (Fits IsNode s) rest y (Each-from_All (Fits IsNode s) rest fit) among) f here)
-
-    -- nor than the turn itself
-    all-farther : (x : Turn) (rest : List Turn) → All (Fits IsNode s) (x ∷ rest) → All (λ y. is_before y x ≡ false) rest
-        → (f : Found) → Member f (pending s (x ∷ rest)) → is_le (ratio_cmp (turn_at x) (ratio_of f.t)) ≡ true
-    all-farther x rest fit first f m = by (Member-append (stands s x) (pending s rest) f m)
-      where
-        by : Member f (stands s x) ⊎ Member f (pending s rest) → is_le (ratio_cmp (turn_at x) (ratio_of f.t)) ≡ true
-        by (inl here) = stands-farther IsNode s scene x (All-head (Fits IsNode s) x rest fit) f here
-        by (inr later) = rest-farther x rest (All-tail (Fits IsNode s) x rest fit) first f later
-
-    -- of a candidate's turn, all that the others stand for has a key that isn't below its own
-    not_below : (f : Found) (y : Turn) → Fits IsNode s y → is_before y (Candidate f) ≡ false → (g : Found) → Member g (stands s y)
-        → key_lt (found_key g) (found_key f) ≡ false
-    not_below f (Node e n) fits first g m =
-        key_lt-not_both (found_key f) (found_key g)
-        (key-nearer f g
-        (lt-chain ratio_cmp-total (ratio_of f.t) e (ratio_of g.t)
-        (lt-from_not_le ratio_cmp-total e (ratio_of f.t) first)
-        (stands-farther IsNode s scene (Node e n) fits g m)))
-    not_below f (Candidate h) fits first g (inl same) = subst (λ x. key_lt (found_key x) (found_key f) ≡ false) same first
-    not_below f (Candidate h) fits first g (inr m) = absurd m
-
-    rest-above : (f : Found) (rest : List Turn) → All (Fits IsNode s) rest → All (λ y. is_before y (Candidate f) ≡ false) rest
-        → AreApart (f ∷ pending s rest) → (g : Found) → Member g (pending s rest) → IsAbove f g
-    rest-above f rest fit first apart g m = by (Member-flat_map (stands s) rest g m)
-      where
-        by : (y : Turn) × Member y rest × Member g (stands s y) → IsAbove f g
-        by (y, among, here) =
-            above_other f g (Each-member (Differs f) (pending s rest) g (AreApart-first f (pending s rest) apart) m)
-            (not_below f y (Each-member (Fits IsNode s) rest y (Each-from_All (Fits IsNode s) rest fit) among)
-            (Each-member (λ z. is_before z (Candidate f) ≡ false) rest y (Each-from_All (λ z. is_before z (Candidate f) ≡ false) rest first) among) g here)
-
     module _ (leaves : LeavesOut) (meaning : Offer → Decision) (ray : ℕ) (flags : RayFlags) (begun : ℕ) where
       -- it doesn't matter in which order the turns stand
       turned : (items moved : List Turn) (q : QueryValue) (now : ℕ) → IsPermutation items moved
@@ -147,7 +88,7 @@ module _ (IsNode : WalkNode → Type 0) (s : SceneValue) where
             once = once;
             in_order = λ f m. u.in_order f (back f m);
             same =
-                play-same leaves meaning ray flags q.state (pending s moved) (pending s items) (AreApart-pending moved once) (AreApart-pending items u.once)
+                play-same leaves meaning ray flags q.state (pending s moved) (pending s items) (AreApart-pending IsNode s moved once) (AreApart-pending IsNode s items u.once)
                 (λ f plays m. back f m) (λ f plays m. pending-permuted s items moved f p m) ∙ u.same;
             marks = u.marks;
             beyond = Each-by (λ m. (f : Found) → Member f (pending s items) → IsBehind m f) (λ m. (f : Found) → Member f (pending s moved) → IsBehind m f) u.marks
@@ -191,7 +132,7 @@ module _ (IsNode : WalkNode → Type 0) (s : SceneValue) where
             once = once;
             in_order = λ f m. in_order-roots s.roots scene.roots f (either_none f (found_in s) (moves.only f m));
             same =
-                play-same leaves meaning ray flags start (pending s items) (found_in s) (AreApart-pending items once) scene.apart
+                play-same leaves meaning ray flags start (pending s items) (found_in s) (AreApart-pending IsNode s items once) scene.apart
                 (λ f plays m. either_none f (found_in s) (moves.only f m)) (λ f plays m. moves.kept f plays (inl m));
             marks = [];
             beyond = tt;
@@ -242,8 +183,8 @@ module _ (IsNode : WalkNode → Type 0) (s : SceneValue) where
             once = once;
             in_order = λ f m. u.in_order f (back f m);
             same =
-                play-same leaves meaning ray flags q.state (pending s new) (pending s (Node e n ∷ rest)) (AreApart-pending new once)
-                (AreApart-pending (Node e n ∷ rest) u.once)
+                play-same leaves meaning ray flags q.state (pending s new) (pending s (Node e n ∷ rest)) (AreApart-pending IsNode s new once)
+                (AreApart-pending IsNode s (Node e n ∷ rest) u.once)
                 (λ f plays m. back f m) (λ f plays m. moves.kept f plays (Member-append (s.every n) (pending s rest) f m)) ∙ u.same;
             marks = marks;
             beyond = behind back;
@@ -271,7 +212,7 @@ module _ (IsNode : WalkNode → Type 0) (s : SceneValue) where
       leaf_taken e n rest new q now value in_ first opened u =
           let fits : Fits IsNode s (Node e n) = All-head (Fits IsNode s) (Node e n) rest u.fit in
           opened_by e n rest new q now (e ∷ u.marks) opened u
-          (λ back. ((λ f m. all-farther (Node e n) rest u.fit first f (back f m)), still_behind (Node e n ∷ rest) new u.marks back u.beyond))
+          (λ back. ((λ f m. all-farther IsNode s scene (Node e n) rest u.fit first f (back f m)), still_behind (Node e n ∷ rest) new u.marks back u.beyond))
           (in_, u.reached)
           (λ costs limit reaches.
           let cost : sum_by (unopened s limit) new ≤ sum_by (s.opened limit) (s.below n) + sum_by (unopened s limit) rest = costs limit in
@@ -317,9 +258,9 @@ module _ (IsNode : WalkNode → Type 0) (s : SceneValue) where
           → IsUnderway IsNode s meaning ray flags begun rest (record q { state = play_one meaning q.ray q.flags q.state f }) now
       found_taken f rest q now first u =
           let fit : All (Fits IsNode s) rest = All-tail (Fits IsNode s) (Candidate f) rest u.fit in
-          let apart : AreApart (f ∷ pending s rest) = AreApart-pending (Candidate f ∷ rest) u.once in
+          let apart : AreApart (f ∷ pending s rest) = AreApart-pending IsNode s (Candidate f ∷ rest) u.once in
           let order : in_key_order (f ∷ pending s rest) ≡ f ∷ in_key_order (pending s rest) =
-          in_key_order-first f (pending s rest) (rest-above f rest fit first apart) in
+          in_key_order-first f (pending s rest) (rest-above IsNode s scene f rest fit first apart) in
           let here : Member f (pending s (Candidate f ∷ rest)) = inl refl in
           record {
             ray_is = u.ray_is;
@@ -420,7 +361,7 @@ module _ (IsNode : WalkNode → Type 0) (s : SceneValue) where
       ended over items new q now u (inr late) =
           let passed : (f : Found) → Member f (pending s items) → plays_in q.state f ≡ false = all_passed items q now u late in
           sym (none_left q.state) ∙
-          (play-same leaves meaning ray flags q.state [] (pending s items) AreApart-none (AreApart-pending items u.once)
+          (play-same leaves meaning ray flags q.state [] (pending s items) AreApart-none (AreApart-pending IsNode s items u.once)
           (λ f plays m. absurd m) (λ f plays m. never (plays_in q.state f) plays (passed f m)) ∙ u.same)
 
       pub answers : OverStays → (items new : List Turn) (q : QueryValue) (now : ℕ) → IsUnderway IsNode s meaning ray flags begun items q now

@@ -1,5 +1,5 @@
 -- Where nodes may wait.
-use Rattle.std.proofs.Common.{◌≡◌, ap, Option, Some, None}
+use Rattle.std.proofs.Common.{ap, Option, Some, None}
 use Rattle.std.specs.Ordering.{is_le}
 use Rattle.ray_geom.specs.declared.ratio.Ratio.{Ratio}
 use Rattle.ray_nearest.specs.declared.node.WalkNode.{WalkNode}

@@ -3,10 +3,9 @@
 -- By hand, for an inner node over two leaves with a primitive each, met at 1, 1 and 3, whose primitives are hit at 2 and 4:
 -- `every` of the root is both hits. Where the nearer commits, the walk ends at 2 and the second leaf is not opened: `opened` of the
 -- root at 2 is 1, and 2 where nothing commits.
-use Rattle.std.specs.Prelude.{ℕ, ◌≡◌, ◌+◌, ◌++◌, ◌≤◌, Bool, true, false, Option, Some, None, List, length, All}
+use Rattle.std.specs.Prelude.{ℕ, ◌≡◌, ◌+◌, ◌++◌, ◌≤◌, true, Option, List, length, All}
 use Rattle.std.specs.List.{sum_by, flat_map}
 use Rattle.ray_geom.specs.declared.ratio.Ratio.{Ratio}
-use Rattle.ray_geom.specs.Ratio.{ratio_of}
 use Rattle.ray_query.specs.declared.found.Found.{Found}
 use Rattle.ray_nearest.specs.declared.node.WalkNode.{WalkNode}
 use Rattle.ray_nearest.specs.declared.node.WalkNode.TheVariants.{TopInner, TopLeaf, Inner, Leaf}

@@ -43,3 +43,8 @@ IsEight object lanes eight = (k : ℕ) → k < 8 → IsBox (lane_box lanes k) �
 abbrev pub IsNarrowed : ℕ → Option Eight → ℕ → Type 0
 IsNarrowed met None left = left ≡ met
 IsNarrowed met (Some eight) left = left ≡ bit_and met eight.met
+
+-- what slabs tell of eight boxes, with the bits of those that are left
+abbrev pub AreTold : Slabs → Lanes8 → ℕ → Option Eight → ℕ → Type 0
+AreTold slabs lanes met None left = ⊥
+AreTold slabs lanes met (Some eight) left = IsMadeBy slabs lanes eight × (left ≡ bit_and met eight.met)

@@ -1,7 +1,7 @@
 //! Bounds of where a ray enters boxes, in fixed point, so that few boxes are tested exactly.
-ghost use Rattle.std.specs.Prelude.{◌≡◌, ◌<◌, ◌≤◌, ◌^◌, IfSome, None, slice_index_or};
+ghost use Rattle.std.specs.Prelude.{◌≡◌, ◌<◌, ◌≤◌, ◌^◌, IfNone, IfSome, None, slice_index_or};
 ghost use Rattle.ray_slabs.specs.Bounds.{AreBounds};
-ghost use Rattle.ray_walk.specs.Bounding.{IsEight, IsFromKey, IsMadeBy, IsNarrowed, whole};
+ghost use Rattle.ray_walk.specs.Bounding.{AreTold, IsEight, IsFromKey, IsMadeBy, IsNarrowed, whole};
 
 use ray_geom::{Box3, ObjectRay, Ratio, Vec3};
 use ray_lanes::Lanes8;
@@ -25,7 +25,8 @@ pub(crate) struct Eight {
 #[inline(always)]
 pub(crate) fn make_slabs(ray: &ObjectRay, slabs: &mut Option<Slabs>, met: u8)
     requires { IfSome slabs.old (AreBounds ray.now whole None) }
-    ensures { IfSome slabs.new (AreBounds ray.now whole None) }
+    ensures made { IfSome slabs.new (AreBounds ray.now whole None) }
+    ensures kept { IfNone slabs.new (slabs.old ≡ None) }
 {
     if met.count_ones() > 3 && slabs.is_none() {
         *slabs = slabs_of(ray);
@@ -58,16 +59,38 @@ fn whole() -> Box3
     Box3::of_corners(lo, hi)
 }
 
-/// What the slabs of a ray tell of eight boxes, if there are any.
+/// The bits of the boxes that are left, of those that the window overlaps: where a ray has slabs,
+/// such as may be met by these, and what they tell is put into `eight`. Where it has none nothing is
+/// written, so that a way down by windows alone copies nothing.
 #[inline(always)]
-pub(crate) fn eight_of(_ray: &ObjectRay, slabs: &Option<Slabs>, lanes: &Lanes8) -> Option<Eight>
-    requires { IfSome slabs.now (AreBounds _ray.now whole None) }
-    ensures { IfSome result (IsEight _ray.now lanes.now) }
+pub(crate) fn narrowed(
+    _ray: &ObjectRay,
+    slabs: &Option<Slabs>,
+    lanes: &Lanes8,
+    met: u8,
+    eight: &mut Option<Eight>,
+) -> u8
+    requires slabs { IfSome slabs.now (AreBounds _ray.now whole None) }
+    requires none { IfNone slabs.now (eight.old ≡ None) }
+    ensures eight { IfSome eight.new (IsEight _ray.now lanes.now) }
+    ensures none { IfNone slabs.now (eight.new ≡ None) }
+    ensures left { IsNarrowed met eight.new result }
 {
     match slabs {
-        Some(slabs) => Some(eight_by(slabs, lanes)),
-        None => None,
+        Some(slabs) => told_by(slabs, lanes, met, eight),
+        None => met,
     }
+}
+
+// The same by slabs.
+#[inline(never)]
+fn told_by(slabs: &Slabs, lanes: &Lanes8, met: u8, eight: &mut Option<Eight>) -> u8
+    ensures { AreTold slabs.now lanes.now met eight.new result }
+{
+    let told = eight_by(slabs, lanes);
+    let left = met & told.met;
+    *eight = Some(told);
+    left
 }
 
 // What slabs tell of eight boxes.
@@ -82,17 +105,6 @@ fn eight_by(slabs: &Slabs, lanes: &Lanes8) -> Eight
         keys,
         base: slabs.base(),
         shift: slabs.shift(),
-    }
-}
-
-/// The bits of the boxes that are left: of those that the window overlaps, such as may be met.
-#[inline(always)]
-pub(crate) fn narrowed(met: u8, eight: &Option<Eight>) -> u8
-    ensures { IsNarrowed met eight.now result }
-{
-    match eight {
-        Some(eight) => met & eight.met,
-        None => met,
     }
 }
 

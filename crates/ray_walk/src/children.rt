@@ -15,7 +15,6 @@ ghost use Rattle.ray_tree.specs.Trees.{no_box};
 ghost use Rattle.ray_walk.specs.WideScene.{child, inner_at, leaf_at};
 
 use crate::bounding::{Eight, low_of};
-use crate::descent::Met;
 use crate::level::Level;
 use crate::set_bits::next_bit;
 use crate::trees::Trees;
@@ -26,20 +25,21 @@ use ray_prune::reach_box;
 use ray_wide::{WideLeaf, WideRef};
 
 // Adds the turns of the children of a wide node, of which the ray meets the boxes within the
-// limit. Of those whose bits aren't set nothing more is asked. The last leaf among the others is kept, since its places stand here, beside its box, and
-// are far away else.
+// limit. Of those whose bits aren't set nothing more is asked. The last leaf among the others is
+// kept, since its places stand here, beside its box, and are far away else.
 pub(crate) fn push_children(
     trees: &Trees<'_, '_>,
     w: u32,
-    met: &Met,
+    met: u8,
+    eight: &Option<Eight>,
     limit: Option<Ratio>,
     recent: &mut Option<WideLeaf>,
     turns: &mut Turns,
 ) -> Result<(), NoMemory>
     requires trees { AreTrees trees.now.tree.now trees.now.wide.now }
     requires node { w < length trees.now.wide.now.nodes }
-    requires out { LeavesOut limit trees.now w met.now.bits }
-    requires eight { IfSome met.now.eight
+    requires out { LeavesOut limit trees.now w met }
+    requires eight { IfSome eight.now
         (IsEight trees.now.ray.now (lanes_in trees.now.wide.now.nodes w)) }
     requires recent { IfSome recent.old (IsWideLeaf trees.now.tree.now.nodes) }
     ensures added { let children = children_in trees.now.wide.now.nodes w in
@@ -49,11 +49,11 @@ pub(crate) fn push_children(
 {
     let children = trees.wide.children(w);
     let lanes = trees.wide.lanes(w);
-    let mut k = next_bit(met.bits, 0);
+    let mut k = next_bit(met, 0);
     while k < 8 {
         let below = children[k as usize].get();
-        push_below(trees, lanes, k, limit, below, &met.eight, recent, turns)?;
-        k = next_bit(met.bits, k + 1);
+        push_below(trees, lanes, k, limit, below, eight, recent, turns)?;
+        k = next_bit(met, k + 1);
     }
     Ok(())
 }

@@ -1,12 +1,12 @@
 //! The way down through wide nodes of which a ray meets one child alone: such nodes are passed by.
-ghost use Rattle.std.specs.Prelude.{◌≡◌, ◌<◌, IfSome, None, length};
+ghost use Rattle.std.specs.Prelude.{◌≡◌, ◌<◌, IfNone, IfSome, None, length};
 ghost use Rattle.ray_slabs.specs.Bounds.{AreBounds};
 ghost use Rattle.ray_wide.specs.Wides.{children_in, lanes_in};
 ghost use Rattle.ray_window.specs.Windows.{window_of};
 ghost use Rattle.ray_walk.specs.Aims.{AreTrees, IsAlone, IsDown, LeavesOut};
 ghost use Rattle.ray_walk.specs.Bounding.{IsEight, whole};
 
-use crate::bounding::{Eight, eight_of, make_slabs, narrowed};
+use crate::bounding::{Eight, make_slabs, narrowed};
 use crate::set_bits::next_bit;
 use crate::trees::Trees;
 use ray_geom::Ratio;
@@ -19,82 +19,84 @@ use ray_wide::{Child, WideRef};
 pub(crate) struct Down {
     /// The number of the wide node.
     pub(crate) at: u32,
-    /// What is left of it.
-    pub(crate) met: Met,
+    /// A bit for each of its children that may be met.
+    pub(crate) met: u8,
 }
 
-/// What is left of a wide node.
+// What is left of a wide node.
 #[derive(Clone, Copy)]
-pub(crate) struct Met {
-    /// A bit for each of its children that may be met.
-    pub(crate) bits: u8,
-    /// What the slabs of the ray tell of these.
-    pub(crate) eight: Option<Eight>,
-    // The child whose bit is set, where no other is and it is a wide node.
-    pub(crate) alone: Option<u32>,
+struct Left {
+    // A bit for each of its children that may be met.
+    met: u8,
+    // The child that is met, where no other is and it is a wide node.
+    alone: Option<u32>,
 }
 
 /// The wide node to which one leads: as long as one child alone may be met within the limit, and
 /// that is a wide node, it is the child; the way ends, too, at a node whose middle child is a leaf.
 /// No turn is taken for those that are passed by, and no box is tested exactly. Slabs are made
-/// where they are worth it.
+/// where they are worth it, and what they tell of the last node is put into `eight`, so that nothing
+/// is copied on the way where there are none.
 pub(crate) fn descend(
     trees: &Trees<'_, '_>,
     window: &Window,
     w: u32,
     _limit: Option<Ratio>,
     slabs: &mut Option<Slabs>,
+    eight: &mut Option<Eight>,
 ) -> Down
     requires trees { AreTrees trees.now.tree.now trees.now.wide.now }
     requires window { window.now ≡ window_of trees.now.ray.now _limit }
     requires node { w < length trees.now.wide.now.nodes }
     requires slabs { IfSome slabs.old (AreBounds trees.now.ray.now whole None) }
-    ensures down { IsDown _limit trees.now w result.at result.met.bits }
-    ensures eight { IfSome result.met.eight
+    requires none { IfNone slabs.old (eight.old ≡ None) }
+    ensures down { IsDown _limit trees.now w result.at result.met }
+    ensures eight { IfSome eight.new
         (IsEight trees.now.ray.now (lanes_in trees.now.wide.now.nodes result.at)) }
     ensures slabs { IfSome slabs.new (AreBounds trees.now.ray.now whole None) }
 {
     let _det = trees.ray.det();
     let mut at = w;
-    let mut seen = met_in(trees, window, at, _limit, slabs);
+    let mut seen = left_of(trees, window, at, _limit, slabs, eight);
     while let Some(below) = seen.alone {
         at = below;
-        seen = met_in(trees, window, at, _limit, slabs);
+        seen = left_of(trees, window, at, _limit, slabs, eight);
     }
-    Down { at, met: seen }
+    Down { at, met: seen.met }
 }
 
 // What is left of a wide node, by the window and by slabs. It is put in place, so that the window
 // stays in registers on the way down.
 #[inline(always)]
-fn met_in(
+fn left_of(
     trees: &Trees<'_, '_>,
     window: &Window,
     w: u32,
     _limit: Option<Ratio>,
     slabs: &mut Option<Slabs>,
-) -> Met
+    eight: &mut Option<Eight>,
+) -> Left
     requires trees { AreTrees trees.now.tree.now trees.now.wide.now }
     requires window { window.now ≡ window_of trees.now.ray.now _limit }
     requires node { w < length trees.now.wide.now.nodes }
     requires slabs { IfSome slabs.old (AreBounds trees.now.ray.now whole None) }
-    ensures out { LeavesOut _limit trees.now w result.bits }
-    ensures eight { IfSome result.eight
+    requires none { IfNone slabs.old (eight.old ≡ None) }
+    ensures out { LeavesOut _limit trees.now w result.met }
+    ensures eight { IfSome eight.new
         (IsEight trees.now.ray.now (lanes_in trees.now.wide.now.nodes w)) }
     ensures alone { IfSome result.alone
-        (IsAlone (children_in trees.now.wide.now.nodes w) result.bits) }
+        (IsAlone (children_in trees.now.wide.now.nodes w) result.met) }
+    ensures none { IfNone slabs.new (eight.new ≡ None) }
     ensures slabs { IfSome slabs.new (AreBounds trees.now.ray.now whole None) }
 {
     let _det = trees.ray.det();
     let lanes = trees.wide.lanes(w);
     let met = overlap8(lanes, window);
     make_slabs(trees.ray, slabs, met);
-    let eight = eight_of(trees.ray, slabs, lanes);
-    let bits = narrowed(met, &eight);
-    Met {
-        bits,
-        eight,
-        alone: only_child(trees.wide.children(w), bits),
+    let met = narrowed(trees.ray, slabs, lanes, met, eight);
+    Left {
+        met,
+        alone: only_child(trees.wide.children(w), met),
     }
 }
 

@@ -91,8 +91,9 @@ fn open_world(
     view.known();
     let window = window_at(aim, limit);
     let trees = world(view, &aim.ray);
-    let Down { at, met } = descend(&trees, &window, w, limit, &mut aim.slabs);
-    push_children(&trees, at, &met, limit, &mut aim.recent, turns)
+    let mut eight = None;
+    let Down { at, met } = descend(&trees, &window, w, limit, &mut aim.slabs, &mut eight);
+    push_children(&trees, at, met, &eight, limit, &mut aim.recent, turns)
 }
 
 // ---- instances
@@ -239,8 +240,9 @@ fn open_object(
     view.known();
     let window = window_at(aim, limit);
     let trees = object(i, looked, &aim.ray);
-    let Down { at, met } = descend(&trees, &window, w, limit, &mut aim.slabs);
-    push_children(&trees, at, &met, limit, &mut aim.recent, turns)
+    let mut eight = None;
+    let Down { at, met } = descend(&trees, &window, w, limit, &mut aim.slabs, &mut eight);
+    push_children(&trees, at, met, &eight, limit, &mut aim.recent, turns)
 }
 
 // ---- all nodes

@@ -59,7 +59,7 @@ loop-k-init c =
       most = most;
       so_far = subst (λ n. AddsThrough c.args.limit t (flat_map (child t.level) (take n children)) c.args.turns.now c.args.turns.now) (omega arith)
           (Adds-skip t c.args.limit children (wides.Leaf (wide_leaf 0 0 0)) c.args.turns.now c.args.turns.now 0 first (omega (arith, full, most))
-          (λ j after below. out t w c.args.limit c.args.met.now.bits children c.requires.trees c.requires.node c.requires.out c.children-children.ensures
+          (λ j after below. out t w c.args.limit c.args.met children c.requires.trees c.requires.node c.requires.out c.children-children.ensures
           j (omega (arith, below, most)) (c.next_bit-k.ensures.clear j after (omega (arith, below))))
           (left-out t c.args.limit c.args.turns.now c.args.turns.now [] (All-nil (λ m. is_open c.args.limit (entry_through t m) ≡ false)) c.args.turns.now));
       recent = c.requires.recent;
@@ -88,7 +88,7 @@ loop-k-preserved c =
       most = most;
       so_far = subst (λ n. AddsThrough c.args.limit t (flat_map (child t.level) (take n children)) before now) gap
           (Adds-skip t c.args.limit children (wides.Leaf (wide_leaf 0 0 0)) before now (k + 1) (next - (k + 1)) (omega (arith, full, most, later))
-          (λ j after below. out t w c.args.limit c.args.met.now.bits children c.requires.trees c.requires.node c.requires.out c.children-children.ensures
+          (λ j after below. out t w c.args.limit c.args.met children c.requires.trees c.requires.node c.requires.out c.children-children.ensures
           j (omega (arith, below, gap, most)) (c.next_bit-k-in-loop-k.ensures.clear j after (omega (arith, below, gap)))) pushed);
       recent = c.push_below.ensures.recent;
     }

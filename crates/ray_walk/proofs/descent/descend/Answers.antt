@@ -10,7 +10,7 @@ loop-seen-preserved c =
     let t = c.args.trees.now in
     let limit = c.args._limit in
     let at = c.loop-seen.at in
-    let met = c.loop-seen.seen.bits in
+    let met = c.loop-seen.seen.met in
     let below = c.in-Some.below in
     let way = c.loop-seen.invariant.down in
     let one = subst (λ (o : Option ℕ). IfSome o (IsAlone (children_in t.wide.now.nodes at) met)) c.in-Some.is c.loop-seen.invariant.alone in
@@ -21,9 +21,10 @@ loop-seen-preserved c =
         node = after.1;
         levels = suc way.levels;
         leads = leads-more limit t way.levels c.args.w at below way.leads on;
-        out = c.met_in-seen-in-Some.ensures.out;
+        out = c.left_of-seen-in-Some.ensures.out;
       };
-      alone = c.met_in-seen-in-Some.ensures.alone;
-      eight = c.met_in-seen-in-Some.ensures.eight;
-      slabs = c.met_in-seen-in-Some.ensures.slabs;
+      alone = c.left_of-seen-in-Some.ensures.alone;
+      eight = c.left_of-seen-in-Some.ensures.eight;
+      none = c.left_of-seen-in-Some.ensures.none;
+      slabs = c.left_of-seen-in-Some.ensures.slabs;
     }

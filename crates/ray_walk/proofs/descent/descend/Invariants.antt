@@ -1,5 +1,5 @@
-use Rattle.std.proofs.Common.{◌-◌, length}
-use Rattle.std.specs.Prelude.{IfSome, None}
+use Rattle.std.proofs.Common.{◌≡◌, ◌-◌, length}
+use Rattle.std.specs.Prelude.{IfNone, IfSome, None}
 use Rattle.ray_slabs.specs.Bounds.{AreBounds}
 use Rattle.ray_wide.specs.Wides.{children_in, lanes_in}
 use Rattle.ray_walk.specs.Aims.{IsAlone, IsDown}
@@ -9,9 +9,10 @@ use Rattle.ray_walk.proofs.descent.descend.Given as goal
 -- the way so far
 abbrev pub invariant-loop-seen : goal.invariant-loop-seen
 invariant-loop-seen l = record {
-  down : IsDown l.fn._limit l.fn.trees l.fn.w l.at l.seen.bits;
-  alone : IfSome l.seen.alone (IsAlone (children_in l.fn.trees.wide.now.nodes l.at) l.seen.bits);
-  eight : IfSome l.seen.eight (IsEight l.fn.trees.ray.now (lanes_in l.fn.trees.wide.now.nodes l.at));
+  down : IsDown l.fn._limit l.fn.trees l.fn.w l.at l.seen.met;
+  alone : IfSome l.seen.alone (IsAlone (children_in l.fn.trees.wide.now.nodes l.at) l.seen.met);
+  eight : IfSome l.eight (IsEight l.fn.trees.ray.now (lanes_in l.fn.trees.wide.now.nodes l.at));
+  none : IfNone l.slabs (l.eight ≡ None);
   slabs : IfSome l.slabs (AreBounds l.fn.trees.ray.now whole None);
 }
 
