@@ -4,14 +4,14 @@
 #   make quick               the conformance cases, but for the family of the longest
 # With proofs:
 #   make                     proves everything that the program stands on, links it, leaves it as ./vkray
-#   make examples            runs each recording of examples/ with it, and compares text and status
+#   make examples            asks it each recording of examples/ by its word, and compares text and status
 #   make conformance         runs all conformance cases through the library's one call
 #   make tools               tests the tools of tools/ with the linked program
 #   make c                   proves the check for programs in C, and builds and runs examples/c
 #   make pages               makes anew what pages say of sources, which the side checks compare
 #   make test                the whole gate: every proof from nothing, the wrong bodies, the tests, the cases, the
 #                            programs, and then the side checks, which compare pages with sources
-# WORDS are what `make try` asks the program for: run, or check.
+# WORDS are what `make try` asks the program for: run, check, queues or groups.
 WORDS = run
 SOURCES = crates.txt HANDLES $(shell find crates -path '*/out' -prune -o \( -name '*.rt' -o -name '*.antt' \) -print)
 
@@ -42,8 +42,9 @@ quick:
 examples: vkray
 	@failed=0; for recording in examples/*.json; do \
 	  text="$${recording%.json}.txt"; \
+	  case "$$recording" in */two-queues.json) word=queues;; */hit-groups.json) word=groups;; *) word=run;; esac; \
 	  status=0; if grep -q '^refused ' "$$text"; then status=1; fi; \
-	  told="$$(./vkray run < "$$recording"; echo "status $$?")"; \
+	  told="$$(./vkray $$word < "$$recording"; echo "status $$?")"; \
 	  wanted="$$(cat "$$text"; echo "status $$status")"; \
 	  if [ "$$told" = "$$wanted" ]; then echo "$$recording: as expected"; \
 	  else printf '%s: wanted\n%s\nbut got\n%s\n' "$$recording" "$$wanted" "$$told"; failed=1; fi; \
