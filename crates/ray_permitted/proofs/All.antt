@@ -15,7 +15,7 @@ use Rattle.ray_permitted.specs.Laws.{RecordingComesToItsRun}
 use Rattle.ray_permitted.proofs.Fetching.{runnable_orderly}
 use Rattle.ray_permitted.proofs.Refused.{break_no_rule}
 use Rattle.ray_permitted.proofs.Runs.{comes_to_the_run}
-use Rattle.ray_permitted.proofs.Separating.{barriers_separate}
+use Rattle.ray_permitted.proofs.Separating.{barriers_carry, orders_separate}
 
 all_taken : (rec : List Command) → take (length rec) rec ≡ rec
 all_taken [] = refl
@@ -27,6 +27,6 @@ comes_to_its_run rec sourced clients es kept permitted =
     let job : Job = on_one_queue rec clients in
     let all : length rec ≤ refused_from (length rec) (rule_refusal (barriers rec) rec) =
     subst (λ (r : Option Refusal). length rec ≤ refused_from (length rec) r) (sym kept) (omega arith) in
-    let runnable = barriers_separate rec clients (length rec) (break_no_rule rec sourced clients (length rec) all) in
+    let runnable = orders_separate job (length rec) (barriers_carry rec) (break_no_rule rec sourced (barriers rec) clients (length rec) all) in
     comes_to_the_run job (length rec) es (runnable_orderly job (length rec) runnable) permitted
     ∙ ap (λ cs. run_from clients nothing_live (actions_from rec 0 at_first cs)) (all_taken rec)

@@ -6,7 +6,7 @@ use Rattle.ray_cmd.specs.declared.place.Place.{Place}
 use Rattle.ray_cmd.specs.declared.refusal.Refusal.{Refusal}
 use Rattle.ray_cmd.specs.Sources.{AreSourced}
 use Rattle.ray_rules.specs.Hazards.{status_at}
-use Rattle.ray_rules.specs.Order.{Ordering, barriers}
+use Rattle.ray_rules.specs.Order.{Ordering}
 use Rattle.ray_rules.specs.Refusals.{AreKept, or_after, refused}
 use Rattle.ray_rules.specs.Status.{Status, after, at_first}
 use Rattle.ray_rules.specs.Verdict.{hazard_table, rule_refusal, rule_refusal_from, rule_refusal_of, rule_table}
@@ -44,15 +44,15 @@ some_refused order rec =
     subst (λ m. refused_from m (rule_refusal_from order rec 0 at_first rec) ≤ m) count (within_count order rec 0 at_first rec)
 
 pub break_no_rule : (rec : List Command) → AreSourced rec → UnrefusedBreakNoRule rec
-break_no_rule rec sourced clients n upto =
-    let within : refused_from (length rec) (rule_refusal (barriers rec) rec) ≤ length rec = some_refused (barriers rec) rec in record {
+break_no_rule rec sourced order clients n upto =
+    let within : refused_from (length rec) (rule_refusal order rec) ≤ length rec = some_refused order rec in record {
       accepted = record {
         each = λ i c less is. record {
-          rules = unrefused (barriers rec) rec i c (omega (arith, less, upto)) is;
+          rules = unrefused order rec i c (omega (arith, less, upto)) is;
           sources = sourced.each i c is;
         };
       };
       hazards = λ i less.
           let c = item_at rec i (omega (arith, less, upto, within)) in
-          hazard_rows (barriers rec) rec i (status_at rec i) c.0 (all_kept (barriers rec) rec i c.0 (omega (arith, less, upto)) c.1);
+          hazard_rows order rec i (status_at rec i) c.0 (all_kept order rec i c.0 (omega (arith, less, upto)) c.1);
     }

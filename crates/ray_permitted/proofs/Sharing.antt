@@ -17,13 +17,12 @@ use Rattle.ray_rules.specs.declared.stage.Stage.{Stage}
 use Rattle.ray_rules.specs.declared.touch.Touch.{Touch}
 use Rattle.ray_rules.specs.Hazards.{accesses_at, bytes_in, greatest, greatest_with, is_one, is_uncovered, maker_of_buffer, maker_of_structure, read_unordered, shares, stage_at, status_at, touches_share, v25, v26, v27, wrote_uncovered}
 use Rattle.ray_rules.specs.Makers.{buffer_of}
-use Rattle.ray_rules.specs.Order.{barriers, is_covered, is_ordered_to}
+use Rattle.ray_rules.specs.Order.{Ordering, is_device}
 use Rattle.ray_rules.specs.Status.{Status}
 use Rattle.ray_action.specs.Areas.{is_in_range}
 use Rattle.ray_action.specs.Memory.{Location, ByteAt, BufferAt, StructureAt, ContentsAt}
 use Rattle.ray_action.specs.Touching.{is_reached, touched}
-use Rattle.ray_sync.proofs.Within.{covered-ordered}
-use Rattle.ray_permitted.specs.Separates.{some_share}
+use Rattle.ray_permitted.specs.Separates.{CarriesOrder, some_share}
 use Rattle.ray_permitted.proofs.Truth.{Passes, and_first, and_second, any_at, both, contradict, is_equal, none_at, not_both, not_false, some_passes}
 
 -- ---- what is shared
@@ -135,56 +134,56 @@ have_shared rec i j ones others e =
     record { one = y; other = some_passes (λ w. touches_share rec i j w y.item) ones y.passes }
 
 -- what a command wrote and another touches, where no write is uncovered to its touches
-covered_ordered : (rec : List Command) (i j : ℕ) (s to : Stage) (touches : List Touch) → stage_at rec i ≡ Some s → i < j
-    → greatest_with (wrote_uncovered (barriers rec) rec j to) touches j ≡ None → some_share rec i j (accesses_at rec i).writes touches ≡ true
-    → is_ordered_to rec i s j to ≡ true
-covered_ordered rec i j s to touches stage less none share =
+covered_ordered : (order : Ordering) (rec : List Command) → CarriesOrder rec order → (i j : ℕ) (s to : Stage) (touches : List Touch) → is_device to ≡ true → stage_at rec i ≡ Some s → i < j
+    → greatest_with (wrote_uncovered order rec j to) touches j ≡ None → some_share rec i j (accesses_at rec i).writes touches ≡ true
+    → order.ordered i s j to ≡ true
+covered_ordered order rec carries i j s to touches device stage less none share =
     let h = have_shared rec i j (accesses_at rec i).writes touches share in
     let t : Touch = h.one.item in
     let w : Touch = h.other.item in
-    let odd : wrote_uncovered (barriers rec) rec j to t i ≡ false =
-    no_odds (wrote_uncovered (barriers rec) rec j to) touches j none i less h.one.place t h.one.there in
-    let each : list_any (is_uncovered (barriers rec) rec i s j to t) (accesses_at rec i).writes ≡ false =
-    sym (ap (λ o. option_map_or (λ (st : Stage). list_any (is_uncovered (barriers rec) rec i st j to t) (accesses_at rec i).writes) o false) stage) ∙ odd in
-    let this : is_uncovered (barriers rec) rec i s j to t w ≡ false =
-    none_at (is_uncovered (barriers rec) rec i s j to t) (accesses_at rec i).writes h.other.place w h.other.there each in
+    let odd : wrote_uncovered order rec j to t i ≡ false =
+    no_odds (wrote_uncovered order rec j to) touches j none i less h.one.place t h.one.there in
+    let each : list_any (is_uncovered order rec i s j to t) (accesses_at rec i).writes ≡ false =
+    sym (ap (λ o. option_map_or (λ (st : Stage). list_any (is_uncovered order rec i st j to t) (accesses_at rec i).writes) o false) stage) ∙ odd in
+    let this : is_uncovered order rec i s j to t w ≡ false =
+    none_at (is_uncovered order rec i s j to t) (accesses_at rec i).writes h.other.place w h.other.there each in
     let thing : Option ℕ = buffer_of (status_at rec i) w.reach in
-    let covered : is_covered rec i s w.access thing j to t.access ≡ true =
-    not_false (is_covered rec i s w.access thing j to t.access)
-    (not_both (touches_share rec i j w t) (not (is_covered rec i s w.access thing j to t.access)) h.other.passes this) in
-    covered-ordered rec i s w.access thing j to t.access covered
+    let covered : order.covered i s w.access thing j to t.access ≡ true =
+    not_false (order.covered i s w.access thing j to t.access)
+    (not_both (touches_share rec i j w t) (not (order.covered i s w.access thing j to t.access)) h.other.passes this) in
+    carries.covered i s w.access thing j to t.access device covered
 
 -- V25: what a command reads
-pub read_after_write : (rec : List Command) (i j : ℕ) (s to : Stage) → stage_at rec i ≡ Some s → stage_at rec j ≡ Some to → i < j
-    → v25 (barriers rec) rec j ≡ None → some_share rec i j (accesses_at rec i).writes (accesses_at rec j).reads ≡ true → is_ordered_to rec i s j to ≡ true
+pub read_after_write : (order : Ordering) (rec : List Command) → CarriesOrder rec order → (i j : ℕ) (s to : Stage) → is_device to ≡ true → stage_at rec i ≡ Some s → stage_at rec j ≡ Some to → i < j
+    → v25 order rec j ≡ None → some_share rec i j (accesses_at rec i).writes (accesses_at rec j).reads ≡ true → order.ordered i s j to ≡ true
 unfolding v25
-read_after_write rec i j s to stage at less kept share =
-    covered_ordered rec i j s to (accesses_at rec j).reads stage less
-    (sym (ap (λ o. option_map_or (λ (x : Stage). greatest_with (wrote_uncovered (barriers rec) rec j x) (accesses_at rec j).reads j) o None) at) ∙ kept) share
+read_after_write order rec carries i j s to device stage at less kept share =
+    covered_ordered order rec carries i j s to (accesses_at rec j).reads device stage less
+    (sym (ap (λ o. option_map_or (λ (x : Stage). greatest_with (wrote_uncovered order rec j x) (accesses_at rec j).reads j) o None) at) ∙ kept) share
 
 -- V26: what it writes
-pub write_after_write : (rec : List Command) (i j : ℕ) (s to : Stage) → stage_at rec i ≡ Some s → stage_at rec j ≡ Some to → i < j
-    → v26 (barriers rec) rec j ≡ None → some_share rec i j (accesses_at rec i).writes (accesses_at rec j).writes ≡ true → is_ordered_to rec i s j to ≡ true
+pub write_after_write : (order : Ordering) (rec : List Command) → CarriesOrder rec order → (i j : ℕ) (s to : Stage) → is_device to ≡ true → stage_at rec i ≡ Some s → stage_at rec j ≡ Some to → i < j
+    → v26 order rec j ≡ None → some_share rec i j (accesses_at rec i).writes (accesses_at rec j).writes ≡ true → order.ordered i s j to ≡ true
 unfolding v26
-write_after_write rec i j s to stage at less kept share =
-    covered_ordered rec i j s to (accesses_at rec j).writes stage less
-    (sym (ap (λ o. option_map_or (λ (x : Stage). greatest_with (wrote_uncovered (barriers rec) rec j x) (accesses_at rec j).writes j) o None) at) ∙ kept) share
+write_after_write order rec carries i j s to device stage at less kept share =
+    covered_ordered order rec carries i j s to (accesses_at rec j).writes device stage less
+    (sym (ap (λ o. option_map_or (λ (x : Stage). greatest_with (wrote_uncovered order rec j x) (accesses_at rec j).writes j) o None) at) ∙ kept) share
 
 -- V27: what it writes, and another read
-pub write_after_read : (rec : List Command) (i j : ℕ) (s to : Stage) → stage_at rec i ≡ Some s → stage_at rec j ≡ Some to → i < j
-    → v27 (barriers rec) rec j ≡ None → some_share rec i j (accesses_at rec i).reads (accesses_at rec j).writes ≡ true → is_ordered_to rec i s j to ≡ true
+pub write_after_read : (order : Ordering) (rec : List Command) (i j : ℕ) (s to : Stage) → stage_at rec i ≡ Some s → stage_at rec j ≡ Some to → i < j
+    → v27 order rec j ≡ None → some_share rec i j (accesses_at rec i).reads (accesses_at rec j).writes ≡ true → order.ordered i s j to ≡ true
 unfolding v27
-write_after_read rec i j s to stage at less kept share =
-    let none : greatest_with (read_unordered (barriers rec) rec j to) (accesses_at rec j).writes j ≡ None =
-    sym (ap (λ o. option_map_or (λ (x : Stage). greatest_with (read_unordered (barriers rec) rec j x) (accesses_at rec j).writes j) o None) at) ∙ kept in
+write_after_read order rec i j s to stage at less kept share =
+    let none : greatest_with (read_unordered order rec j to) (accesses_at rec j).writes j ≡ None =
+    sym (ap (λ o. option_map_or (λ (x : Stage). greatest_with (read_unordered order rec j x) (accesses_at rec j).writes j) o None) at) ∙ kept in
     let h = have_shared rec i j (accesses_at rec i).reads (accesses_at rec j).writes share in
     let t : Touch = h.one.item in
-    let odd : read_unordered (barriers rec) rec j to t i ≡ false =
-    no_odds (read_unordered (barriers rec) rec j to) (accesses_at rec j).writes j none i less h.one.place t h.one.there in
-    let this : (not (is_ordered_to rec i s j to) && list_any (λ x. touches_share rec i j x t) (accesses_at rec i).reads) ≡ false =
-    sym (ap (λ o. option_map_or (λ (st : Stage). not (is_ordered_to rec i st j to) && list_any (λ x. touches_share rec i j x t) (accesses_at rec i).reads) o false) stage) ∙ odd in
-    not_false (is_ordered_to rec i s j to)
-    (not_first (not (is_ordered_to rec i s j to)) (list_any (λ x. touches_share rec i j x t) (accesses_at rec i).reads) h.one.passes this)
+    let odd : read_unordered order rec j to t i ≡ false =
+    no_odds (read_unordered order rec j to) (accesses_at rec j).writes j none i less h.one.place t h.one.there in
+    let this : (not (order.ordered i s j to) && list_any (λ x. touches_share rec i j x t) (accesses_at rec i).reads) ≡ false =
+    sym (ap (λ o. option_map_or (λ (st : Stage). not (order.ordered i st j to) && list_any (λ x. touches_share rec i j x t) (accesses_at rec i).reads) o false) stage) ∙ odd in
+    not_false (order.ordered i s j to)
+    (not_first (not (order.ordered i s j to)) (list_any (λ x. touches_share rec i j x t) (accesses_at rec i).reads) h.one.passes this)
   where
     not_first : (a b : Bool) → b ≡ true → (a && b) ≡ false → a ≡ false
     not_first true b is e = contradict b is e

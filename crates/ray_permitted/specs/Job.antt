@@ -10,10 +10,13 @@ pub record Job : Type 0 where
   pub clients : Clients
   pub order : Ordering
 
--- the commands of a recording on one queue, in the order that its barriers and waits give, where these
--- clients decide
+-- the commands of a recording in an order, where these clients decide
+abbrev pub in_order : List Command → Clients → Ordering → Job
+in_order rec clients order = record { commands = rec; clients = clients; order = order }
+
+-- those on one queue, in the order that its barriers and waits give
 abbrev pub on_one_queue : List Command → Clients → Job
-on_one_queue rec clients = record { commands = rec; clients = clients; order = barriers rec }
+on_one_queue rec clients = in_order rec clients (barriers rec)
 
 -- the job of a recording alone: the scripts of its traces decide
 abbrev pub recorded : List Command → Job

@@ -9,7 +9,7 @@ use Rattle.ray_schedule.specs.Schedules.{StandsAt}
 use Rattle.ray_schedule.specs.Waves.{RisesAlong}
 use Rattle.ray_schedule.specs.Laws.{MayRun, EverySchedule, ArePermitted, WavesRun, after, before_unit, is_at_fault, outcome_of}
 use Rattle.ray_cmd.specs.declared.command.Command.{Command}
-use Rattle.ray_rules.specs.Order.{IsLongest, barriers, before}
+use Rattle.ray_rules.specs.Order.{IsLongest, Ordering, barriers}
 use Rattle.ray_rules.specs.Verdict.{rule_refusal}
 use Rattle.ray_action.specs.Memory.{Memory}
 use Rattle.ray_action.specs.Areas.{AgreeOn}
@@ -21,9 +21,9 @@ use Rattle.ray_action.specs.Running.{action_at, memory_before, run_of}
 use Rattle.ray_ready.specs.Accepted.{IsAccepted, refused_from}
 use Rattle.ray_ready.specs.Laws.{AreSources, GaveBefore, first_actions}
 use Rattle.ray_permitted.specs.Along.{run_along, run_below, run_kept}
-use Rattle.ray_permitted.specs.Job.{Job, comes_before, on_one_queue}
+use Rattle.ray_permitted.specs.Job.{Job, comes_before, in_order, on_one_queue}
 use Rattle.ray_permitted.specs.Rules.{BreakNoRule, IsRunnable}
-use Rattle.ray_permitted.specs.Separates.{GoesForward, NumbersSeparate}
+use Rattle.ray_permitted.specs.Separates.{CarriesOrder, GoesForward, NumbersSeparate}
 use Rattle.ray_permitted.specs.Work.{work_of}
 
 -- ---- from the rules to the order
@@ -39,15 +39,19 @@ pub record IsOrderly (job : Job) (n : ℕ) : Type 0 where
 abbrev pub RunnableAreOrderly : Type 0
 RunnableAreOrderly = (job : Job) (n : ℕ) → IsRunnable job n → IsOrderly job n
 
--- the order that barriers and waits give separates commands that break no rule, whoever decides
-abbrev pub BarriersSeparate : Type 0
-BarriersSeparate =
-    (rec : List Command) (clients : Clients) (n : ℕ) → BreakNoRule (on_one_queue rec clients) n
-    → IsRunnable (on_one_queue rec clients) n
+-- an order in which what is covered is ordered, and what stands before a wait, separates commands that
+-- break no rule
+abbrev pub OrdersSeparate : Type 0
+OrdersSeparate =
+    (job : Job) (n : ℕ) → CarriesOrder job.commands job.order → BreakNoRule job n → IsRunnable job n
 
--- it goes forward among the commands of any recording
-abbrev pub BarriersGoForward : Type 0
-BarriersGoForward = (rec : List Command) (n : ℕ) → GoesForward n (before (barriers rec) rec)
+-- the order that barriers and waits give is such an order
+abbrev pub BarriersCarryOrder : Type 0
+BarriersCarryOrder = (rec : List Command) → CarriesOrder rec (barriers rec)
+
+-- every order goes forward among the commands of a job
+abbrev pub OrdersGoForward : Type 0
+OrdersGoForward = (job : Job) (n : ℕ) → GoesForward n (comes_before job)
 
 -- ---- every permitted schedule
 
@@ -210,11 +214,12 @@ OutcomesTellTheRun =
 
 -- ---- what is refused, and what isn't
 
--- the first commands of a recording on one queue break no rule where none of them is refused, whoever decides
+-- the first commands of a recording break no rule where none of them is refused, in whichever order, whoever
+-- decides
 abbrev pub UnrefusedBreakNoRule : List Command → Type 0
 UnrefusedBreakNoRule rec =
-    (clients : Clients) (n : ℕ) → n ≤ refused_from (length rec) (rule_refusal (barriers rec) rec)
-    → BreakNoRule (on_one_queue rec clients) n
+    (order : Ordering) (clients : Clients) (n : ℕ) → n ≤ refused_from (length rec) (rule_refusal order rec)
+    → BreakNoRule (in_order rec clients order) n
 
 -- and every permitted schedule of a whole recording that no rule on the recording alone refuses comes to its
 -- run

@@ -1,13 +1,14 @@
 -- What a run needs of an order of commands. The order that barriers and waits give on one queue is one
 -- that will do. (Vulkan, "Synchronization and Cache Control": execution dependencies; own: the form.)
-use Rattle.std.specs.Prelude.{ℕ, ◌≡◌, ◌<◌, ◌||◌, List, Bool, true}
+use Rattle.std.specs.Prelude.{ℕ, ◌≡◌, ◌<◌, ◌||◌, List, Option, Bool, true}
 use Rattle.std.specs.List.{list_any}
 use Rattle.ray_cmd.specs.declared.command.Command.{Command}
+use Rattle.ray_rules.specs.declared.access_type.AccessType.{AccessType}
 use Rattle.ray_rules.specs.declared.kind.Kind.TheVariants.{Device, HostCommand}
 use Rattle.ray_rules.specs.declared.stage.Stage.{Stage}
 use Rattle.ray_rules.specs.declared.touch.Touch.{Touch}
 use Rattle.ray_rules.specs.Hazards.{accesses_at, touches_share}
-use Rattle.ray_rules.specs.Order.{kind_at, last_wait}
+use Rattle.ray_rules.specs.Order.{Ordering, is_device, kind_at, last_wait}
 
 -- whether some of the touches by command number i and some by command number j share something
 abbrev pub some_share : List Command → ℕ → ℕ → List Touch → List Touch → Bool
@@ -20,6 +21,17 @@ accesses_conflict rec i j =
     some_share rec i j (accesses_at rec i).writes (accesses_at rec j).reads
     || (some_share rec i j (accesses_at rec i).writes (accesses_at rec j).writes
     || some_share rec i j (accesses_at rec i).reads (accesses_at rec j).writes)
+
+-- what makes the rules on hazards tell of an order, at the stages of the device: what is covered to a
+-- command is ordered before it, and so is all that stands before a `wait` before the command
+pub record CarriesOrder (rec : List Command) (order : Ordering) : Type 0 where
+  pub covered :
+      (i : ℕ) (stage : Stage) (access : AccessType) (thing : Option ℕ) (j : ℕ) (to : Stage) (x : AccessType)
+      → is_device to ≡ true → order.covered i stage access thing j to x ≡ true
+      → order.ordered i stage j to ≡ true
+  pub waits :
+      (i j : ℕ) (stage to : Stage) → is_device to ≡ true → i < last_wait rec j
+      → order.ordered i stage j to ≡ true
 
 -- an order of the first n commands puts none before itself or an earlier one
 abbrev pub GoesForward : ℕ → (ℕ → ℕ → Bool) → Type 0

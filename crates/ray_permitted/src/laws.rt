@@ -1,5 +1,5 @@
-ghost use Rattle.ray_permitted.specs.Laws.{RunnableAreOrderly, BarriersSeparate};
-ghost use Rattle.ray_permitted.specs.Laws.{BarriersGoForward, SchedulesComeToTheRun};
+ghost use Rattle.ray_permitted.specs.Laws.{RunnableAreOrderly, OrdersSeparate, BarriersCarryOrder};
+ghost use Rattle.ray_permitted.specs.Laws.{OrdersGoForward, SchedulesComeToTheRun};
 ghost use Rattle.ray_permitted.specs.Laws.{UnrefusedBreakNoRule, RecordingComesToItsRun};
 ghost use Rattle.ray_permitted.specs.Laws.{ActionsInTurnAreReady, ActionsInTurnReadTheSame};
 ghost use Rattle.ray_permitted.specs.Laws.{SchedulesLeaveTheSame, RecordingOrderIsTheRun};
@@ -12,11 +12,13 @@ ghost use Rattle.ray_permitted.specs.Laws.{AtEachFetch, AtEachStore};
 use ray_cmd::Recording;
 
 /// A law: of accepted commands and an order that separates them, outcomes are told by what is read,
-/// conflicting actions are ordered, and the order goes forward. The order that barriers and waits
-/// give separates commands that break no rule. It does nothing. Own.
+/// conflicting actions are ordered, and the order goes forward. An order in which what is covered is
+/// ordered, and what stands before a `wait`, separates commands that break no rule; that of barriers
+/// and waits is such an order. It does nothing. Own.
 pub fn rules_give_order()
     ensures ordered { RunnableAreOrderly }
-    ensures barriers { BarriersSeparate }
+    ensures separate { OrdersSeparate }
+    ensures barriers { BarriersCarryOrder }
 {}
 
 /// A law: every schedule of accepted commands that an order which separates them permits comes to
@@ -28,12 +30,12 @@ pub fn schedules_come_to_the_run()
     ensures order { RecordingOrderIsTheRun }
 {}
 
-/// A law: in an order that goes forward, as that of barriers and waits does, recording order is
+/// A law: in an order that goes forward, as every order of commands does, recording order is
 /// permitted, and so are waves whose numbers rise along the order, as those of the longest chains
 /// do, which separate the commands besides. It does nothing. Own.
 pub fn some_are_permitted()
     ensures permitted { SomeArePermitted }
-    ensures barriers { BarriersGoForward }
+    ensures forward { OrdersGoForward }
     ensures chains { LongestChainsRise }
     ensures separate { LongestChainsSeparate }
 {}
@@ -67,7 +69,8 @@ pub fn actions_in_turn_are_ready()
 {}
 
 /// A law: the commands of a recording before the one that is refused by the rules on the recording
-/// alone break no rule, and so do all where none is refused. It does nothing. Own.
+/// alone, in some order, break no rule in that order, and so do all where none is refused. It does
+/// nothing. Own.
 pub fn unrefused_break_no_rule(rec: &Recording)
     ensures { UnrefusedBreakNoRule rec.now }
 {
