@@ -9,7 +9,7 @@ use Rattle.ray_permitted.specs.Job.{on_one_queue}
 use Rattle.ray_permitted.specs.Rules.{BreakNoRule}
 use Rattle.ray_permitted.specs.Separates.{NumbersSeparate}
 use Rattle.ray_permitted.proofs.Fetching.{chains_separate}
-use Rattle.ray_permitted.proofs.Separating.{barriers_separate}
+use Rattle.ray_permitted.proofs.Separating.{barriers_carry, orders_separate}
 use Rattle.ray_exec.specs.Waves.{AreLongest, wave_at}
 
 in_front : (xs : List ℕ) (x i : ℕ) → i < length xs → get_or (xs ++ x ∷ []) i 0 ≡ get_or xs i 0
@@ -44,4 +44,4 @@ one_more rec n w old new longest are more =
 pub longest_separate : (rec : List Command) (clients : Clients) (n : ℕ) (waves : List ℕ) → BreakNoRule (on_one_queue rec clients) n → AreLongest rec n waves
     → NumbersSeparate rec n (wave_at waves)
 longest_separate rec clients n waves rules are =
-    chains_separate (on_one_queue rec clients) n (wave_at waves) (barriers_separate rec clients n rules) are.each
+    chains_separate (on_one_queue rec clients) n (wave_at waves) (orders_separate (on_one_queue rec clients) n (barriers_carry rec) rules) are.each
