@@ -9,11 +9,10 @@ use Rattle.ray_cmd.specs.declared.refusal.Refusal.{Refusal}
 use Rattle.ray_rules.specs.Hazards.{after_if, status_at}
 use Rattle.ray_rules.specs.Phases.{v28_at_end}
 use Rattle.ray_rules.specs.Order.{barriers}
-use Rattle.ray_rules.specs.Refusals.{refused, or_after, static_refusal_from, static_refusal_of}
+use Rattle.ray_rules.specs.Refusals.{refusal_at_end, refused, or_after, static_refusal_from, static_refusal_of}
 use Rattle.ray_rules.specs.Status.{Status, after, at_first}
-use Rattle.ray_rules.specs.Verdict.{rule_refusal_from, rule_refusal_of}
 use Rattle.ray_check.specs.Joining.{is_early, looked_at}
-use Rattle.ray_check.proofs.Tables.{command-joined}
+use Rattle.ray_check.proofs.Tables.{IsJoined, command-joined}
 
 and-false : (b : Bool) → (b && false) ≡ false
 and-false true = refl
@@ -86,20 +85,33 @@ static-among rec [] i z r e =
 static-among rec (c ∷ cs) i z r e =
     let more : (i + 1) + length cs ≡ i + length (c ∷ cs) = omega arith in
     among-after i (i + length (c ∷ cs)) (static_refusal_of rec i z c) (static_refusal_from rec (i + 1) (after i c z) cs)
-    (omega arith) (command-joined rec i z c).static_at
+    (omega arith) (command-joined (barriers rec) rec i z c).static_at
     (λ q d. subst (λ n. IsAmong (i + 1) n q) more (static-among rec cs (i + 1) (after i c z) q d)) r e
 
+-- how refusals go from command to command: by the rules that need an order, `met`, of which `first` is that
+-- of the first commands; and by all rules, `all`, of which `from` is that of the commands that are left
+pub record AreRefusals (rec : List Command) (met first : ℕ → Option Refusal) (all : ℕ → Status → Command → Option Refusal) (from : ℕ → Status → List Command → Option Refusal) : Type 0 where
+  pub joined : (i : ℕ) (z : Status) (c : Command) → IsJoined i (static_refusal_of rec i z c) (met i) (all i z c)
+  pub first_none : first 0 ≡ None
+  pub first_next : (n : ℕ) → first (suc n) ≡ or_after (first n) (met n)
+  pub from_end : (i : ℕ) (z : Status) → from i z [] ≡ refusal_at_end i z
+  pub from_next :
+      (i : ℕ) (z : Status) (c : Command) (cs : List Command)
+      → from i z (c ∷ cs) ≡ or_after (all i z c) (from (i + 1) (after i c z) cs)
+
 pub rule-among :
-    (rec : List Command) (cs : List Command) (i : ℕ) (z : Status) (r : Refusal) → rule_refusal_from (barriers rec) rec i z cs ≡ Some r
-    → IsAmong i (i + length cs) r
-rule-among rec [] i z r e =
-    let same = end-at i (v28_at_end z) r e in
+    (rec : List Command) (met first : ℕ → Option Refusal) (all : ℕ → Status → Command → Option Refusal)
+    (from : ℕ → Status → List Command → Option Refusal) → AreRefusals rec met first all from
+    → (cs : List Command) (i : ℕ) (z : Status) (r : Refusal) → from i z cs ≡ Some r → IsAmong i (i + length cs) r
+rule-among rec met first all from are [] i z r e =
+    let same = end-at i (v28_at_end z) r (sym (are.from_end i z) ∙ e) in
     record { least = omega arith; most = omega arith }
-rule-among rec (c ∷ cs) i z r e =
+rule-among rec met first all from are (c ∷ cs) i z r e =
     let more : (i + 1) + length cs ≡ i + length (c ∷ cs) = omega arith in
-    among-after i (i + length (c ∷ cs)) (rule_refusal_of (barriers rec) rec i z c) (rule_refusal_from (barriers rec) rec (i + 1) (after i c z) cs)
-    (omega arith) (command-joined rec i z c).rule_at
-    (λ q d. subst (λ n. IsAmong (i + 1) n q) more (rule-among rec cs (i + 1) (after i c z) q d)) r e
+    among-after i (i + length (c ∷ cs)) (all i z c) (from (i + 1) (after i c z) cs)
+    (omega arith) (are.joined i z c).rule_at
+    (λ q d. subst (λ n. IsAmong (i + 1) n q) more (rule-among rec met first all from are cs (i + 1) (after i c z) q d)) r
+    (sym (are.from_next i z c cs) ∙ e)
 
 -- where the commands are looked at that keep the first 24 rules
 pub looked-late :

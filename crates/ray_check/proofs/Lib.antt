@@ -1,4 +1,4 @@
-mod Tables
-mod Going
-mod Whole
+pub mod Tables
+pub mod Going
+pub mod Whole
 mod Reaching

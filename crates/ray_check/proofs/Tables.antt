@@ -13,7 +13,7 @@ use Rattle.ray_rules.specs.FlagRules.{v22, v23, v24}
 use Rattle.ray_rules.specs.Hazards.{v25, v26, v27, v32}
 use Rattle.ray_rules.specs.Names.{v1}
 use Rattle.ray_rules.specs.Phases.{v28, v29}
-use Rattle.ray_rules.specs.Order.{barriers}
+use Rattle.ray_rules.specs.Order.{Ordering}
 use Rattle.ray_rules.specs.Refusals.{Row, AreKept, refused, least_broken, or_after, static_refusal_of}
 use Rattle.ray_rules.specs.Shapes.{v7, v8, v9, v10}
 use Rattle.ray_rules.specs.Sources.{v13, v14, v15, v17, v18, v20, v21}
@@ -21,7 +21,11 @@ use Rattle.ray_rules.specs.Spans.{v4, v5, v12, v31}
 use Rattle.ray_rules.specs.Status.{Status}
 use Rattle.ray_rules.specs.Structures.{v6, v11, v19}
 use Rattle.ray_rules.specs.Verdict.{hazard_of, rule_refusal_of}
+use Rattle.ray_submits.specs.Submits.{QueueCommands}
+use Rattle.ray_queues.specs.QueueOrder.{queue_order}
+use Rattle.ray_queues.specs.Refusals.{queue_refusal_of}
 use Rattle.ray_check.specs.Joining.{is_before, is_early, first_of_two}
+use Rattle.ray_check.specs.Queues.{queue_rule_refusal_of, semaphore_rows}
 
 -- the first row of a table that is broken: its number and the place
 abbrev pub first_broken : List Row → Option (ℕ × Place)
@@ -88,7 +92,7 @@ goes i k l p q h =
 -- the first broken rows of four tables whose numbers rise from one to the next; the second and the last
 -- are those on hazards
 pub join-rows :
-    (i : ℕ) (a h s t : Option (ℕ × Place)) → IsBetween 0 25 a → IsBetween 24 28 h → IsBetween 27 32 s → IsBetween 31 33 t
+    (i : ℕ) (a h s t : Option (ℕ × Place)) → IsBetween 0 25 a → IsBetween 24 28 h → IsBetween 27 32 s → IsBetween 31 35 t
     → or_after (by_row i a) (or_after (by_row i h) (or_after (by_row i s) (by_row i t)))
     ≡ first_of_two (or_after (by_row i a) (by_row i s)) (or_after (by_row i h) (by_row i t))
 join-rows i (Some (k, p)) (Some (l, q)) s t a h _ _ = sym (stays i k l p q (omega (arith, a, h)))
@@ -103,13 +107,13 @@ join-rows i None None None None _ _ _ _ = refl
 
 pub join-tables :
     (i : ℕ) (a h s t : List Row) → are_between 0 25 a ≡ true → are_between 24 28 h ≡ true
-    → are_between 27 32 s ≡ true → are_between 31 33 t ≡ true
+    → are_between 27 32 s ≡ true → are_between 31 35 t ≡ true
     → least_broken i (a ++ (h ++ (s ++ t))) ≡ first_of_two (least_broken i (a ++ s)) (least_broken i (h ++ t))
 join-tables i a h s t la lh ls lt =
     split i a (h ++ (s ++ t))
     ∙ ((λ j. or_after (by-first i a j) ((split i h (s ++ t) ∙ (λ k. or_after (by-first i h k) (of-rows i s t k))) j))
     ∙ (join-rows i (first_broken a) (first_broken h) (first_broken s) (first_broken t) (first-between 0 25 a la)
-    (first-between 24 28 h lh) (first-between 27 32 s ls) (first-between 31 33 t lt)
+    (first-between 24 28 h lh) (first-between 27 32 s ls) (first-between 31 35 t lt)
     ∙ (λ j. first_of_two (sym (of-rows i a s) j) (sym (of-rows i h t) j))))
 
 -- a refusal is of this command, and by a rule of the first 24 it is there before any hazard
@@ -136,7 +140,7 @@ early-number : (k : ℕ) → k < 25 → nat_lt k 25 ≡ false → ⊥
 early-number k h e = let above = ltb-false k 25 e in omega arith
 
 early-rows :
-    (i : ℕ) (a h s t : Option (ℕ × Place)) → IsBetween 0 25 a → IsBetween 24 28 h → IsBetween 27 32 s → IsBetween 31 33 t
+    (i : ℕ) (a h s t : Option (ℕ × Place)) → IsBetween 0 25 a → IsBetween 24 28 h → IsBetween 27 32 s → IsBetween 31 35 t
     → (r : Refusal) → or_after (by_row i a) (by_row i s) ≡ Some r → is_early r.rule ≡ true
     → first_of_two (or_after (by_row i a) (by_row i s)) (or_after (by_row i h) (by_row i t))
     ≡ or_after (by_row i a) (by_row i s)
@@ -149,7 +153,7 @@ early-rows i None h None t _ _ _ _ r e f = absurd (none-some r e)
 
 pub joined :
     (i : ℕ) (a h s t : List Row) → are_between 0 25 a ≡ true → are_between 24 28 h ≡ true
-    → are_between 27 32 s ≡ true → are_between 31 33 t ≡ true
+    → are_between 27 32 s ≡ true → are_between 31 35 t ≡ true
     → IsJoined i (least_broken i (a ++ s)) (least_broken i (h ++ t)) (least_broken i (a ++ (h ++ (s ++ t))))
 joined i a h s t la lh ls lt = record {
   joined = join-tables i a h s t la lh ls lt;
@@ -159,7 +163,7 @@ joined i a h s t la lh ls lt = record {
   early = λ r e f.
       (λ j. first_of_two (of-rows i a s j) (of-rows i h t j))
       ∙ (early-rows i (first_broken a) (first_broken h) (first_broken s) (first_broken t) (first-between 0 25 a la)
-      (first-between 24 28 h lh) (first-between 27 32 s ls) (first-between 31 33 t lt) r (sym (of-rows i a s) ∙ e) f
+      (first-between 24 28 h lh) (first-between 27 32 s ls) (first-between 31 35 t lt) r (sym (of-rows i a s) ∙ e) f
       ∙ sym (of-rows i a s));
 }
 
@@ -194,18 +198,29 @@ early_table rec z c =
 abbrev pub late_table : Status → Command → List Row
 late_table z c = (28, v28 z c) ∷ (29, v29 z c) ∷ (30, v30 z c) ∷ (31, v31 c) ∷ []
 
--- the rules 25 to 27, and 32
-abbrev pub met_table : List Command → ℕ → List Row
-met_table rec i = (25, v25 (barriers rec) rec i) ∷ (26, v26 (barriers rec) rec i) ∷ (27, v27 (barriers rec) rec i) ∷ []
+-- the rules 25 to 27, and 32 and those that come after it
+abbrev pub met_table : Ordering → List Command → ℕ → List Row
+met_table order rec i = (25, v25 order rec i) ∷ (26, v26 order rec i) ∷ (27, v27 order rec i) ∷ []
 
-abbrev pub read_table : List Command → ℕ → List Row
-read_table rec i = (32, v32 (barriers rec) rec i) ∷ []
+abbrev pub read_table : Ordering → List Command → ℕ → List Row → List Row
+read_table order rec i more = (32, v32 order rec i) ∷ more
 
+-- a command of a recording, in some order
 pub command-joined :
-    (rec : List Command) (i : ℕ) (z : Status) (c : Command)
-    → IsJoined i (static_refusal_of rec i z c) (hazard_of (barriers rec) rec i) (rule_refusal_of (barriers rec) rec i z c)
+    (order : Ordering) (rec : List Command) (i : ℕ) (z : Status) (c : Command)
+    → IsJoined i (static_refusal_of rec i z c) (hazard_of order rec i) (rule_refusal_of order rec i z c)
 unfolding static_refusal_of hazard_of rule_refusal_of
-command-joined rec i z c = joined i (early_table rec z c) (met_table rec i) (late_table z c) (read_table rec i) refl refl refl refl
+command-joined order rec i z c =
+    joined i (early_table rec z c) (met_table order rec i) (late_table z c) (read_table order rec i []) refl refl refl refl
+
+-- and one that is submitted to several queues
+pub queue-command-joined :
+    (q : QueueCommands) (i : ℕ) (z : Status) (c : Command)
+    → IsJoined i (static_refusal_of q.commands i z c) (queue_refusal_of q i) (queue_rule_refusal_of q i z c)
+unfolding static_refusal_of queue_refusal_of queue_rule_refusal_of
+queue-command-joined q i z c =
+    joined i (early_table q.commands z c) (met_table (queue_order q) q.commands i) (late_table z c)
+    (read_table (queue_order q) q.commands i (semaphore_rows q i)) refl refl refl refl
 
 -- a command names what is live, has the sizes that it needs and makes no structure over another
 pub record GoesOn (z : Status) (c : Command) : Type 0 where

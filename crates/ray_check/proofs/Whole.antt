@@ -8,29 +8,16 @@ use Rattle.ray_cmd.specs.declared.command.Command.{Command}
 use Rattle.ray_cmd.specs.declared.refusal.Refusal.{Refusal}
 use Rattle.ray_rules.specs.Hazards.{status_at}
 use Rattle.ray_rules.specs.Phases.{v28_at_end}
-use Rattle.ray_rules.specs.Order.{barriers}
+use Rattle.ray_rules.specs.Order.{Ordering, barriers}
 use Rattle.ray_rules.specs.Refusals.{or_after, refusal_at_end, static_refusal, static_refusal_from, static_refusal_of}
 use Rattle.ray_rules.specs.Status.{Status, after, at_first}
 use Rattle.ray_rules.specs.Verdict.{GoOn, first_hazard, hazard_of, rule_refusal, rule_refusal_from, rule_refusal_of}
+use Rattle.ray_submits.specs.Submits.{QueueCommands}
+use Rattle.ray_queues.specs.Refusals.{first_queue_refusal, queue_refusal_of}
 use Rattle.ray_check.specs.Joining.{first_of_two, is_before, is_early, is_lesser, looked_at}
-use Rattle.ray_check.proofs.Tables.{GoesOn, IsJoined, command-joined, command-kept}
-use Rattle.ray_check.proofs.Going.{IsLeft, end-at, left-first, left-here, left-next, looked-above, looked-early, looked-end, looked-late, looked-within, rule-among, static-among}
-
--- the first hazard of fewer commands is that of more
-pub hazard-stays :
-    (rec : List Command) (n m : ℕ) (h : Refusal) → first_hazard (barriers rec) rec n ≡ Some h → n ≤ m → first_hazard (barriers rec) rec m ≡ Some h
-hazard-stays rec n zero h e w = let same : zero ≡ n = omega arith in ap (first_hazard (barriers rec) rec) same ∙ e
-hazard-stays rec n (suc m) h e w =
-    elim (cases_lt m n) [
-      | inl l ↦ let same : suc m ≡ n = omega arith in ap (first_hazard (barriers rec) rec) same ∙ e
-      | inr g ↦ ap (λ o. or_after o (hazard_of (barriers rec) rec m)) (hazard-stays rec n m h e g)
-    ]
-
-pub hazard-next :
-    (rec : List Command) (i : ℕ) → first_hazard (barriers rec) rec i ≡ None → first_hazard (barriers rec) rec (i + 1) ≡ hazard_of (barriers rec) rec i
-hazard-next rec i e =
-    let more : i + 1 ≡ suc i = omega arith in
-    ap (first_hazard (barriers rec) rec) more ∙ ap (λ o. or_after o (hazard_of (barriers rec) rec i)) e
+use Rattle.ray_check.specs.Queues.{queue_rule_refusal, queue_rule_refusal_from, queue_rule_refusal_of}
+use Rattle.ray_check.proofs.Tables.{GoesOn, IsJoined, command-joined, command-kept, queue-command-joined}
+use Rattle.ray_check.proofs.Going.{AreRefusals, IsLeft, end-at, left-first, left-here, left-next, looked-above, looked-early, looked-end, looked-late, looked-within, rule-among, static-among}
 
 -- the hazard of an earlier command is the first
 pub earlier-first :
@@ -53,89 +40,148 @@ first-there :
 first-there r None later = refl
 first-there r (Some q) later = choice-there (is_before q r) q r later
 
--- at the end there is no hazard
-pub join-end :
-    (rec : List Command) (i n : ℕ) (o : Option Refusal) → ((r : Refusal) → o ≡ Some r → r.command ≡ i) → n ≡ i
-    → first_hazard (barriers rec) rec i ≡ None → o ≡ first_of_two o (first_hazard (barriers rec) rec (looked_at n o))
-join-end rec i n None at e none = sym (ap (first_hazard (barriers rec) rec) e ∙ none)
-join-end rec i n (Some r) at e none =
-    let here = at r refl in
-    sym
-    (ap (λ m. first_of_two (Some r) (first_hazard (barriers rec) rec m)) (looked-end n r (omega arith) ∙ here)
-    ∙ ap (first_of_two (Some r)) none)
+module _ (rec : List Command) (met first : ℕ → Option Refusal) (all : ℕ → Status → Command → Option Refusal) (from : ℕ → Status → List Command → Option Refusal) (are : AreRefusals rec met first all from) where
+  -- the first one met of fewer commands is that of more
+  met-stays : (n m : ℕ) (h : Refusal) → first n ≡ Some h → n ≤ m → first m ≡ Some h
+  met-stays n zero h e w = let same : zero ≡ n = omega arith in ap first same ∙ e
+  met-stays n (suc m) h e w =
+      elim (cases_lt m n) [
+        | inl l ↦ let same : suc m ≡ n = omega arith in ap first same ∙ e
+        | inr g ↦ are.first_next m ∙ ap (λ o. or_after o (met m)) (met-stays n m h e g)
+      ]
 
--- from a command to the next
-pub join-step :
-    (rec : List Command) (i n : ℕ) (static hazard rule later all : Option Refusal) → i < n
-    → IsJoined i static hazard rule → first_hazard (barriers rec) rec i ≡ None → first_hazard (barriers rec) rec (i + 1) ≡ hazard
-    → ((r : Refusal) → later ≡ Some r → i < r.command)
-    → (first_hazard (barriers rec) rec (i + 1) ≡ None → all ≡ first_of_two later (first_hazard (barriers rec) rec (looked_at n later)))
-    → or_after rule all
-    ≡ first_of_two (or_after static later) (first_hazard (barriers rec) rec (looked_at n (or_after static later)))
-join-step rec i n (Some r) hazard rule later all below j none next above goes =
-    let here = j.static_at r refl in
-    elim (cases_Bool (is_early r.rule)) [
-      | inl e ↦
-          ap (λ o. or_after o all) (j.joined ∙ j.early r refl e)
-          ∙ sym
-          (ap (λ m. first_of_two (Some r) (first_hazard (barriers rec) rec m)) (looked-early n r e ∙ here)
-          ∙ ap (first_of_two (Some r)) none)
-      | inr e ↦
-          ap (λ o. or_after o all) j.joined
-          ∙ (first-there r hazard all
-          ∙ sym
-          (ap (λ m. first_of_two (Some r) (first_hazard (barriers rec) rec m))
-          (looked-late n r (omega arith) e ∙ ap (λ m. m + 1) here)
-          ∙ ap (first_of_two (Some r)) next))
-    ]
-join-step rec i n None None rule later all below j none next above goes =
-    ap (λ o. or_after o all) j.joined ∙ goes next
-join-step rec i n None (Some h) rule later all below j none next above goes =
-    let here = j.hazard_at h refl in
-    let w = looked-above n i later below above in
-    ap (λ o. or_after o all) j.joined
-    ∙ sym
-    (ap (first_of_two later) (hazard-stays rec (i + 1) (looked_at n later) h next (omega arith))
-    ∙ earlier-first later h (λ r e. let u = above r e in omega arith))
+  met-next : (i : ℕ) → first i ≡ None → first (i + 1) ≡ met i
+  met-next i e =
+      let more : i + 1 ≡ suc i = omega arith in
+      ap first more ∙ (are.first_next i ∙ ap (λ o. or_after o (met i)) e)
 
-pub join-from :
-    (rec : List Command) (cs : List Command) (i : ℕ) (z : Status) → IsLeft rec i z cs → first_hazard (barriers rec) rec i ≡ None
-    → rule_refusal_from (barriers rec) rec i z cs
-    ≡ first_of_two (static_refusal_from rec i z cs)
-    (first_hazard (barriers rec) rec (looked_at (length rec) (static_refusal_from rec i z cs)))
-join-from rec [] i z l none =
-    let many = l.many in
-    join-end rec i (length rec) (refusal_at_end i z) (end-at i (v28_at_end z)) (omega arith) none
-join-from rec (c ∷ cs) i z l none =
-    let many = l.many in
-    join-step rec i (length rec) (static_refusal_of rec i z c) (hazard_of (barriers rec) rec i) (rule_refusal_of (barriers rec) rec i z c)
-    (static_refusal_from rec (i + 1) (after i c z) cs) (rule_refusal_from (barriers rec) rec (i + 1) (after i c z) cs) (omega arith)
-    (command-joined rec i z c) none (hazard-next rec i none)
-    (λ r e. let m = (static-among rec cs (i + 1) (after i c z) r e).least in omega arith)
-    (λ e. join-from rec cs (i + 1) (after i c z) (left-next rec i z c cs l) e)
+  -- at the end none is met
+  join-end :
+      (i n : ℕ) (o : Option Refusal) → ((r : Refusal) → o ≡ Some r → r.command ≡ i) → n ≡ i
+      → first i ≡ None → o ≡ first_of_two o (first (looked_at n o))
+  join-end i n None at e none = sym (ap first e ∙ none)
+  join-end i n (Some r) at e none =
+      let here = at r refl in
+      sym
+      (ap (λ m. first_of_two (Some r) (first m)) (looked-end n r (omega arith) ∙ here)
+      ∙ ap (first_of_two (Some r)) none)
 
--- the whole recording
-pub joins :
+  -- from a command to the next
+  join-step :
+      (i n : ℕ) (static hazard rule later whole : Option Refusal) → i < n
+      → IsJoined i static hazard rule → first i ≡ None → first (i + 1) ≡ hazard
+      → ((r : Refusal) → later ≡ Some r → i < r.command)
+      → (first (i + 1) ≡ None → whole ≡ first_of_two later (first (looked_at n later)))
+      → or_after rule whole ≡ first_of_two (or_after static later) (first (looked_at n (or_after static later)))
+  join-step i n (Some r) hazard rule later whole below j none next above goes =
+      let here = j.static_at r refl in
+      elim (cases_Bool (is_early r.rule)) [
+        | inl e ↦
+            ap (λ o. or_after o whole) (j.joined ∙ j.early r refl e)
+            ∙ sym
+            (ap (λ m. first_of_two (Some r) (first m)) (looked-early n r e ∙ here)
+            ∙ ap (first_of_two (Some r)) none)
+        | inr e ↦
+            ap (λ o. or_after o whole) j.joined
+            ∙ (first-there r hazard whole
+            ∙ sym
+            (ap (λ m. first_of_two (Some r) (first m))
+            (looked-late n r (omega arith) e ∙ ap (λ m. m + 1) here)
+            ∙ ap (first_of_two (Some r)) next))
+      ]
+  join-step i n None None rule later whole below j none next above goes =
+      ap (λ o. or_after o whole) j.joined ∙ goes next
+  join-step i n None (Some h) rule later whole below j none next above goes =
+      let here = j.hazard_at h refl in
+      let w = looked-above n i later below above in
+      ap (λ o. or_after o whole) j.joined
+      ∙ sym
+      (ap (first_of_two later) (met-stays (i + 1) (looked_at n later) h next (omega arith))
+      ∙ earlier-first later h (λ r e. let u = above r e in omega arith))
+
+  join-from :
+      (cs : List Command) (i : ℕ) (z : Status) → IsLeft rec i z cs → first i ≡ None
+      → from i z cs
+      ≡ first_of_two (static_refusal_from rec i z cs) (first (looked_at (length rec) (static_refusal_from rec i z cs)))
+  join-from [] i z l none =
+      let many = l.many in
+      are.from_end i z ∙ join-end i (length rec) (refusal_at_end i z) (end-at i (v28_at_end z)) (omega arith) none
+  join-from (c ∷ cs) i z l none =
+      let many = l.many in
+      are.from_next i z c cs
+      ∙ join-step i (length rec) (static_refusal_of rec i z c) (met i) (all i z c)
+      (static_refusal_from rec (i + 1) (after i c z) cs) (from (i + 1) (after i c z) cs) (omega arith)
+      (are.joined i z c) none (met-next i none)
+      (λ r e. let m = (static-among rec cs (i + 1) (after i c z) r e).least in omega arith)
+      (λ e. join-from cs (i + 1) (after i c z) (left-next rec i z c cs l) e)
+
+  -- the whole recording
+  pub joins :
+      (st hz : Option Refusal) → st ≡ static_refusal rec
+      → hz ≡ first (looked_at (length rec) st) → first_of_two st hz ≡ from 0 at_first rec
+  unfolding static_refusal
+  joins st hz e f =
+      ap (first_of_two st) f
+      ∙ (ap (λ o. first_of_two o (first (looked_at (length rec) o))) e
+      ∙ sym (join-from rec 0 at_first (left-first rec) are.first_none))
+
+  -- which is of a command, or of the end
+  pub within : (o : Option Refusal) → o ≡ from 0 at_first rec → IfSome o (λ r. r.command ≤ length rec)
+  within None e = tt
+  within (Some r) e = let m = (rule-among rec met first all from are rec 0 at_first r (sym e)).most in omega arith
+
+-- ---- in an order, and over queues
+
+pub in-order :
+    (order : Ordering) (rec : List Command)
+    → AreRefusals rec (hazard_of order rec) (first_hazard order rec) (rule_refusal_of order rec) (rule_refusal_from order rec)
+in-order order rec = record {
+  joined = command-joined order rec;
+  first_none = refl;
+  first_next = λ n. refl;
+  from_end = λ i z. refl;
+  from_next = λ i z c cs. refl;
+}
+
+pub several-queues :
+    (q : QueueCommands)
+    → AreRefusals q.commands (queue_refusal_of q) (first_queue_refusal q) (queue_rule_refusal_of q) (queue_rule_refusal_from q)
+several-queues q = record {
+  joined = queue-command-joined q;
+  first_none = refl;
+  first_next = λ n. refl;
+  from_end = λ i z. refl;
+  from_next = λ i z c cs. refl;
+}
+
+-- what is joined is the refusal by all rules
+pub joins-one :
     (rec : List Command) (st hz : Option Refusal) → st ≡ static_refusal rec
     → hz ≡ first_hazard (barriers rec) rec (looked_at (length rec) st) → first_of_two st hz ≡ rule_refusal (barriers rec) rec
-unfolding static_refusal rule_refusal
-joins rec st hz e f =
-    ap (first_of_two st) f
-    ∙ (ap (λ o. first_of_two o (first_hazard (barriers rec) rec (looked_at (length rec) o))) e
-    ∙ sym (join-from rec rec 0 at_first (left-first rec) refl))
+unfolding rule_refusal
+joins-one rec st hz e f = joins rec _ _ _ _ (in-order (barriers rec) rec) st hz e f
+
+pub within-one : (rec : List Command) (o : Option Refusal) → o ≡ rule_refusal (barriers rec) rec → IfSome o (λ r. r.command ≤ length rec)
+unfolding rule_refusal
+within-one rec o e = within rec _ _ _ _ (in-order (barriers rec) rec) o e
+
+pub joins-several :
+    (q : QueueCommands) (st hz : Option Refusal) → st ≡ static_refusal q.commands
+    → hz ≡ first_queue_refusal q (looked_at (length q.commands) st) → first_of_two st hz ≡ queue_rule_refusal q
+unfolding queue_rule_refusal
+joins-several q st hz e f = joins q.commands _ _ _ _ (several-queues q) st hz e f
+
+pub within-several : (q : QueueCommands) (o : Option Refusal) → o ≡ queue_rule_refusal q → IfSome o (λ r. r.command ≤ length q.commands)
+unfolding queue_rule_refusal
+within-several q o e = within q.commands _ _ _ _ (several-queues q) o e
+
+-- ---- what is looked at
 
 -- how many commands are looked at, by what is known of the order
 pub looked-is :
     (rec : List Command) (st : Option Refusal) (n until many : ℕ) → many ≡ until → until ≡ looked_at n st
     → n ≡ length rec → many ≡ looked_at (length rec) st
 looked-is rec st n until many e f g = e ∙ (f ∙ ap (λ m. looked_at m st) g)
-
--- which is of a command, or of the end
-pub within :
-    (rec : List Command) (o : Option Refusal) → o ≡ rule_refusal (barriers rec) rec → IfSome o (λ r. r.command ≤ length rec)
-unfolding rule_refusal
-within rec None e = tt
-within rec (Some r) e = let m = (rule-among rec rec 0 at_first r (sym e)).most in omega arith
 
 pub looked-whole :
     (rec : List Command) (st : Option Refusal) → st ≡ static_refusal rec → looked_at (length rec) st ≤ length rec
@@ -199,14 +245,14 @@ kept-from rec (d ∷ cs) i z l j c from below there =
       | inl later ↦
           kept-from rec cs (i + 1) (after i d z) (left-next rec i z d cs l) j c (omega arith)
           (later-looked (length rec) i j (static_refusal_of rec i z d)
-          (static_refusal_from rec (i + 1) (after i d z) cs) (command-joined rec i z d).static_at later below)
+          (static_refusal_from rec (i + 1) (after i d z) cs) (command-joined (barriers rec) rec i z d).static_at later below)
           there
       | inr here ↦
           let same : i ≡ j = omega arith in
           kept-here rec i j z d c (left-here rec i z d cs l) l.status
           (command-kept rec i z d
           (here-late (length rec) i (static_refusal_of rec i z d)
-          (static_refusal_from rec (i + 1) (after i d z) cs) (command-joined rec i z d).static_at
+          (static_refusal_from rec (i + 1) (after i d z) cs) (command-joined (barriers rec) rec i z d).static_at
           (subst (λ k. k < looked_at (length rec) (static_refusal_from rec i z (d ∷ cs))) (sym same) below)))
           same there
     ]

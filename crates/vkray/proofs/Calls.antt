@@ -4,19 +4,19 @@ use Rattle.std.specs.Prelude.{String, IfSome, codes}
 use Rattle.vkray.specs.declared.asked.Asked.{Asked}
 use Rattle.vkray.specs.declared.asked.Asked.TheVariants as asked
 use Rattle.vkray.specs.declared.input_fault.InputFault.{InputFault}
-use Rattle.vkray.specs.declared.input_fault.InputFault.TheVariants.{NotJson, BadShape, Refused}
+use Rattle.vkray.specs.declared.input_fault.InputFault.TheVariants.{NotJson, BadObject, BadShape, BadTable, BadSubmits, Refused}
 use Rattle.vkray.specs.declared.request.Request.{Request}
 use Rattle.vkray.specs.declared.request.Request.TheVariants.{Input, Generate, RunSelf}
 use Rattle.vkray.specs.declared.status.Status.{Status}
 use Rattle.vkray.specs.declared.status.Status.TheVariants as statuses
 use Rattle.vkray.specs.declared.stop.Stop.TheVariants.{BadWords, ReadFault, TooLong, NoMemory}
 use Rattle.vkray.specs.declared.stop.Stop.TheVariants as stops
-use Rattle.vkray.specs.Answer.{Ending, answer_of, checked, input_of, job_of, made_up, ran, refused_or, run_with, runs, with_job}
+use Rattle.vkray.specs.Answer.{Ending, answer_of, checked, input_of, made_up, ran, refused_or, run_with, runs, task_of, with_task}
 use Rattle.vkray.specs.Call.{Reading, Writing, Answers, GivesInput, IsAnswer, IsCompleted, IsEnding, IsFrom, IsGoodCall, IsRead, IsSent, IsTooLong, IsValid, IsWritten, RunsTo, most_bytes}
 use Rattle.vkray.specs.Headline.{IsWrittenOfEveryOrder}
 use Rattle.vkray.specs.Words.{Requests}
 use Rattle.vkray.specs.Written.{status_of, status_of_fault, text_of}
-use Rattle.vkray.proofs.Jobs.{answered, every_order, job_runs}
+use Rattle.vkray.proofs.Jobs.{answered, every_order, task_runs}
 use Rattle.vkray.proofs.OneRequest.{one_request}
 
 -- ---- the input of a call
@@ -51,7 +51,10 @@ record IsDone (words : List (String Global)) (reading : Reading) (writing : Writ
 
 not_done : (fault : InputFault) → status_of_fault fault ≡ statuses.Done → ⊥
 not_done NotJson e = cc
+not_done BadObject e = cc
 not_done (BadShape command) e = cc
+not_done (BadTable entry) e = cc
+not_done (BadSubmits entry) e = cc
 not_done (Refused refusal) e = cc
 
 done_by : (words : List (String Global)) (reading : Reading) (writing : Writing) (ending : Ending) → IsEnding words reading ending → status_of ending ≡ statuses.Done
@@ -79,26 +82,28 @@ headline words reading writing result answers request input run asks done told =
     let is = is_done words reading writing result answers done in
     let has = answered request input is.text run (answer_is words reading request input (Ok is.text) asks told is.cause) in
     record {
-      job = has.job;
+      task = has.task;
       is_it = has.is_it;
       rules = has.run.kept;
       text = is.text;
-      every_order = every_order request has.job is.text (job_runs request input has.job run has.is_it has.run.kept) has.run.told;
+      every_order = every_order request has.task.job is.text (task_runs request input has.task run has.is_it has.run.kept) has.run.told;
       written = is.written;
     }
 
 -- ---- a good call
 
-ran_so : (request : Request) (input text : List ℕ) → RunsTo request input text → with_job (ran request) (job_of request input) ≡ Ok text
+ran_so : (request : Request) (input text : List ℕ) → RunsTo request input text → with_task (ran request) (task_of request input) ≡ Ok text
 ran_so request input text so =
-    ap (with_job (ran request)) so.kept.is_it ∙ (ap (run_with request so.kept.job) so.kept.rules ∙ so.told)
+    ap (with_task (ran request)) so.kept.is_it ∙ (ap (run_with request so.kept.task.job) so.kept.rules ∙ so.told)
 
 -- the answer of a valid input is its text
 answer_is_text : (request : Request) (input text : List ℕ) → IsValid request input text → answer_of request input ≡ Ok text
 unfolding answer_of
 answer_is_text (Input (asked.Run workers)) input text valid = ran_so (Input (asked.Run workers)) input text valid
 answer_is_text (Input asked.Check) input text valid =
-    ap (with_job checked) valid.0.is_it ∙ (ap (λ refusal. refused_or refusal (Ok (codes "ok\n"))) valid.0.rules ∙ ap Ok (sym valid.1))
+    ap (with_task checked) valid.0.is_it ∙ (ap (λ refusal. refused_or refusal (Ok (codes "ok\n"))) valid.0.rules ∙ ap Ok (sym valid.1))
+answer_is_text (Input (asked.Queues workers)) input text valid = ran_so (Input (asked.Queues workers)) input text valid
+answer_is_text (Input asked.Groups) input text valid = ran_so (Input asked.Groups) input text valid
 answer_is_text (Generate scene) input text valid = ap Ok (sym valid)
 answer_is_text (RunSelf by) input text valid = ran_so (RunSelf by) input text valid
 

@@ -31,6 +31,7 @@ use Rattle.vkray.specs.declared.request.SelfRun.{SelfRun}
 use Rattle.vkray.specs.declared.stop.Stop.{Stop}
 use Rattle.vkray.specs.Answer.{Ending, ending_of_run, in_place_of_text, ran, refused, run_with}
 use Rattle.vkray.specs.Counting.{counts_line, is_read, last_shown_in, quiet_length}
+use Rattle.vkray.specs.Tasks.{recorded_task}
 use Rattle.vkray.specs.Endings.{Ends, IsCounted, StopsSo, stop_of_run}
 
 -- ---- one action that shows bytes, behind others
@@ -179,19 +180,19 @@ module _ (by : SelfRun) (rec : List Command) (kept : BreakNoRule (recorded rec) 
   line_in memory = counts_line by.scene.rays (last_shown_in memory rec)
 
   -- what is told of the run of k commands is the answer
-  told_is : (ending : Ending) → told (line_in (memory_below (recorded rec) k)) (run_below (recorded rec) k) ≡ ending → ran (RunSelf by) (recorded rec) ≡ ending
+  told_is : (ending : Ending) → told (line_in (memory_below (recorded rec) k)) (run_below (recorded rec) k) ≡ ending → ran (RunSelf by) (recorded_task rec) ≡ ending
   told_is ending is =
       ap (run_with (RunSelf by) (recorded rec)) none
       ∙ (ap (λ m. told (line_in m) (run_below (recorded rec) (length rec))) enough.leaves
       ∙ (enough.tells (line_in (memory_below (recorded rec) k)) ∙ is))
 
   pub count_ends : (text : List ℕ) (memory : Memory) (r : Result (Vec ℕ Global) Stop) → run_below (recorded rec) k ≡ Text text
-      → ((l : Location) → memory l ≡ memory_below (recorded rec) k l) → IsCounted (line_in memory) r → Ends (ran (RunSelf by) (recorded rec)) r
+      → ((l : Location) → memory l ≡ memory_below (recorded rec) k l) → IsCounted (line_in memory) r → Ends (ran (RunSelf by) (recorded_task rec)) r
   count_ends text memory (Ok line) run left counts =
       let same : memory ≡ memory_below (recorded rec) k = λ i l. left l i in
       told_is (Ok line.items) (ap (told (line_in (memory_below (recorded rec) k))) run ∙ ap Ok (sym (counts ∙ ap line_in same)))
-  count_ends text memory (Err stop) run left counts = subst (λ s. StopsSo (ran (RunSelf by) (recorded rec)) s) (sym counts) tt
+  count_ends text memory (Err stop) run left counts = subst (λ s. StopsSo (ran (RunSelf by) (recorded_task rec)) s) (sym counts) tt
 
-  pub stops : (fault : RunFault) → IsRun (run_below (recorded rec) k) (Err fault) → StopsSo (ran (RunSelf by) (recorded rec)) (stop_of_run fault)
+  pub stops : (fault : RunFault) → IsRun (run_below (recorded rec) k) (Err fault) → StopsSo (ran (RunSelf by) (recorded_task rec)) (stop_of_run fault)
   stops (faults.Refused refusal) run = told_is (refused refusal) (ap (told (line_in (memory_below (recorded rec) k))) run)
   stops faults.NoMemory run = tt

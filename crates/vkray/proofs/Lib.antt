@@ -1,4 +1,5 @@
 pub mod OneRequest
+pub mod QueueJobs
 pub mod LastRead
 pub mod Jobs
 pub mod Calls

@@ -1,40 +1,52 @@
 -- Words ask for one thing alone.
-use Rattle.std.proofs.Common.{◌≡◌, ◌⊎◌, [], ◌∷◌, refl, ℕ, ◌≤◌, List, map, drop, get_or, ap, sym, ◌∙◌, inl, inr, arith, Global}
+use Rattle.std.proofs.Common.{◌≡◌, ◌⊎◌, [], ◌∷◌, refl, ℕ, ◌+◌, ◌≤◌, List, map, drop, get_or, ap, sym, ◌∙◌, inl, inr, arith, Global}
 use Rattle.std.specs.Prelude.{String, codes, decimal, string_bytes}
 use Rattle.std.proofs.lemmas.Fmt.{decimal_injective}
 use Rattle.ray_scene.specs.Grid.{IsScene}
-use Rattle.vkray.specs.declared.asked.Asked.TheVariants.{Run, Check}
+use Rattle.vkray.specs.declared.asked.Asked.TheVariants.{Run, Check, Queues, Groups}
 use Rattle.vkray.specs.declared.request.Request.{Request}
 use Rattle.vkray.specs.declared.request.Request.TheVariants.{Input, Generate, RunSelf}
 use Rattle.vkray.specs.declared.request.Scene.{Scene}
 use Rattle.vkray.specs.declared.request.SelfRun.{SelfRun}
-use Rattle.vkray.specs.Words.{AskBy, AskRun, Requests}
+use Rattle.vkray.specs.Words.{AskBy, AskWorkers, Requests}
 
--- ---- the first letter
+-- ---- the first two letters
 
 abbrev first : List (List ℕ) → ℕ
 first words = get_or (get_or words 0 []) 0 0
 
--- that of each request: of `run`, `check`, `gen` and `selfrun`
-abbrev letter : Request → ℕ
-letter (Input (Run workers)) = 114
-letter (Input Check) = 99
-letter (Generate scene) = 103
-letter (RunSelf by) = 115
+abbrev second : List (List ℕ) → ℕ
+second words = get_or (get_or words 0 []) 1 0
 
-first_of_run : (words : List (String Global)) (workers : ℕ) → AskRun words workers → first (map string_bytes words) ≡ 114
-first_of_run words workers (inl alone) = ap first alone.0
-first_of_run words workers (inr more) = ap first more.1
+-- a number for each request: its first letter and three times its second one, added, of `run`, `check`, `queues`,
+-- `groups`, `gen` and `selfrun`
+abbrev letters : List (List ℕ) → ℕ
+letters words = first words + (second words + (second words + second words))
 
-first_of_self : (words : List (String Global)) (by : SelfRun) → AskBy words by → first (map string_bytes words) ≡ 115
-first_of_self words by (inl alone) = ap first alone.0
-first_of_self words by (inr more) = ap first more.1
+abbrev number_of : Request → ℕ
+number_of (Input (Run workers)) = 465
+number_of (Input Check) = 411
+number_of (Input (Queues workers)) = 464
+number_of (Input Groups) = 445
+number_of (Generate scene) = 406
+number_of (RunSelf by) = 418
 
-first_is : (words : List (String Global)) (request : Request) → Requests words request → first (map string_bytes words) ≡ letter request
-first_is words (Input (Run workers)) asks = first_of_run words workers asks
-first_is words (Input Check) asks = ap first asks
-first_is words (Generate scene) asks = ap first asks.are
-first_is words (RunSelf by) asks = first_of_self words by asks.are
+of_workers : (words : List (String Global)) (word : List ℕ) (workers : ℕ) → AskWorkers words word workers → (n : ℕ) → letters (word ∷ []) ≡ n
+    → letters (map string_bytes words) ≡ n
+of_workers words word workers (inl alone) n is = ap letters alone.0 ∙ is
+of_workers words word workers (inr more) n is = ap letters more.1 ∙ is
+
+of_self : (words : List (String Global)) (by : SelfRun) → AskBy words by → letters (map string_bytes words) ≡ 418
+of_self words by (inl alone) = ap letters alone.0
+of_self words by (inr more) = ap letters more.1
+
+number_is : (words : List (String Global)) (request : Request) → Requests words request → letters (map string_bytes words) ≡ number_of request
+number_is words (Input (Run workers)) asks = of_workers words (codes "run") workers asks 465 refl
+number_is words (Input Check) asks = ap letters asks
+number_is words (Input (Queues workers)) asks = of_workers words (codes "queues") workers asks 464 refl
+number_is words (Input Groups) asks = ap letters asks
+number_is words (Generate scene) asks = ap letters asks.are
+number_is words (RunSelf by) asks = of_self words by asks.are
 
 -- ---- how many workers
 
@@ -42,9 +54,9 @@ first_is words (RunSelf by) asks = first_of_self words by asks.are
 abbrev Says : List (List ℕ) → ℕ → Type 0
 Says words workers = ((words ≡ []) × (workers ≡ 1)) ⊎ ((workers ≤ 64) × (words ≡ codes "--workers" ∷ decimal workers ∷ []))
 
-says_run : (words : List (String Global)) (workers : ℕ) → AskRun words workers → Says (drop 1 (map string_bytes words)) workers
-says_run words workers (inl alone) = inl (ap (drop 1) alone.0, alone.1)
-says_run words workers (inr more) = inr (more.0.1, ap (drop 1) more.1)
+says_number : (words : List (String Global)) (word : List ℕ) (workers : ℕ) → AskWorkers words word workers → Says (drop 1 (map string_bytes words)) workers
+says_number words word workers (inl alone) = inl (ap (drop 1) alone.0, alone.1)
+says_number words word workers (inr more) = inr (more.0.1, ap (drop 1) more.1)
 
 says_self : (words : List (String Global)) (by : SelfRun) → AskBy words by → Says (drop 4 (map string_bytes words)) by.workers
 says_self words by (inl alone) = inl (ap (drop 4) alone.0, alone.1)
@@ -81,26 +93,49 @@ scene_of_self words by (inr more) = ap three more.1
 -- ---- one request
 
 pub one_request : (words : List (String Global)) (a b : Request) → Requests words a → Requests words b → a ≡ b
-one_request words a b x y = by_both a b x y (sym (first_is words a x) ∙ first_is words b y)
+one_request words a b x y = by_both a b x y (sym (number_is words a x) ∙ number_is words b y)
   where
-    by_both : (a b : Request) → Requests words a → Requests words b → letter a ≡ letter b → a ≡ b
-    by_both (Input (Run n)) (Input (Run m)) x y same =
-        ap (λ w. Input (Run w)) (one_number (drop 1 (map string_bytes words)) n m (says_run words n x) (says_run words m y))
+    same_workers : (word : List ℕ) (n m : ℕ) → AskWorkers words word n → AskWorkers words word m → n ≡ m
+    same_workers word n m x y =
+        one_number (drop 1 (map string_bytes words)) n m (says_number words word n x) (says_number words word m y)
+
+    by_both : (a b : Request) → Requests words a → Requests words b → number_of a ≡ number_of b → a ≡ b
+    by_both (Input (Run n)) (Input (Run m)) x y same = ap (λ w. Input (Run w)) (same_workers (codes "run") n m x y)
     by_both (Input Check) (Input Check) x y same = refl
+    by_both (Input (Queues n)) (Input (Queues m)) x y same = ap (λ w. Input (Queues w)) (same_workers (codes "queues") n m x y)
+    by_both (Input Groups) (Input Groups) x y same = refl
     by_both (Generate s) (Generate t) x y same = ap Generate (one_scene s t x.limits y.limits (ap three (sym x.are ∙ y.are)))
     by_both (RunSelf s) (RunSelf t) x y same =
         let scene = one_scene s.scene t.scene x.limits y.limits (sym (scene_of_self words s x.are) ∙ scene_of_self words t y.are) in
         let workers = one_number (drop 4 (map string_bytes words)) s.workers t.workers (says_self words s x.are) (says_self words t y.are) in
         λ i. RunSelf (record { scene = scene i; workers = workers i })
     by_both (Input (Run n)) (Input Check) x y same = absurd (omega (arith, same))
-    by_both (Input (Run n)) (Generate t) x y same = absurd (omega (arith, same))
-    by_both (Input (Run n)) (RunSelf t) x y same = absurd (omega (arith, same))
+    by_both (Input (Run n)) (Input (Queues m)) x y same = absurd (omega (arith, same))
+    by_both (Input (Run n)) (Input Groups) x y same = absurd (omega (arith, same))
+    by_both (Input (Run n)) (Generate m) x y same = absurd (omega (arith, same))
+    by_both (Input (Run n)) (RunSelf m) x y same = absurd (omega (arith, same))
     by_both (Input Check) (Input (Run m)) x y same = absurd (omega (arith, same))
-    by_both (Input Check) (Generate t) x y same = absurd (omega (arith, same))
-    by_both (Input Check) (RunSelf t) x y same = absurd (omega (arith, same))
-    by_both (Generate s) (Input (Run m)) x y same = absurd (omega (arith, same))
-    by_both (Generate s) (Input Check) x y same = absurd (omega (arith, same))
-    by_both (Generate s) (RunSelf t) x y same = absurd (omega (arith, same))
-    by_both (RunSelf s) (Input (Run m)) x y same = absurd (omega (arith, same))
-    by_both (RunSelf s) (Input Check) x y same = absurd (omega (arith, same))
-    by_both (RunSelf s) (Generate t) x y same = absurd (omega (arith, same))
+    by_both (Input Check) (Input (Queues m)) x y same = absurd (omega (arith, same))
+    by_both (Input Check) (Input Groups) x y same = absurd (omega (arith, same))
+    by_both (Input Check) (Generate m) x y same = absurd (omega (arith, same))
+    by_both (Input Check) (RunSelf m) x y same = absurd (omega (arith, same))
+    by_both (Input (Queues n)) (Input (Run m)) x y same = absurd (omega (arith, same))
+    by_both (Input (Queues n)) (Input Check) x y same = absurd (omega (arith, same))
+    by_both (Input (Queues n)) (Input Groups) x y same = absurd (omega (arith, same))
+    by_both (Input (Queues n)) (Generate m) x y same = absurd (omega (arith, same))
+    by_both (Input (Queues n)) (RunSelf m) x y same = absurd (omega (arith, same))
+    by_both (Input Groups) (Input (Run m)) x y same = absurd (omega (arith, same))
+    by_both (Input Groups) (Input Check) x y same = absurd (omega (arith, same))
+    by_both (Input Groups) (Input (Queues m)) x y same = absurd (omega (arith, same))
+    by_both (Input Groups) (Generate m) x y same = absurd (omega (arith, same))
+    by_both (Input Groups) (RunSelf m) x y same = absurd (omega (arith, same))
+    by_both (Generate n) (Input (Run m)) x y same = absurd (omega (arith, same))
+    by_both (Generate n) (Input Check) x y same = absurd (omega (arith, same))
+    by_both (Generate n) (Input (Queues m)) x y same = absurd (omega (arith, same))
+    by_both (Generate n) (Input Groups) x y same = absurd (omega (arith, same))
+    by_both (Generate n) (RunSelf m) x y same = absurd (omega (arith, same))
+    by_both (RunSelf n) (Input (Run m)) x y same = absurd (omega (arith, same))
+    by_both (RunSelf n) (Input Check) x y same = absurd (omega (arith, same))
+    by_both (RunSelf n) (Input (Queues m)) x y same = absurd (omega (arith, same))
+    by_both (RunSelf n) (Input Groups) x y same = absurd (omega (arith, same))
+    by_both (RunSelf n) (Generate m) x y same = absurd (omega (arith, same))

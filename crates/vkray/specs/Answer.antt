@@ -2,26 +2,24 @@
 use Rattle.std.specs.Prelude.{ℕ, List, [], length, Option, Some, None, Result, Ok, Err, Bool, true, false, codes}
 use Rattle.ray_schedule.specs.Events.{Event}
 use Rattle.ray_schedule.specs.Laws.{after}
-use Rattle.ray_cmd.specs.declared.command.Command.{Command}
-use Rattle.ray_cmd.specs.declared.fault.RecordingFault.{RecordingFault}
-use Rattle.ray_cmd.specs.declared.fault.RecordingFault.TheVariants as recordings
 use Rattle.ray_cmd.specs.declared.refusal.Refusal.{Refusal}
 use Rattle.ray_cmd.specs.Recordings.{recording_in}
-use Rattle.ray_rules.specs.Verdict.{rule_refusal}
+use Rattle.ray_inputs.specs.Inputs.{queued_in, tabled_in}
 use Rattle.ray_action.specs.Memory.{Memory}
 use Rattle.ray_action.specs.Running as action
 use Rattle.ray_action.specs.Running.{Run, Text, Unknown}
 use Rattle.ray_permitted.specs.Along.{memory_below, run_along, run_below}
-use Rattle.ray_permitted.specs.Job.{Job, recorded}
+use Rattle.ray_permitted.specs.Job.{Job}
 use Rattle.ray_permitted.specs.Work.{work_of}
 use Rattle.vkray.specs.declared.asked.Asked.TheVariants as asked
-use Rattle.vkray.specs.declared.input_fault.InputFault.TheVariants.{NotJson, BadShape, Refused}
+use Rattle.vkray.specs.declared.input_fault.InputFault.TheVariants.{Refused}
 use Rattle.vkray.specs.declared.request.Request.{Request}
 use Rattle.vkray.specs.declared.request.Request.TheVariants.{Input, Generate, RunSelf}
 use Rattle.vkray.specs.declared.stop.Stop.{Stop}
 use Rattle.vkray.specs.declared.stop.Stop.TheVariants as stops
 use Rattle.vkray.specs.Counting.{counts_line, last_shown_in}
 use Rattle.vkray.specs.Scenes.{text_of_scene}
+use Rattle.vkray.specs.Tasks.{Task, queued_task, tabled_task, task_of_read, task_of_recording}
 
 -- a text, or why there is none
 abbrev pub Ending : Type 0
@@ -31,28 +29,26 @@ Ending = Result (List ℕ) Stop
 abbrev pub refused : Refusal → Ending
 refused refusal = Err (stops.Input (Refused refusal))
 
--- ---- the job of a request
+-- ---- the task of a request
 
 -- whether a request runs what its input says
 abbrev pub runs : Request → Bool
 runs (Input (asked.Run workers)) = true
 runs (Input asked.Check) = false
+runs (Input (asked.Queues workers)) = true
+runs (Input asked.Groups) = true
 runs (Generate scene) = false
 runs (RunSelf by) = true
 
--- the job of a recording that was read, or why there is none
-abbrev pub job_of_read : Result (List Command) RecordingFault → Result Job Stop
-job_of_read (Ok rec) = Ok (recorded rec)
-job_of_read (Err recordings.NotJson) = Err (stops.Input NotJson)
-job_of_read (Err (recordings.BadShape command)) = Err (stops.Input (BadShape command))
-job_of_read (Err recordings.NoMemory) = Err stops.NoMemory
-
--- the job that a request has of the bytes of its input: a recording on one queue, by its scripts. The making
--- up of a scene has none
-abbrev pub job_of : Request → List ℕ → Result Job Stop
-job_of (Input what) input = job_of_read (recording_in input)
-job_of (Generate scene) input = Err stops.NoMemory
-job_of (RunSelf by) input = job_of_read (recording_in input)
+-- the task that a request has of the bytes of its input: a recording, one that is submitted to queues, or one
+-- with tables of hit groups. The making up of a scene has none
+abbrev pub task_of : Request → List ℕ → Result Task Stop
+task_of (Input (asked.Run workers)) input = task_of_recording (recording_in input)
+task_of (Input asked.Check) input = task_of_recording (recording_in input)
+task_of (Input (asked.Queues workers)) input = task_of_read queued_task (queued_in input)
+task_of (Input asked.Groups) input = task_of_read tabled_task (tabled_in input)
+task_of (Generate scene) input = Err stops.NoMemory
+task_of (RunSelf by) input = task_of_recording (recording_in input)
 
 -- ---- what is told of a run
 
@@ -101,28 +97,30 @@ abbrev pub run_with : Request → Job → Option Refusal → Ending
 run_with request job None = told_in_order request job
 run_with request job (Some refusal) = refused_before job refusal
 
-abbrev pub ran : Request → Job → Ending
-ran request job = run_with request job (rule_refusal job.order job.commands)
+abbrev pub ran : Request → Task → Ending
+ran request task = run_with request task.job task.refusal
 
 -- what the rules say of a job: `ok`, or the refusal of its commands
 abbrev pub refused_or : Option Refusal → Ending → Ending
 refused_or None otherwise = otherwise
 refused_or (Some refusal) otherwise = refused refusal
 
-abbrev pub checked : Job → Ending
-checked job = refused_or (rule_refusal job.order job.commands) (Ok (codes "ok\n"))
+abbrev pub checked : Task → Ending
+checked task = refused_or task.refusal (Ok (codes "ok\n"))
 
--- what is done with a job, where there is one
-abbrev pub with_job : (Job → Ending) → Result Job Stop → Ending
-with_job ending (Ok job) = ending job
-with_job ending (Err stop) = Err stop
+-- what is done with a task, where there is one
+abbrev pub with_task : (Task → Ending) → Result Task Stop → Ending
+with_task ending (Ok task) = ending task
+with_task ending (Err stop) = Err stop
 
 -- the answer to a request, of the bytes of its input. How many workers there are makes no difference
 unfoldable pub answer_of : Request → List ℕ → Ending
-answer_of (Input (asked.Run workers)) input = with_job (ran (Input (asked.Run workers))) (job_of (Input (asked.Run workers)) input)
-answer_of (Input asked.Check) input = with_job checked (job_of (Input asked.Check) input)
+answer_of (Input (asked.Run workers)) input = with_task (ran (Input (asked.Run workers))) (task_of (Input (asked.Run workers)) input)
+answer_of (Input asked.Check) input = with_task checked (task_of (Input asked.Check) input)
+answer_of (Input (asked.Queues workers)) input = with_task (ran (Input (asked.Queues workers))) (task_of (Input (asked.Queues workers)) input)
+answer_of (Input asked.Groups) input = with_task (ran (Input asked.Groups)) (task_of (Input asked.Groups) input)
 answer_of (Generate scene) input = Ok (text_of_scene scene)
-answer_of (RunSelf by) input = with_job (ran (RunSelf by)) (job_of (RunSelf by) input)
+answer_of (RunSelf by) input = with_task (ran (RunSelf by)) (task_of (RunSelf by) input)
 
 -- the input of a request that reads none: the recording of a self run's scene
 abbrev pub made_up : Request → List ℕ

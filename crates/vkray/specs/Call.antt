@@ -3,8 +3,6 @@ use Rattle.std.specs.Prelude.{◌≡◌, ◌≤◌, ◌<◌, ◌+◌, ◌^◌, �
 use Rattle.std.specs.declared.alloc.Global.{Global}
 use Rattle.ray_io.specs.Faults.{HasRisen}
 use Rattle.ray_io.specs.ReadAll.{LeavesAllBut}
-use Rattle.ray_rules.specs.Verdict.{rule_refusal}
-use Rattle.ray_permitted.specs.Job.{Job}
 use Rattle.vkray.specs.declared.asked.Asked.TheVariants as asked
 use Rattle.vkray.specs.declared.request.Request.{Request}
 use Rattle.vkray.specs.declared.request.Request.TheVariants.{Input, Generate, RunSelf}
@@ -12,8 +10,9 @@ use Rattle.vkray.specs.declared.status.Status.{Status}
 use Rattle.vkray.specs.declared.status.Status.TheVariants as statuses
 use Rattle.vkray.specs.declared.stop.Stop.TheVariants.{BadWords, ReadFault, TooLong, NoMemory}
 use Rattle.vkray.specs.declared.stop.Stop.TheVariants as stops
-use Rattle.vkray.specs.Answer.{Ending, answer_of, job_of, made_up, told_in_order}
+use Rattle.vkray.specs.Answer.{Ending, answer_of, made_up, task_of, told_in_order}
 use Rattle.vkray.specs.Scenes.{text_of_scene}
+use Rattle.vkray.specs.Tasks.{Task}
 use Rattle.vkray.specs.Words.{AreWords, AskInput, Requests}
 use Rattle.vkray.specs.Written.{status_of, text_of}
 
@@ -147,21 +146,23 @@ pub record IsGoodCall (request : Request) (words : List (String Global)) (readin
   pub given : GivesInput request reading input
   pub sink_holds : ¬ HasFailed writing
 
--- the input of a request is a job that breaks no rule on its commands alone
+-- the input of a request is a task that breaks no rule on its commands alone
 pub record IsKept (request : Request) (input : List ℕ) : Type 0 where
-  pub job : Job
-  pub is_it : job_of request input ≡ Ok job
-  pub rules : rule_refusal job.order job.commands ≡ None
+  pub task : Task
+  pub is_it : task_of request input ≡ Ok task
+  pub rules : task.refusal ≡ None
 
--- the run of such a job in recording order has a text, by which the request tells this
+-- the run of such a task in recording order has a text, by which the request tells this
 pub record RunsTo (request : Request) (input : List ℕ) (text : List ℕ) : Type 0 where
   pub kept : IsKept request input
-  pub told : told_in_order request kept.job ≡ Ok text
+  pub told : told_in_order request kept.task.job ≡ Ok text
 
 -- an input that is valid for a request, and the text of its answer
 abbrev pub IsValid : Request → List ℕ → List ℕ → Type 0
 IsValid (Input (asked.Run workers)) input text = RunsTo (Input (asked.Run workers)) input text
 IsValid (Input asked.Check) input text = IsKept (Input asked.Check) input × (text ≡ codes "ok\n")
+IsValid (Input (asked.Queues workers)) input text = RunsTo (Input (asked.Queues workers)) input text
+IsValid (Input asked.Groups) input text = RunsTo (Input asked.Groups) input text
 IsValid (Generate scene) input text = text ≡ text_of_scene scene
 IsValid (RunSelf by) input text = RunsTo (RunSelf by) input text
 

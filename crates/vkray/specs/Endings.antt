@@ -1,19 +1,24 @@
 -- Words that private contracts cite: no page of definitions.
-use Rattle.std.specs.Prelude.{◌≡◌, ◌≤◌, ℕ, Bool, true, false, List, Vec, Result, Ok, Err, String}
+use Rattle.std.specs.Prelude.{◌≡◌, ◌≤◌, ℕ, Bool, true, false, List, Option, Some, None, Vec, Result, Ok, Err, String}
 use Rattle.std.specs.declared.alloc.Global.{Global}
 use Rattle.ray_cmd.specs.declared.fault.RecordingFault.{RecordingFault}
 use Rattle.ray_cmd.specs.declared.fault.RecordingFault.TheVariants as recordings
+use Rattle.ray_inputs.specs.declared.fault.BadInput.{BadInput}
+use Rattle.ray_inputs.specs.declared.fault.BadInput.TheVariants as inputs
 use Rattle.ray_io.specs.declared.read_error.ReadError.{ReadError}
 use Rattle.ray_io.specs.declared.read_error.ReadError.TheVariants as reads
+use Rattle.ray_cmd.specs.declared.refusal.Refusal.{Refusal}
 use Rattle.ray_exec.specs.declared.run_fault.RunFault.{RunFault}
 use Rattle.ray_exec.specs.declared.run_fault.RunFault.TheVariants as runs
 use Rattle.vkray.specs.declared.asked.Asked.{Asked}
-use Rattle.vkray.specs.declared.asked.Asked.TheVariants.{Run, Check}
+use Rattle.vkray.specs.declared.asked.Asked.TheVariants.{Run, Check, Queues, Groups}
 use Rattle.vkray.specs.declared.stop.Stop.{Stop}
-use Rattle.vkray.specs.declared.input_fault.InputFault.TheVariants.{NotJson, BadShape, Refused}
+use Rattle.vkray.specs.declared.input_fault.InputFault.TheVariants.{NotJson, BadObject, BadShape, BadTable, BadSubmits}
+use Rattle.vkray.specs.declared.input_fault.InputFault.TheVariants as faults
 use Rattle.vkray.specs.declared.stop.Stop.TheVariants.{BadWords, ReadFault, TooLong, NoMemory}
 use Rattle.vkray.specs.declared.stop.Stop.TheVariants as stops
-use Rattle.vkray.specs.Answer.{Ending}
+use Rattle.ray_action.specs.Running.{Run as ARun}
+use Rattle.vkray.specs.Answer.{Ending, ending_before, ending_of_run, refused}
 use Rattle.vkray.specs.Call.{Reading, IsEnding}
 
 -- the stop of each fault
@@ -27,8 +32,16 @@ stop_of_recording recordings.NotJson = stops.Input NotJson
 stop_of_recording (recordings.BadShape command) = stops.Input (BadShape command)
 stop_of_recording recordings.NoMemory = NoMemory
 
+abbrev pub stop_of_input : BadInput → Stop
+stop_of_input inputs.NotJson = stops.Input NotJson
+stop_of_input inputs.BadObject = stops.Input BadObject
+stop_of_input (inputs.BadShape command) = stops.Input (BadShape command)
+stop_of_input (inputs.BadTable entry) = stops.Input (BadTable entry)
+stop_of_input (inputs.BadSubmits entry) = stops.Input (BadSubmits entry)
+stop_of_input inputs.NoMemory = NoMemory
+
 abbrev pub stop_of_run : RunFault → Stop
-stop_of_run (runs.Refused refusal) = stops.Input (Refused refusal)
+stop_of_run (runs.Refused refusal) = stops.Input (faults.Refused refusal)
 stop_of_run runs.NoMemory = NoMemory
 
 -- the answer of an input is this stop, which is none of the words or the source; want of memory is free
@@ -79,3 +92,10 @@ AreWorkers workers = (1 ≤ workers) × (workers ≤ 64)
 abbrev pub IsWithinLimits : Asked → Type 0
 IsWithinLimits (Run workers) = AreWorkers workers
 IsWithinLimits Check = Unit {0}
+IsWithinLimits (Queues workers) = AreWorkers workers
+IsWithinLimits Groups = Unit {0}
+
+-- what the run of the commands below a refused one ends with, and where none is refused that of all
+abbrev pub ending_with : ARun → Option Refusal → Ending
+ending_with run None = ending_of_run run
+ending_with run (Some refusal) = ending_before run (refused refusal)

@@ -3,6 +3,7 @@ pub mod Scenes
 pub mod Counting
 pub mod Codes
 pub mod Lines
+pub mod Tasks
 pub mod Answer
 pub mod Written
 pub mod Call

@@ -45,3 +45,11 @@ refusal_line refusal =
 -- the line of the first command that has no shape of a command: `bad-shape I`
 abbrev pub bad_shape_line : ℕ → List ℕ
 bad_shape_line command = codes "bad-shape " ++ (decimal command ++ codes "\n")
+
+-- the line of the first entry of `tables` that is bad: `bad-table K`
+abbrev pub bad_table_line : ℕ → List ℕ
+bad_table_line entry = codes "bad-table " ++ (decimal entry ++ codes "\n")
+
+-- the line of the first entry of `submits` that is bad: `bad-submits K`
+abbrev pub bad_submits_line : ℕ → List ℕ
+bad_submits_line entry = codes "bad-submits " ++ (decimal entry ++ codes "\n")

@@ -3,7 +3,7 @@ use Rattle.std.specs.Prelude.{◌≡◌, ◌≤◌, ◌⊎◌, ℕ, List, [], �
 use Rattle.std.specs.declared.alloc.Global.{Global}
 use Rattle.ray_scene.specs.Grid.{IsScene}
 use Rattle.vkray.specs.declared.asked.Asked.{Asked}
-use Rattle.vkray.specs.declared.asked.Asked.TheVariants.{Run, Check}
+use Rattle.vkray.specs.declared.asked.Asked.TheVariants.{Run, Check, Queues, Groups}
 use Rattle.vkray.specs.declared.request.Request.{Request}
 use Rattle.vkray.specs.declared.request.Request.TheVariants.{Input, Generate, RunSelf}
 use Rattle.vkray.specs.declared.request.Scene.{Scene}
@@ -13,22 +13,29 @@ use Rattle.vkray.specs.declared.request.SelfRun.{SelfRun}
 abbrev pub IsWord : List (String Global) → List ℕ → Type 0
 IsWord words word = map string_bytes words ≡ word ∷ []
 
--- the words are `run`, `--workers` and a number in decimal digits, without a sign and a leading zero
-abbrev pub AreOfWorkers : List (String Global) → ℕ → Type 0
-AreOfWorkers words workers = map string_bytes words ≡ codes "run" ∷ codes "--workers" ∷ decimal workers ∷ []
+-- the words are one, `--workers` and a number in decimal digits, without a sign and a leading zero
+abbrev pub AreOfWorkers : List (String Global) → List ℕ → ℕ → Type 0
+AreOfWorkers words word workers = map string_bytes words ≡ word ∷ codes "--workers" ∷ decimal workers ∷ []
 
--- the words ask for a number of workers, 1 to 64
-abbrev pub HasWorkers : List (String Global) → ℕ → Type 0
-HasWorkers words workers = ((1 ≤ workers) × (workers ≤ 64)) × AreOfWorkers words workers
+-- the words ask for it by a number of workers, 1 to 64
+abbrev pub HasWorkers : List (String Global) → List ℕ → ℕ → Type 0
+HasWorkers words word workers = ((1 ≤ workers) × (workers ≤ 64)) × AreOfWorkers words word workers
 
--- the words ask for a run by so many workers: one where none are said
-abbrev pub AskRun : List (String Global) → ℕ → Type 0
-AskRun words workers = (IsWord words (codes "run") × (workers ≡ 1)) ⊎ HasWorkers words workers
+-- the words ask for it by so many workers: one where none are said
+abbrev pub AskWorkers : List (String Global) → List ℕ → ℕ → Type 0
+AskWorkers words word workers = (IsWord words word × (workers ≡ 1)) ⊎ HasWorkers words word workers
 
 -- the words ask an input for it
 abbrev pub Asks : List (String Global) → Asked → Type 0
-Asks words (Run workers) = AskRun words workers
+Asks words (Run workers) = AskWorkers words (codes "run") workers
 Asks words Check = IsWord words (codes "check")
+Asks words (Queues workers) = AskWorkers words (codes "queues") workers
+Asks words Groups = IsWord words (codes "groups")
+
+-- a word that asks an input for something by itself
+abbrev pub IsPlain : List ℕ → Type 0
+IsPlain word =
+    (word ≡ codes "run") ⊎ ((word ≡ codes "check") ⊎ ((word ≡ codes "queues") ⊎ (word ≡ codes "groups")))
 
 -- the words ask an input for something
 abbrev pub AskInput : List (String Global) → Type 0

@@ -1,26 +1,32 @@
 -- The status and the text with which an ending is told. (Own.)
 use Rattle.std.specs.Prelude.{ℕ, List, [], Ok, Err, codes}
 use Rattle.vkray.specs.declared.input_fault.InputFault.{InputFault}
-use Rattle.vkray.specs.declared.input_fault.InputFault.TheVariants.{NotJson, BadShape, Refused}
+use Rattle.vkray.specs.declared.input_fault.InputFault.TheVariants.{NotJson, BadObject, BadShape, BadTable, BadSubmits, Refused}
 use Rattle.vkray.specs.declared.status.Status.{Status}
 use Rattle.vkray.specs.declared.status.Status.TheVariants as statuses
 use Rattle.vkray.specs.declared.stop.Stop.TheVariants.{BadWords, ReadFault, TooLong, NoMemory}
 use Rattle.vkray.specs.declared.stop.Stop.TheVariants as stops
 use Rattle.vkray.specs.Answer.{Ending}
-use Rattle.vkray.specs.Lines.{bad_shape_line, refusal_line}
+use Rattle.vkray.specs.Lines.{bad_shape_line, bad_submits_line, bad_table_line, refusal_line}
 
 -- ---- what stops an input
 
 -- its status
 abbrev pub status_of_fault : InputFault → Status
 status_of_fault NotJson = statuses.BadRecording
+status_of_fault BadObject = statuses.BadRecording
 status_of_fault (BadShape command) = statuses.BadRecording
+status_of_fault (BadTable entry) = statuses.BadRecording
+status_of_fault (BadSubmits entry) = statuses.BadRecording
 status_of_fault (Refused refusal) = statuses.Refused
 
 -- its line
 abbrev pub line_of_fault : InputFault → List ℕ
 line_of_fault NotJson = codes "not-json\n"
+line_of_fault BadObject = codes "bad-object\n"
 line_of_fault (BadShape command) = bad_shape_line command
+line_of_fault (BadTable entry) = bad_table_line entry
+line_of_fault (BadSubmits entry) = bad_submits_line entry
 line_of_fault (Refused refusal) = refusal_line refusal
 
 -- ---- every ending

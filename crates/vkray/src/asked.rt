@@ -1,5 +1,6 @@
-ghost use Rattle.std.specs.Prelude.{◌≡◌, ◌↔◌, ℕ, IfNone, IfSome, IsTrue, Some, codes, decimal};
-ghost use Rattle.vkray.specs.Words.{AskInput, Asks, AreOfWorkers, HasWorkers, IsWord};
+ghost use Rattle.std.specs.Prelude.{◌≡◌, ◌↔◌, ℕ, IfNone, IfSome, IsTrue, List, Some, codes};
+ghost use Rattle.std.specs.Prelude.{decimal};
+ghost use Rattle.vkray.specs.Words.{AskInput, Asks, AreOfWorkers, HasWorkers, IsPlain, IsWord};
 
 use crate::words::{is_number, is_text, is_within, read_number};
 
@@ -17,6 +18,14 @@ pub enum Asked {
     },
     /// `check`: whether a recording breaks a rule V1 to V32.
     Check,
+    /// `queues`, or `queues --workers N`: the text of a recording that is submitted to several
+    /// queues.
+    Queues {
+        /// How many may fetch pieces at once, as for `run`.
+        workers: u32,
+    },
+    /// `groups`: the text of a recording whose candidates are decided by hit groups.
+    Groups,
 }
 
 impl Asked {
@@ -25,16 +34,44 @@ impl Asked {
         ensures asked { IfSome result (λ asked. Asks words.now asked) }
         ensures none { IfNone result (¬ AskInput words.now) }
     {
-        if is_word(words, "run") {
-            Some(Asked::Run { workers: 1 })
-        } else if is_word(words, "check") {
-            Some(Asked::Check)
-        } else {
-            match workers_of(words) {
-                Some(workers) => Some(Asked::Run { workers }),
-                None => None,
-            }
+        match plain(words) {
+            Some(asked) => Some(asked),
+            None => by_workers(words),
         }
+    }
+}
+
+// What a word alone asks an input for, by one worker.
+fn plain(words: &[String]) -> Option<Asked>
+    ensures asked { IfSome result (λ asked. Asks words.now asked) }
+    ensures none { IfNone result ((word : List ℕ) → IsPlain word → ¬ IsWord words.now word) }
+{
+    if is_word(words, "run") {
+        Some(Asked::Run { workers: 1 })
+    } else if is_word(words, "check") {
+        Some(Asked::Check)
+    } else if is_word(words, "queues") {
+        Some(Asked::Queues { workers: 1 })
+    } else if is_word(words, "groups") {
+        Some(Asked::Groups)
+    } else {
+        None
+    }
+}
+
+// What a word with a number of workers asks an input for.
+fn by_workers(words: &[String]) -> Option<Asked>
+    ensures asked { IfSome result (λ asked. Asks words.now asked) }
+    ensures run { IfNone result ((workers : ℕ) → ¬ HasWorkers words.now (codes "run") workers) }
+    ensures queues { IfNone result
+        ((workers : ℕ) → ¬ HasWorkers words.now (codes "queues") workers) }
+{
+    match workers_of(words, "run") {
+        Some(workers) => Some(Asked::Run { workers }),
+        None => match workers_of(words, "queues") {
+            Some(workers) => Some(Asked::Queues { workers }),
+            None => None,
+        },
     }
 }
 
@@ -48,20 +85,21 @@ fn is_word(words: &[String], word: &str) -> bool
     }
 }
 
-// How many workers the words ask for, where they do.
-fn workers_of(words: &[String]) -> Option<u32>
-    ensures asked { IfSome result (λ workers. HasWorkers words.now workers) }
-    ensures none { IfNone result ((workers : ℕ) → ¬ HasWorkers words.now workers) }
+// How many workers the words ask for by this word, where they do.
+fn workers_of(words: &[String], word: &str) -> Option<u32>
+    ensures asked { IfSome result (λ workers. HasWorkers words.now word.now workers) }
+    ensures none { IfNone result ((workers : ℕ) → ¬ HasWorkers words.now word.now workers) }
 {
     match third_number(words) {
-        Some(workers) if has_workers(words, workers) => Some(workers),
+        Some(workers) if has_workers(words, word, workers) => Some(workers),
         _ => None,
     }
 }
 
 // The number that stands in the last of three words, however it is spelled.
 fn third_number(words: &[String]) -> Option<u32>
-    ensures { (workers : ℕ) → HasWorkers words.now workers → result ≡ Some workers }
+    ensures { (word : List ℕ) (workers : ℕ) → HasWorkers words.now word workers
+        → result ≡ Some workers }
 {
     match words {
         [_, _, number] => read_number(number.as_str()),
@@ -70,26 +108,28 @@ fn third_number(words: &[String]) -> Option<u32>
 }
 
 // Whether the words ask for so many workers.
-fn has_workers(words: &[String], workers: u32) -> bool
-    ensures { IsTrue result ↔ HasWorkers words.now workers }
+fn has_workers(words: &[String], word: &str, workers: u32) -> bool
+    ensures { IsTrue result ↔ HasWorkers words.now word.now workers }
 {
-    is_within(workers, MOST_WORKERS) && are_of_workers(words, workers)
+    is_within(workers, MOST_WORKERS) && are_of_workers(words, word, workers)
 }
 
-// Whether the words are `run`, `--workers` and this number.
-fn are_of_workers(words: &[String], workers: u32) -> bool
-    ensures { IsTrue result ↔ AreOfWorkers words.now workers }
+// Whether the words are this one, `--workers` and this number.
+fn are_of_workers(words: &[String], word: &str, workers: u32) -> bool
+    ensures { IsTrue result ↔ AreOfWorkers words.now word.now workers }
 {
     match words {
-        [op, option, number] => { spells(op.as_str(), option.as_str(), number.as_str(), workers) }
+        [op, option, number] => {
+            spells(op.as_str(), option.as_str(), number.as_str(), word, workers)
+        }
         _ => false,
     }
 }
 
 // Whether three words are these.
-fn spells(op: &str, option: &str, number: &str, workers: u32) -> bool
-    ensures { IsTrue result ↔ ((op.now ≡ codes "run") × (option.now ≡ codes "--workers")
+fn spells(op: &str, option: &str, number: &str, word: &str, workers: u32) -> bool
+    ensures { IsTrue result ↔ ((op.now ≡ word.now) × (option.now ≡ codes "--workers")
         × (number.now ≡ decimal workers)) }
 {
-    is_text(op, "run") && is_text(option, "--workers") && is_number(number, workers)
+    is_text(op, word) && is_text(option, "--workers") && is_number(number, workers)
 }

@@ -7,24 +7,30 @@
 //! `specs/Call`.
 //!
 //! Its clause `headline` says of every request that runs, where it ends well, that what is written is
-//! what is told along every order which its job permits, by `specs/Headline`. What the job is, and
-//! what is told, are functions of the request in `specs/Answer`: a request more is a line in each.
+//! what is told along every order which its job permits, by `specs/Headline`. What the job is, with
+//! the refusal of its commands, stands in `specs/Tasks`: a recording on one queue by its scripts or by
+//! tables of hit groups, or one that is submitted to several queues. Which of them a request has, and
+//! what is told, are functions of it in `specs/Answer`: a request more is a line in each.
 //!
-//! A recording runs up to the command that a rule V1 to V32 refuses, by `check_rules` of ray_check;
-//! ray_exec runs so many commands. A self run reads and runs the recording of a made-up scene by the
+//! A recording runs up to the command that a rule on commands alone refuses, by ray_check; ray_exec
+//! runs so many commands. A self run reads and runs the recording of a made-up scene by the
 //! same calls, and counts the records that it leaves, by `specs/Counting`.
 //!
-//! It stands on ray_io (all bytes read and written), ray_cmd (the recording), ray_check (the rules on
-//! the recording alone), ray_exec (its run) and ray_scene (recordings that are made up).
+//! It stands on ray_io (all bytes read and written), ray_cmd and ray_inputs (the recording, and what
+//! belongs to it), ray_check (the rules on the recording alone), ray_exec (its run), ray_queues (the
+//! order over queues), ray_pipe (hit groups) and ray_scene (recordings that are made up).
 #![tactic(auto)]
 
 mod asked;
+mod by_tables;
 mod counting;
 mod executing;
 mod input_fault;
 mod line;
 mod reply;
 mod request;
+mod running;
+mod self_run;
 mod self_words;
 mod status;
 mod stop;

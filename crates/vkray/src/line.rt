@@ -12,6 +12,20 @@ pub(crate) fn bad_shape_line(alloc: Global, command: u32) -> Result<String, NoMe
     format!(in alloc; "bad-shape {command}\n")
 }
 
+// The line of the first entry of `tables` that is bad.
+pub(crate) fn bad_table_line(alloc: Global, entry: u32) -> Result<String, NoMemory>
+    ensures { IfOk result (λ line. string_bytes line ≡ lines.bad_table_line entry) }
+{
+    format!(in alloc; "bad-table {entry}\n")
+}
+
+// The line of the first entry of `submits` that is bad.
+pub(crate) fn bad_submits_line(alloc: Global, entry: u32) -> Result<String, NoMemory>
+    ensures { IfOk result (λ line. string_bytes line ≡ lines.bad_submits_line entry) }
+{
+    format!(in alloc; "bad-submits {entry}\n")
+}
+
 /// The line of a refusal: `refused I RULE` and its place, and a newline. (Own.)
 ///
 /// # Errors

@@ -3,7 +3,7 @@ ghost use Rattle.vkray.specs.Endings.{is_told};
 ghost use Rattle.vkray.specs.Written.{line_of_fault, status_of, status_of_fault, text_of};
 
 use crate::input_fault::InputFault;
-use crate::line::{bad_shape_line, refusal_line};
+use crate::line::{bad_shape_line, bad_submits_line, bad_table_line, refusal_line};
 use crate::status::Status;
 use crate::stop::Stop;
 use std::alloc::{AllocError as NoMemory, Global};
@@ -38,8 +38,17 @@ impl Reply {
     {
         match fault {
             InputFault::NotJson => Reply::of_line(alloc, Status::BadRecording, b"not-json\n"),
+            InputFault::BadObject => Reply::of_line(alloc, Status::BadRecording, b"bad-object\n"),
             InputFault::BadShape(command) => {
                 let line = bad_shape_line(alloc, command)?;
+                Reply::of_line(alloc, Status::BadRecording, line.as_bytes())
+            }
+            InputFault::BadTable(entry) => {
+                let line = bad_table_line(alloc, entry)?;
+                Reply::of_line(alloc, Status::BadRecording, line.as_bytes())
+            }
+            InputFault::BadSubmits(entry) => {
+                let line = bad_submits_line(alloc, entry)?;
                 Reply::of_line(alloc, Status::BadRecording, line.as_bytes())
             }
             InputFault::Refused(refusal) => {

@@ -30,7 +30,7 @@ pub struct SelfRun {
 /// What the words after the program's name ask for. (Own.)
 #[derive(Clone, Copy, Debug, PartialEq, Eq)]
 pub enum Request {
-    /// `run` or `check`: something of the input.
+    /// `run`, `check`, `queues` or `groups`: something of the input.
     Input(Asked),
     /// `gen SIDE LAYERS RAYS`: the recording of a made-up scene. No input is read.
     Generate(Scene),

@@ -1,6 +1,7 @@
 use crate::input_fault::InputFault;
 use ray_cmd::RecordingFault;
 use ray_exec::RunFault;
+use ray_inputs::BadInput;
 use ray_io::ReadError;
 
 /// Why there is no text of a run. (Own.)
@@ -44,6 +45,24 @@ impl From<RecordingFault> for Stop {
             RecordingFault::NotJson => Stop::Input(InputFault::NotJson),
             RecordingFault::BadShape(command) => Stop::Input(InputFault::BadShape(command)),
             RecordingFault::NoMemory => Stop::NoMemory,
+        }
+    }
+}
+
+impl From<BadInput> for Stop {
+    ghost use Rattle.std.specs.Prelude.{◌≡◌};
+    ghost use Rattle.vkray.specs.Endings.{stop_of_input};
+
+    ghost from_gives = { λ fault stop. stop ≡ stop_of_input fault };
+
+    fn from(fault: BadInput) -> Stop {
+        match fault {
+            BadInput::NotJson => Stop::Input(InputFault::NotJson),
+            BadInput::BadObject => Stop::Input(InputFault::BadObject),
+            BadInput::BadShape(command) => Stop::Input(InputFault::BadShape(command)),
+            BadInput::BadTable(entry) => Stop::Input(InputFault::BadTable(entry)),
+            BadInput::BadSubmits(entry) => Stop::Input(InputFault::BadSubmits(entry)),
+            BadInput::NoMemory => Stop::NoMemory,
         }
     }
 }

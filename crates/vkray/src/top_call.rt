@@ -10,9 +10,10 @@ ghost use Rattle.vkray.specs.Headline.{IsWrittenOfEveryOrder};
 ghost use Rattle.vkray.specs.Words.{AskInput, Requests};
 ghost use Rattle.vkray.specs.Written.{status_of, text_of};
 
-use crate::executing::{execute, run_self};
+use crate::executing::execute;
 use crate::reply::Reply;
 use crate::request::{Request, Scene};
+use crate::self_run::run_self;
 use crate::status::Status;
 use crate::stop::Stop;
 use ray_exec::Gate;
@@ -26,7 +27,9 @@ pub const MOST_BYTES: u32 = 1 << 26;
 
 /// The program. `words` are those after the program's name: `run` and `run --workers N` read a
 /// recording from the source, run it and write its text to the sink, and `check` writes `ok` where
-/// it breaks no rule V1 to V32; `gen SIDE LAYERS RAYS` reads nothing and writes the recording of a
+/// it breaks no rule V1 to V32; `queues`, also with `--workers N`, and `groups` run what an object
+/// of the source says, a recording that is submitted to several queues or whose candidates are
+/// decided by hit groups; `gen SIDE LAYERS RAYS` reads nothing and writes the recording of a
 /// made-up scene, and `selfrun SIDE LAYERS RAYS`, also with `--workers N`, runs that recording and
 /// writes the counts of what its rays commit; all others are bad. Whatever ends the call before its
 /// text, one line says why. The whole text is made before the first write. After a read fault, or

@@ -8,9 +8,10 @@ use Rattle.ray_rules.specs.Order.{barriers}
 use Rattle.ray_rules.specs.Verdict.{rule_refusal}
 use Rattle.vkray.specs.Answer.{ran}
 use Rattle.vkray.specs.Endings.{StopsSo}
+use Rattle.vkray.specs.Tasks.{recorded_task}
 use Rattle.vkray.specs.declared.request.Request.TheVariants.{RunSelf}
 use Rattle.vkray.proofs.LastRead.{count_ends, stops}
-use Rattle.vkray.proofs.executing.count.Goals as goal
+use Rattle.vkray.proofs.self_run.count.Goals as goal
 
 pub returns-in-Ok : goal.returns-in-Ok
 returns-in-Ok g c =
@@ -19,7 +20,7 @@ returns-in-Ok g c =
     let found = c.in-Ok-None.field-0-is in
     let none : rule_refusal (barriers rec) rec ≡ None = cc in
     let kept : BreakNoRule (recorded rec) (length rec) =
-    c.unrefused_break_no_rule.ensures (scripts rec) (length rec) (subst (λ r. length rec ≤ refused_from (length rec) r) (sym none) (omega arith)) in
+    c.unrefused_break_no_rule.ensures (barriers rec) (scripts rec) (length rec) (subst (λ r. length rec ≤ refused_from (length rec) r) (sym none) (omega arith)) in
     count_ends c.args.asked rec kept none c.quiet_length-until.result c.quiet_length-until.ensures _ (memory_of c.run_until.new.state) c.counted_line.result
     c.in-Ok.ensures.run c.in-Ok.ensures.left c.counted_line.ensures
 
@@ -30,6 +31,6 @@ returns-in-Ok-None g c =
     let found = c.in-Ok-None.field-0-is in
     let none : rule_refusal (barriers rec) rec ≡ None = cc in
     let kept : BreakNoRule (recorded rec) (length rec) =
-    c.unrefused_break_no_rule.ensures (scripts rec) (length rec) (subst (λ r. length rec ≤ refused_from (length rec) r) (sym none) (omega arith)) in
-    subst (λ stop. StopsSo (ran (RunSelf c.args.asked) (recorded rec)) stop) (sym c.from.ensures)
+    c.unrefused_break_no_rule.ensures (barriers rec) (scripts rec) (length rec) (subst (λ r. length rec ≤ refused_from (length rec) r) (sym none) (omega arith)) in
+    subst (λ stop. StopsSo (ran (RunSelf c.args.asked) (recorded_task rec)) stop) (sym c.from.ensures)
     (stops c.args.asked rec kept none c.quiet_length-until.result c.quiet_length-until.ensures c.in-Err-run_until.fault c.in-Err-run_until.ensures.run)

@@ -1,0 +1,2 @@
+pub mod Submitted
+pub mod Sourced
