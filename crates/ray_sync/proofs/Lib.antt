@@ -1,15 +1,7 @@
 pub mod Advance
 pub mod Within
 pub mod Linked
-pub mod Carrying
 pub mod Limits
 pub mod Chains
 pub mod Steps
-pub mod Lasts
-pub mod Cellular
-pub mod Laning
-pub mod Ways
-pub mod Finds
-pub mod Odds
-pub mod Starting
-pub mod Checking
+pub mod OneQueue

@@ -1,6 +1,6 @@
 -- Commands as the events of one queue, over which dependency chains are kept. (Own; the words of chains
 -- are those of ray_chains.)
-use Rattle.std.specs.Prelude.{ℕ, List, Some, Bool, ◌&&◌, slice_get}
+use Rattle.std.specs.Prelude.{ℕ, List, Some, slice_get}
 use Rattle.std.specs.Option.{option_map_or}
 use Rattle.ray_chains.specs.declared.access_type.AccessType.{AccessType as ChainAccess}
 use Rattle.ray_chains.specs.declared.access_type.AccessType.TheVariants as chain_accesses
@@ -11,7 +11,7 @@ use Rattle.ray_chains.specs.declared.stage.Stage.{Stage as ChainStage}
 use Rattle.ray_chains.specs.declared.stage.Stage.TheVariants as chain_stages
 use Rattle.ray_chains.specs.QueueLaws.{source_of}
 use Rattle.ray_chains.specs.Queues.{Event, Barrier, Wait, Other, Source}
-use Rattle.ray_chains.specs.Tables.{has_access, has_stage, scopes_of}
+use Rattle.ray_chains.specs.Tables.{scopes_of}
 use Rattle.ray_cmd.specs.declared.command.Command.{Command}
 use Rattle.ray_cmd.specs.declared.command.Command.TheVariants as commands
 use Rattle.ray_flags.specs.declared.access.Access.{Access}
@@ -84,7 +84,3 @@ event_at rec n = option_map_or event_of (slice_get rec n) Other
 -- what commands of a stage wrote with an access
 abbrev pub written_by : Stage → AccessType → Source
 written_by stage access = source_of 0 (chain_stage stage) (Some (chain_access access))
-
--- whether a barrier takes it up directly
-abbrev pub takes_directly : MemoryBarrier → ChainStage → ChainAccess → Bool
-takes_directly barrier stage access = has_stage barrier.src_stages stage && has_access barrier.src_access access

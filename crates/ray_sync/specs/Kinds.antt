@@ -13,6 +13,7 @@ use Rattle.ray_rules.specs.Order.{last_wait}
 use Rattle.ray_sync.specs.declared.fronts.Fronts.{Fronts}
 use Rattle.ray_sync.specs.declared.kind.Kind.{Kind}
 use Rattle.ray_sync.specs.declared.kind.Kind.TheVariants.{Transfer, Build, StructureCopy, Compute, Barrier, Host}
+use Rattle.ray_hazards.specs.declared.limits.PerStage.{PerStage}
 use Rattle.ray_sync.specs.declared.per_kind.PerKind.{PerKind}
 use Rattle.ray_sync.specs.Fronts.{front_after, front_at, no_front, IsFront}
 
@@ -95,7 +96,16 @@ device_limits fronts j to = record {
   host = j;
 }
 
--- the same of a command of any kind
+-- the numbers below which commands of each stage are ordered before a stage
+abbrev pub stage_limits : Fronts → Stage → PerStage
+stage_limits fronts to = record {
+  transfer = front_at fronts.transfer to;
+  build = front_at fronts.build to;
+  structure_copy = front_at fronts.structure_copy to;
+  compute = front_at fronts.compute to;
+}
+
+-- the numbers of a command of any kind
 abbrev pub limits_of : Fronts → ℕ → Kind → PerKind
 limits_of fronts j Transfer = device_limits fronts j stages.Transfer
 limits_of fronts j Build = device_limits fronts j stages.Build

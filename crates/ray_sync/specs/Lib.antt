@@ -1,10 +1,6 @@
-pub mod Carrying
-pub mod Cells
-pub mod Checks
 pub mod Covering
 pub mod Events
 pub mod Fronts
 pub mod Kinds
-pub mod Lanes
-pub mod Lasts
+pub mod OneQueue
 pub mod Rows

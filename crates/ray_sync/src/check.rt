@@ -5,24 +5,21 @@ ghost use Rattle.ray_cmd.specs.declared.command.Command.{Command as ACommand};
 ghost use Rattle.ray_rules.specs.declared.touch.Touch.{Touch as ATouch};
 ghost use Rattle.ray_rules.specs.Hazards.{greatest_with, read_unordered, status_at, wrote_uncovered};
 ghost use Rattle.ray_rules.specs.Order.{barriers};
-ghost use Rattle.ray_rules.specs.Refusals.{or_later};
 ghost use Rattle.ray_rules.specs.Verdict.{GoOn, first_hazard, hazard_of};
-ghost use Rattle.ray_sync.specs.Carrying.{AreCarried};
-ghost use Rattle.ray_sync.specs.Checks.{IsDoing};
+ghost use Rattle.ray_hazards.specs.Carrying.{AreCarried};
+ghost use Rattle.ray_hazards.specs.Checks.{IsDoing};
 ghost use Rattle.ray_sync.specs.Kinds.{AreFronts};
-ghost use Rattle.ray_sync.specs.Lanes.{AreEnough, AreLanes};
-ghost use Rattle.ray_sync.specs.Lasts.{ArePlaced, HaveStarts};
+ghost use Rattle.ray_sync.specs.OneQueue.{in_order, one_queue};
+ghost use Rattle.ray_hazards.specs.Lanes.{AreEnough, AreLanes};
+ghost use Rattle.ray_hazards.specs.Lasts.{ArePlaced, HaveStarts};
 
-use crate::cells::Cells;
-use crate::coverage::Coverage;
-use crate::doing::{Doing, doing_of};
 use crate::fronts::Fronts;
-use crate::hazards::{earlier, last_uncovered, last_unordered};
-use crate::lanes::Lanes;
+use crate::hazards::{last_uncovered, last_unordered};
 use crate::order::Order;
-use crate::starts::starts_of;
+use crate::passing::pass;
 use ray_access::{Touched, sharing_is_meeting};
-use ray_cmd::{Place, Recording, Refusal, Rule};
+use ray_cmd::{Place, Recording, Refusal};
+use ray_hazards::{Cells, Coverage, Doing, Lanes, doing_of, earlier, least, starts_of};
 use ray_rules::Stage;
 use ray_status::Status;
 use std::alloc::{AllocError as NoMemory, Global};
@@ -81,7 +78,7 @@ fn checked(
             return Ok(Some(refusal));
         }
         lanes.mark(n, doing.stage, &doing.touches, cells);
-        coverage.pass(alloc, n, command, &status)?;
+        pass(alloc, &mut coverage, n, command, &status)?;
         fronts = fronts.after(n, command);
         status.step(n, command)?;
     }
@@ -98,7 +95,7 @@ fn hazard_of(
     cells: &Cells,
 ) -> Option<Refusal>
     requires { AreEnough (length cells.now) lanes.now }
-    ensures { (rec : List ACommand) → AreLanes rec cells.now n lanes.now → AreCarried rec n coverage.now
+    ensures { (rec : List ACommand) → AreLanes (in_order rec) cells.now n lanes.now → AreCarried (one_queue rec) 0 n coverage.now
         → AreFronts rec n fronts → IsDoing rec n doing.now → HaveStarts rec cells.now (suc n)
         → result ≡ hazard_of (barriers rec) rec n }
 {
@@ -111,38 +108,6 @@ fn hazard_of(
     least(n, read, written, overwritten, shown)
 }
 
-// The refusal of command number `n` by the least of V25, V26, V27 and V32 that is broken, where any
-// is.
-fn least(
-    n: u32,
-    read: Option<Place>,
-    written: Option<Place>,
-    overwritten: Option<Place>,
-    shown: Option<Place>,
-) -> Option<Refusal>
-    ensures { result ≡ or_later n 25 read
-        (or_later n 26 written (or_later n 27 overwritten (or_later n 32 shown None))) }
-{
-    let host = or_later(n, 32, shown, None);
-    let order = or_later(n, 27, overwritten, host);
-    let write = or_later(n, 26, written, order);
-    or_later(n, 25, read, write)
-}
-
-// The refusal of command number `n` by a rule where it is broken, and else by the later ones.
-fn or_later(n: u32, number: u8, place: Option<Place>, later: Option<Refusal>) -> Option<Refusal>
-    ensures { result ≡ or_later n number place later }
-{
-    match place {
-        Some(place) => Some(Refusal {
-            command: n,
-            rule: Rule::V(number),
-            place,
-        }),
-        None => later,
-    }
-}
-
 // The last command that wrote what these touches at the stage of a command reach, not covered.
 fn uncovered_at(
     stage: Option<Stage>,
@@ -152,8 +117,8 @@ fn uncovered_at(
     cells: &Cells,
 ) -> Option<Place>
     requires { AreEnough (length cells.now) lanes.now }
-    ensures { (rec : List ACommand) (n : ℕ) (ts : List ATouch) → AreLanes rec cells.now n lanes.now
-        → AreCarried rec n coverage.now → AreTouched (status_at rec n) ts touches.now → ArePlaced rec cells.now n ts
+    ensures { (rec : List ACommand) (n : ℕ) (ts : List ATouch) → AreLanes (in_order rec) cells.now n lanes.now
+        → AreCarried (one_queue rec) 0 n coverage.now → AreTouched (status_at rec n) ts touches.now → ArePlaced rec cells.now n ts
         → HaveStarts rec cells.now n
         → result ≡ option_map_or (λ to. greatest_with (wrote_uncovered (barriers rec) rec n to) ts n) stage None }
 {
@@ -172,8 +137,8 @@ fn uncovered(
     cells: &Cells,
 ) -> Option<Place>
     requires { AreEnough (length cells.now) lanes.now }
-    ensures { (rec : List ACommand) (n : ℕ) (ts : List ATouch) → AreLanes rec cells.now n lanes.now
-        → AreCarried rec n coverage.now → AreTouched (status_at rec n) ts touches.now → ArePlaced rec cells.now n ts
+    ensures { (rec : List ACommand) (n : ℕ) (ts : List ATouch) → AreLanes (in_order rec) cells.now n lanes.now
+        → AreCarried (one_queue rec) 0 n coverage.now → AreTouched (status_at rec n) ts touches.now → ArePlaced rec cells.now n ts
         → HaveStarts rec cells.now n → result ≡ greatest_with (wrote_uncovered (barriers rec) rec n to) ts n }
 {
     sharing_is_meeting();
@@ -191,7 +156,7 @@ fn unordered_at(
     cells: &Cells,
 ) -> Option<Place>
     requires { AreEnough (length cells.now) lanes.now }
-    ensures { (rec : List ACommand) (ts : List ATouch) → AreLanes rec cells.now n lanes.now
+    ensures { (rec : List ACommand) (ts : List ATouch) → AreLanes (in_order rec) cells.now n lanes.now
         → AreFronts rec n fronts → AreTouched (status_at rec n) ts touches.now
         → ArePlaced rec cells.now n ts → HaveStarts rec cells.now n
         → result ≡ option_map_or (λ to. greatest_with (read_unordered (barriers rec) rec n to) ts n) stage None }
@@ -213,11 +178,11 @@ fn unordered(
     cells: &Cells,
 ) -> Option<Place>
     requires { AreEnough (length cells.now) lanes.now }
-    ensures { (rec : List ACommand) (ts : List ATouch) → AreLanes rec cells.now n lanes.now
+    ensures { (rec : List ACommand) (ts : List ATouch) → AreLanes (in_order rec) cells.now n lanes.now
         → AreFronts rec n fronts → AreTouched (status_at rec n) ts touches.now
         → ArePlaced rec cells.now n ts → HaveStarts rec cells.now n
         → result ≡ greatest_with (read_unordered (barriers rec) rec n to) ts n }
 {
     sharing_is_meeting();
-    earlier(last_unordered(lanes, fronts.device_limits(n, to), touches, cells))
+    earlier(last_unordered(lanes, fronts.stage_limits(to), touches, cells))
 }

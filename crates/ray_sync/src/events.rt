@@ -1,5 +1,5 @@
 ghost use Rattle.std.specs.Prelude.{◌≡◌};
-ghost use Rattle.ray_sync.specs.Events.{access_mask, barrier_of, chain_access, chain_stage, stage_mask, takes_directly};
+ghost use Rattle.ray_sync.specs.Events.{access_mask, barrier_of, chain_access, chain_stage, stage_mask};
 
 use crate::sets::{holds_access, holds_stage};
 use ray_chains::{AccessMask, MemoryBarrier, StageMask};
@@ -79,15 +79,4 @@ pub fn barrier_of(
         dst_stages: stage_mask(dst_stages),
         dst_access: access_mask(dst_access),
     }
-}
-
-// Whether a barrier takes up directly what commands of a stage wrote with an access.
-pub(crate) fn takes_directly(
-    barrier: &MemoryBarrier,
-    stage: ray_chains::Stage,
-    access: ray_chains::AccessType,
-) -> bool
-    ensures { result ≡ takes_directly barrier.now stage access }
-{
-    barrier.src_stages.has(stage) && barrier.src_access.has(access)
 }

@@ -1,10 +1,12 @@
 ghost use Rattle.std.specs.Prelude.{◌≡◌};
-ghost use Rattle.ray_sync.specs.Kinds.{device_limits, fronts_after, limits_of, no_fronts, waited_after};
+ghost use Rattle.ray_sync.specs.Kinds.{device_limits, fronts_after, limits_of, no_fronts, stage_limits};
+ghost use Rattle.ray_sync.specs.Kinds.{waited_after};
 
 use crate::front::Front;
 use crate::kind::Kind;
 use crate::per_kind::PerKind;
 use ray_cmd::Command;
+use ray_hazards::PerStage;
 use ray_rules::Stage;
 
 /// How far what device commands did has been handed on: a front for the commands of each stage, and
@@ -76,7 +78,19 @@ impl Fronts {
         }
     }
 
-    // The same after one more command, number `n`.
+    // The numbers below which commands of each stage are ordered before a stage.
+    pub(crate) fn stage_limits(self, stage: Stage) -> PerStage
+        ensures { result ≡ stage_limits self stage }
+    {
+        PerStage {
+            transfer: self.transfer.at(stage),
+            build: self.build.at(stage),
+            structure_copy: self.structure_copy.at(stage),
+            compute: self.compute.at(stage),
+        }
+    }
+
+    // How far it has been handed on after one more command, number `n`.
     pub(crate) fn after(self, n: u32, command: &Command) -> Fronts
         ensures { result ≡ fronts_after n command.now self }
     {

@@ -18,24 +18,17 @@
 //! it is the greatest that isn't.
 #![tactic(auto)]
 
-mod carried;
-mod cells;
 mod check;
-mod coverage;
-mod doing;
 mod events;
 mod front;
 mod fronts;
 mod hazards;
 mod kind;
-mod lane;
-mod lanes;
 mod laws;
-mod marking;
 mod order;
+mod passing;
 mod per_kind;
 mod sets;
-mod starts;
 
 pub use crate::check::check_sync;
 pub use crate::events::{barrier_of, chain_access, chain_stage};

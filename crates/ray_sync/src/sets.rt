@@ -1,6 +1,5 @@
 ghost use Rattle.std.specs.Prelude.{◌≡◌};
 ghost use Rattle.ray_rules.specs.Order.{holds_access, holds_stage};
-ghost use Rattle.ray_sync.specs.Lasts.{same_access};
 ghost use Rattle.ray_sync.specs.Fronts.{has_or_all_reads, has_or_all_writes};
 
 use bitflags::Flags;
@@ -48,11 +47,4 @@ fn holds_write(accesses: Access, write: Access) -> bool
     ensures { result ≡ has_or_all_writes accesses.0 write.0 }
 {
     accesses.contains(write) || accesses.contains(Access::MEMORY_WRITE)
-}
-
-// Whether two accesses are one.
-pub(crate) fn same_access(one: AccessType, other: AccessType) -> bool
-    ensures { result ≡ same_access one other }
-{
-    one == other
 }

@@ -1,4 +1,4 @@
-use Rattle.ray_sync.proofs.Starting.{starts-like}
+use Rattle.ray_hazards.proofs.Starting.{starts-like}
 use Rattle.ray_sync.proofs.check.check_sync.Goals as goal
 
 pub checked-requires-clause-starts : goal.checked-requires-clause-starts

@@ -3,16 +3,17 @@ use Rattle.std.specs.Prelude.{None}
 use Rattle.ray_rules.specs.Hazards.{status_at}
 use Rattle.ray_rules.specs.Order.{barriers}
 use Rattle.ray_rules.specs.Verdict.{first_hazard}
-use Rattle.ray_sync.specs.Carrying.{AreCarried}
+use Rattle.ray_hazards.specs.Carrying.{AreCarried}
 use Rattle.ray_sync.specs.Kinds.{AreFronts}
-use Rattle.ray_sync.specs.Lanes.{AreLanes}
+use Rattle.ray_sync.specs.OneQueue.{in_order, one_queue}
+use Rattle.ray_hazards.specs.Lanes.{AreLanes}
 use Rattle.ray_sync.proofs.check.checked.Given as goal
 
 abbrev pub invariant-loop-n : goal.invariant-loop-n
 invariant-loop-n l = record {
   status : l.status ≡ status_at l.rec l.n;
-  lanes : AreLanes l.rec l.cells l.n l.lanes;
-  coverage : AreCarried l.rec l.n l.coverage;
+  lanes : AreLanes (in_order l.rec) l.cells l.n l.lanes;
+  coverage : AreCarried (one_queue l.rec) 0 l.n l.coverage;
   fronts : AreFronts l.rec l.n l.fronts;
   none : first_hazard (barriers l.rec) l.rec l.n ≡ None;
 }

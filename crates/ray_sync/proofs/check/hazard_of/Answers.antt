@@ -1,9 +1,10 @@
 use Rattle.std.proofs.Common.{◌∙◌, arith, subst, sym}
 use Rattle.ray_access.specs.Lists.{AreTouched}
 use Rattle.ray_rules.specs.Hazards.{accesses_at, status_at}
-use Rattle.ray_sync.specs.Lasts.{host_reads_at}
-use Rattle.ray_sync.proofs.Checking.{hazard-is, v25-is, v26-is, v27-is, v32-is}
-use Rattle.ray_sync.proofs.Starting.{starts-fewer}
+use Rattle.ray_rules.specs.Order.{barriers}
+use Rattle.ray_hazards.specs.Lasts.{host_reads_at}
+use Rattle.ray_hazards.proofs.Checking.{hazard-is, v25-is, v26-is, v27-is, v32-is}
+use Rattle.ray_hazards.proofs.Starting.{starts-fewer}
 use Rattle.ray_sync.proofs.check.hazard_of.Goals as goal
 
 pub returns : goal.returns
@@ -20,11 +21,11 @@ returns c = λ rec lanes carried fronts is have.
     let d = c.unordered_at-overwritten.result in
     let e = c.uncovered-shown.result in
     c.least.ensures
-    ∙ hazard-is rec n a b d e
-    (v25-is rec n c.args.doing.now.stage a is.at
+    ∙ hazard-is (barriers rec) rec n a b d e
+    (v25-is (barriers rec) rec n c.args.doing.now.stage a is.at
     (c.uncovered_at-read.ensures rec n _ lanes carried reads (have.reads n (omega arith)) before))
-    (v26-is rec n c.args.doing.now.stage b is.at
+    (v26-is (barriers rec) rec n c.args.doing.now.stage b is.at
     (c.uncovered_at-written.ensures rec n _ lanes carried writes (have.writes n (omega arith)) before))
-    (v27-is rec n c.args.doing.now.stage d is.at
+    (v27-is (barriers rec) rec n c.args.doing.now.stage d is.at
     (c.unordered_at-overwritten.ensures rec _ lanes fronts writes (have.writes n (omega arith)) before))
-    (v32-is rec n e (c.uncovered-shown.ensures rec n _ lanes carried shown (have.host_reads n (omega arith)) before))
+    (v32-is (barriers rec) rec n e (c.uncovered-shown.ensures rec n _ lanes carried shown (have.host_reads n (omega arith)) before))

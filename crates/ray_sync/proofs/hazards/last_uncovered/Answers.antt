@@ -1,22 +1,22 @@
 use Rattle.std.proofs.Common.{arith}
-use Rattle.ray_access.specs.declared.touched.Touched.{Touched}
-use Rattle.ray_sync.specs.Cells.{cell_of}
-use Rattle.ray_sync.specs.Lanes.{AnyUncovered}
-use Rattle.ray_sync.proofs.Laning.{moved}
-use Rattle.ray_sync.proofs.Lasts.{last-all, last-next}
+use Rattle.ray_hazards.specs.Lanes.{MeetsUncovered}
+use Rattle.ray_hazards.proofs.Laning.{moved}
+use Rattle.ray_hazards.proofs.Lasts.{last-all, last-next}
+use Rattle.ray_sync.specs.OneQueue.{in_order}
 use Rattle.ray_sync.proofs.hazards.last_uncovered.Goals as goal
 
 pub loop-touch-preserved : goal.loop-touch-preserved
 loop-touch-preserved c = λ rec n are carried.
     let cells = c.args.cells.now in
-    last-next (λ (t : Touched) i. AnyUncovered rec cells t.buffer n c.args.to t.access (cell_of cells t.range.from) (cell_of cells t.range.end) i) c.args.touches.now c.loop-touch.touch-index _ n c.loop-touch.last
+    last-next (MeetsUncovered (in_order rec) cells n c.args.to) c.args.touches.now c.loop-touch.touch-index _ n c.loop-touch.last
     c.last_uncovered-one.result c.greater-last.result c.greater-last.ensures c.loop-touch-test.true (c.loop-touch.invariant rec n are carried)
-    (moved _ _ _ _ _ _ _ _ _ _ _ (c.last_uncovered-one.ensures rec cells n are carried) c.at-start.ensures.value c.at-end.ensures.value)
+    (moved _ _ _ _ _ _ _ _ _ _ _ (c.last_uncovered-one.ensures (in_order rec) cells n _ are (c.limits_to-limits.ensures rec n carried))
+    c.at-start.ensures.value c.at-end.ensures.value)
 
 pub returns : goal.returns
 returns c = λ rec n are carried.
     let cells = c.args.cells.now in
     let after = c.loop-touch-test.false in
     let within = c.loop-touch.auto.touch-index-end in
-    last-all (λ (t : Touched) i. AnyUncovered rec cells t.buffer n c.args.to t.access (cell_of cells t.range.from) (cell_of cells t.range.end) i) c.args.touches.now c.loop-touch.touch-index n c.loop-touch.last (omega arith)
-    (c.loop-touch.invariant rec n are carried)
+    last-all (MeetsUncovered (in_order rec) cells n c.args.to) c.args.touches.now c.loop-touch.touch-index n c.loop-touch.last
+    (omega arith) (c.loop-touch.invariant rec n are carried)

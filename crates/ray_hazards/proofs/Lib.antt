@@ -1,0 +1,9 @@
+pub mod Lasts
+pub mod Cellular
+pub mod Laning
+pub mod Ways
+pub mod Finds
+pub mod Odds
+pub mod Starting
+pub mod Carrying
+pub mod Checking

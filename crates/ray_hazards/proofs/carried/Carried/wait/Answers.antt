@@ -1,0 +1,12 @@
+use Rattle.std.proofs.Common.{ap}
+use Rattle.ray_chains.specs.Queues.{acts_on_all, everywhere}
+use Rattle.ray_hazards.specs.Carrying.{kept_of}
+use Rattle.ray_hazards.proofs.Carrying.{kept-still}
+use Rattle.ray_hazards.proofs.carried.Carried.wait.Goals as goal
+
+pub returns : goal.returns
+returns c = λ a source queue are event is. record {
+  all = c.on_device-self.ensures.wait (everywhere a.events) a.events source queue event (ap acts_on_all event) is.all;
+  kept = λ made.
+      kept-still a source queue c.args.n made (kept_of c.args.self.now made) are (ap acts_on_all event) (is.kept made);
+}

@@ -1,0 +1,6 @@
+pub mod Cells
+pub mod Counting
+pub mod Lasts
+pub mod Lanes
+pub mod Checks
+pub mod Carrying

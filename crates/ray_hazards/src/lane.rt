@@ -1,0 +1,65 @@
+ghost use Rattle.std.specs.Prelude.{◌≡◌, ◌≤◌, ℕ, length, max};
+ghost use Rattle.ray_marks.specs.Rising.{mark_of};
+ghost use Rattle.ray_hazards.specs.Lasts.{above, has_it, is_by, marked_if, same_access};
+
+use crate::cells::Cells;
+use ray_access::Touched;
+use ray_marks::Marks;
+use ray_rules::AccessType;
+
+// The last number where it is above a limit, and else 0.
+pub(crate) fn above(limit: u32, last: u32) -> u32
+    ensures { result ≡ above limit last }
+{
+    if limit < last { last } else { 0 }
+}
+
+// The greater of two numbers.
+pub(crate) fn greater(a: u32, b: u32) -> u32
+    ensures { result ≡ max a b }
+{
+    if a < b { b } else { a }
+}
+
+// Whether two accesses are one.
+fn same_access(one: AccessType, other: AccessType) -> bool
+    ensures { result ≡ same_access one other }
+{
+    one == other
+}
+
+// Marks the cells of those touches that are by an access.
+pub(crate) fn mark_writes(
+    marks: &mut Marks,
+    cells: &Cells,
+    touches: &[Touched],
+    access: AccessType,
+    value: u32,
+)
+    requires cells { length marks.old ≡ length cells.now }
+    requires rising { (c : ℕ) → mark_of marks.old c ≤ value }
+    ensures cells { length marks.new ≡ length marks.old }
+    ensures marks { (c : ℕ) → mark_of marks.new c
+        ≡ marked_if (is_by cells.now access) touches.now value (mark_of marks.old c) c }
+{
+    for touch in touches {
+        if same_access(touch.access, access) {
+            let end = cells.at(touch.range.end);
+            marks.mark(cells.at(touch.range.from), end, value);
+        }
+    }
+}
+
+// Marks the cells of touches.
+pub(crate) fn mark_reads(marks: &mut Marks, cells: &Cells, touches: &[Touched], value: u32)
+    requires cells { length marks.old ≡ length cells.now }
+    requires rising { (c : ℕ) → mark_of marks.old c ≤ value }
+    ensures cells { length marks.new ≡ length marks.old }
+    ensures marks { (c : ℕ) → mark_of marks.new c
+        ≡ marked_if (has_it cells.now) touches.now value (mark_of marks.old c) c }
+{
+    for touch in touches {
+        let end = cells.at(touch.range.end);
+        marks.mark(cells.at(touch.range.from), end, value);
+    }
+}

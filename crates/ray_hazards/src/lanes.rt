@@ -1,0 +1,103 @@
+ghost use Rattle.std.specs.Prelude.{◌≡◌, ◌≤◌, ◌^◌, ℕ, List, IfOk, length};
+ghost use Rattle.ray_rules.specs.declared.stage.Stage.{Stage as AStage};
+ghost use Rattle.ray_hazards.specs.declared.limits.Accessed.{Accessed as AnAccessed};
+ghost use Rattle.ray_hazards.specs.Counting.{Counted};
+ghost use Rattle.ray_hazards.specs.Lanes.{AnyUncovered, AnyUnordered, AreCoveredBelow, AreEnough};
+ghost use Rattle.ray_hazards.specs.Lanes.{AreLanes, AreOrdered, NoneCounts};
+ghost use Rattle.ray_hazards.specs.Lasts.{IsLast};
+
+use crate::lane::{above, greater};
+use crate::limits::{PerStage, PerWay};
+use ray_marks::Marks;
+use std::alloc::{AllocError as NoMemory, Global};
+
+/// What is kept of the commands that count: for each way of writing and each cell one more than the
+/// last command that wrote it so, and for each stage and each cell one more than the last command
+/// that read it, 0 where there is none.
+#[derive(Drop)]
+pub struct Lanes {
+    pub(crate) transfers: Marks,
+    pub(crate) builds: Marks,
+    pub(crate) properties: Marks,
+    pub(crate) copies: Marks,
+    pub(crate) serialized: Marks,
+    pub(crate) traces: Marks,
+    pub(crate) transfer_reads: Marks,
+    pub(crate) build_reads: Marks,
+    pub(crate) copy_reads: Marks,
+    pub(crate) trace_reads: Marks,
+}
+
+impl Lanes {
+    /// No command that counts has read or written.
+    ///
+    /// # Errors
+    ///
+    /// For want of memory alone.
+    pub fn new(alloc: Global, cells: usize) -> Result<Lanes, NoMemory>
+        requires { cells ≤ 2 ^ 32 }
+        ensures { IfOk result (λ lanes. (counted : Counted) (starts : List ℕ) (n : ℕ)
+            → length starts ≡ cells → NoneCounts counted n → AreLanes counted starts n lanes) }
+    {
+        let transfers = Marks::new(alloc, cells)?;
+        let builds = Marks::new(alloc, cells)?;
+        let properties = Marks::new(alloc, cells)?;
+        let copies = Marks::new(alloc, cells)?;
+        let serialized = Marks::new(alloc, cells)?;
+        let traces = Marks::new(alloc, cells)?;
+        let transfer_reads = Marks::new(alloc, cells)?;
+        let build_reads = Marks::new(alloc, cells)?;
+        let copy_reads = Marks::new(alloc, cells)?;
+        let trace_reads = Marks::new(alloc, cells)?;
+        Ok(Lanes {
+            transfers,
+            builds,
+            properties,
+            copies,
+            serialized,
+            traces,
+            transfer_reads,
+            build_reads,
+            copy_reads,
+            trace_reads,
+        })
+    }
+
+    /// One more than the last command that counts and wrote in cells from `start` on and below
+    /// `end`, where that isn't covered to an access; and else 0. These are the numbers below which
+    /// what was written in each way is covered to it.
+    pub fn last_uncovered(&self, limits: PerWay, start: usize, end: usize) -> u32
+        requires { AreEnough end self.now }
+        ensures { (counted : Counted) (starts : List ℕ) (n : ℕ) (accessed : AnAccessed)
+            → AreLanes counted starts n self.now → AreCoveredBelow counted n accessed limits
+            → IsLast (AnyUncovered counted starts accessed.thing n accessed.stage accessed.access
+            start end) n result }
+    {
+        let transfers = above(limits.transfers, self.transfers.greatest(start, end));
+        let builds = above(limits.builds, self.builds.greatest(start, end));
+        let properties = above(limits.properties, self.properties.greatest(start, end));
+        let copies = above(limits.copies, self.copies.greatest(start, end));
+        let serialized = above(limits.serialized, self.serialized.greatest(start, end));
+        let traces = above(limits.traces, self.traces.greatest(start, end));
+        greater(
+            greater(greater(transfers, builds), greater(properties, copies)),
+            greater(serialized, traces),
+        )
+    }
+
+    /// One more than the last command that counts and read in cells from `start` on and below
+    /// `end`, where that isn't ordered before a stage; and else 0. These are the numbers below
+    /// which commands of each stage are.
+    pub fn last_unordered(&self, limits: PerStage, start: usize, end: usize) -> u32
+        requires { AreEnough end self.now }
+        ensures { (counted : Counted) (starts : List ℕ) (n : ℕ) (to : AStage)
+            → AreLanes counted starts n self.now → AreOrdered counted n to limits
+            → IsLast (AnyUnordered counted starts n to start end) n result }
+    {
+        let transfers = above(limits.transfer, self.transfer_reads.greatest(start, end));
+        let builds = above(limits.build, self.build_reads.greatest(start, end));
+        let copies = above(limits.structure_copy, self.copy_reads.greatest(start, end));
+        let traces = above(limits.compute, self.trace_reads.greatest(start, end));
+        greater(greater(transfers, builds), greater(copies, traces))
+    }
+}

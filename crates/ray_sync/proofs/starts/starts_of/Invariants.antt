@@ -1,7 +1,0 @@
-use Rattle.std.proofs.Common.{◌≡◌}
-use Rattle.ray_rules.specs.Hazards.{status_at}
-use Rattle.ray_sync.specs.Lasts.{HaveStarts}
-use Rattle.ray_sync.proofs.starts.starts_of.Given as goal
-
-abbrev pub invariant-loop-n : goal.invariant-loop-n
-invariant-loop-n l = (l.status ≡ status_at l.rec l.n) × HaveStarts l.rec l.set.keys l.n
