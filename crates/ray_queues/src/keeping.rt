@@ -6,7 +6,7 @@ ghost use Rattle.ray_queues.specs.Events.{waits_in};
 ghost use Rattle.ray_queues.specs.Keeping.{IsHere, IsKeeping, passed_by};
 ghost use Rattle.ray_queues.specs.Kinds.{IsLimits};
 ghost use Rattle.ray_queues.specs.Marks.{AreMarks};
-ghost use Rattle.ray_queues.specs.Sources.{ArePerQueue, AreTargets, number_met};
+ghost use Rattle.ray_queues.specs.Sources.{ArePerQueue, AreTargets, number_at, number_met};
 ghost use Rattle.ray_submits.specs.Submits.{HaveQueues, QueueCommands, queue_in, queue_of};
 
 use crate::arrived::QueueEvent;
@@ -14,15 +14,16 @@ use crate::limits::{Limits, limits_of};
 use crate::marks::{Marks, carried};
 use crate::per_queue::PerQueue;
 use crate::targets::Targets;
+use ray_chains::Stage;
 use ray_cmd::Command;
 use ray_rules::Kind;
 use ray_submits::{QueueRecording, Submission};
 use ray_sync::barrier_of;
 use std::alloc::{AllocError as NoMemory, Global};
 
-/// What is kept of the order where a command stands.
+/// What is kept of the order where a command stands: `IsKeeping` says what that means.
 #[derive(Drop)]
-pub(crate) struct Keeping {
+pub struct Keeping {
     pub(crate) targets: Targets,
     pub(crate) marks: Marks,
     // The number of the last `wait`, 0 where there was none.
@@ -30,8 +31,8 @@ pub(crate) struct Keeping {
 }
 
 impl Keeping {
-    // Where a recording begins.
-    pub(crate) fn new(alloc: Global) -> Keeping
+    /// Where a recording begins.
+    pub fn new(alloc: Global) -> Keeping
         ensures { (q : QueueCommands) → IsKeeping q 0 result }
     {
         Keeping {
@@ -49,8 +50,30 @@ impl Keeping {
         limits_of(&self.targets, n, self.waited, kind, queue)
     }
 
-    // Goes on past command number `n`.
-    pub(crate) fn pass(&mut self, rec: &QueueRecording, n: u32) -> Result<(), NoMemory>
+    /// Below which numbers what the commands of each queue and stage did is ordered before what is done
+    /// at a stage of a queue, which is from 0 to 3.
+    pub fn ordered(&self, queue: u32, to: Stage) -> PerQueue
+        ensures { queue < 4 → (q : QueueCommands) (n : ℕ) → IsKeeping q n self.now
+            → ArePerQueue (number_at q queue n to) result }
+    {
+        self.targets.of(queue).at(to)
+    }
+
+    /// Below which numbers what they did is carried by what meets the waits of a submission.
+    pub fn met(&self, submission: Option<&Submission>) -> PerQueue
+        ensures { (q : QueueCommands) (n : ℕ) → IsKeeping q n self.now
+            → ArePerQueue (number_met q n
+            (waits_in (option_map (λ s. s.now) submission.entry))) result }
+    {
+        met_in(submission, &self.marks)
+    }
+
+    /// Goes on past command number `n`.
+    ///
+    /// # Errors
+    ///
+    /// For want of memory alone.
+    pub fn pass(&mut self, rec: &QueueRecording, n: u32) -> Result<(), NoMemory>
         requires { n < length rec.now.commands }
         ensures { OnOk result (HaveQueues rec.now.submits → IsKeeping rec.now n self.old
             → IsKeeping rec.now (suc n) self.new) }
@@ -66,8 +89,8 @@ impl Keeping {
     }
 }
 
-// The queue of a submission, 0 where there is none.
-fn queue_in(submission: Option<&Submission>) -> u32
+/// The queue of a submission, 0 where there is none.
+pub fn queue_in(submission: Option<&Submission>) -> u32
     ensures { result ≡ queue_in (option_map (λ s. s.now) submission.entry) }
 {
     match submission {

@@ -3,20 +3,28 @@ ghost use Rattle.ray_queues.specs.Numbers.{all_queues, all_stages, greater_queue
 
 /// A number for each stage of the device.
 #[derive(Clone, Copy, Debug, PartialEq, Eq)]
-pub(crate) struct PerStage {
-    pub(crate) transfer: u32,
-    pub(crate) build: u32,
-    pub(crate) structure_copy: u32,
-    pub(crate) compute: u32,
+pub struct PerStage {
+    /// That of transfers.
+    pub transfer: u32,
+    /// That of builds.
+    pub build: u32,
+    /// That of copies of structures.
+    pub structure_copy: u32,
+    /// That of traces.
+    pub compute: u32,
 }
 
 /// A number for each stage of each queue.
 #[derive(Clone, Copy, Debug, PartialEq, Eq)]
-pub(crate) struct PerQueue {
-    pub(crate) zero: PerStage,
-    pub(crate) one: PerStage,
-    pub(crate) two: PerStage,
-    pub(crate) three: PerStage,
+pub struct PerQueue {
+    /// Those of queue 0.
+    pub zero: PerStage,
+    /// Those of queue 1.
+    pub one: PerStage,
+    /// Those of queue 2.
+    pub two: PerStage,
+    /// Those of queue 3.
+    pub three: PerStage,
 }
 
 impl PerStage {
