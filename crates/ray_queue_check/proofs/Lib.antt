@@ -1,0 +1,6 @@
+pub mod Numbers
+pub mod Moving
+pub mod Reaching
+pub mod Using
+pub mod Joined
+pub mod Finding
