@@ -1,0 +1,6 @@
+pub mod Cuttings
+pub mod Parts
+pub mod Certificates
+pub mod Checking
+pub mod PlayLaw
+pub mod Laws
