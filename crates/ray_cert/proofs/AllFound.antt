@@ -192,7 +192,7 @@ module _ (top : TopValue) (bottoms : Slots) (ray : RayValue) (flags : RayFlags) 
       all_in-flat_map (parts_at top.contents bottoms ray flags mask) (range_with_len 0 many) ∙ sym (joined-range F many) in
       subst (λ zs. IsPermutation zs all_found) (sym whole) (joined-permuted F G many (λ n below. (at_number n).moved))
 
-  parts-apart : AreApart (all_in all_parts)
+  pub parts-apart : AreApart (all_in all_parts)
   parts-apart = record {
     once = λ k.
         let same = sum_by-IsPermutation (has_key k) (all_in all_parts) all_found parts-found in

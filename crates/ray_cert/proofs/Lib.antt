@@ -4,3 +4,8 @@ pub mod BelowNodes
 pub mod TestedUpTo
 pub mod Supporting
 pub mod AllFound
+pub mod Taking
+pub mod Entering
+pub mod Placed
+pub mod StringsRead
+pub mod Deciding

@@ -1,9 +1,17 @@
 -- Words of private calls alone: a certificate read against the trees, as the program reads it.
-use Rattle.std.specs.Prelude.{ℕ, ◌++◌, Bool, true, false, if◌then◌else◌, Option, Some, None, option_and_then, option_map, List, [], ◌∷◌, take, drop}
+use Rattle.std.specs.Prelude.{ℕ, ◌≡◌, ◌+◌, ◌*◌, ◌<◌, ◌≤◌, length, ◌++◌, Bool, true, false, if◌then◌else◌, Option, Some, None, option_and_then, option_map, List, [], ◌∷◌, take, drop}
 use Rattle.std.specs.List.{flat_map}
 use Rattle.ray_geom.specs.declared.ratio.Ratio.{Ratio}
+use Rattle.ray_geom.specs.ObjectRay.{ObjectRayValue}
 use Rattle.ray_tree.specs.Shapes.{Shape, Gone, Tip, Fork}
-use Rattle.ray_tree.specs.Trees.{shape_at}
+use Rattle.ray_tree.specs.Trees.{TreeValue, box_at, no_box, shape_at}
+use Rattle.ray_bottom.specs.Trees.{BottomWithTree}
+use Rattle.ray_top.specs.declared.instance.Instance.{Instance}
+use Rattle.ray_top.specs.Instances.{instance_value}
+use Rattle.ray_query.specs.Limits.{is_open}
+use Rattle.ray_candidates.specs.Placements.{Placement, entry_in}
+use Rattle.ray_cert.specs.declared.cutting.Digit.{Digit}
+use Rattle.ray_cert.specs.declared.cutting.Digit.TheVariants.{End, Opened, Shut}
 use Rattle.ray_query.specs.declared.found.Found.{Found}
 use Rattle.ray_cert.specs.Parts.{Part}
 use Rattle.ray_cert.specs.Certificates.{is_met}
@@ -58,3 +66,51 @@ gathered_from limit fs [] [] = Some fs
 gathered_from limit fs [] (d ∷ ds) = None
 gathered_from limit fs (p ∷ ps) [] = None
 gathered_from limit fs (p ∷ ps) (d ∷ ds) = option_and_then (λ gs. gathered_from limit (fs ++ gs) ps ds) (found_taken limit p d)
+
+-- ---- as the program goes from one to the next
+
+-- a node of a tree is met by a ray of the object's space at an entry up to a limit
+abbrev pub is_met_in : ObjectRayValue → Ratio → TreeValue → ℕ → Bool
+is_met_in object limit tree n = is_open (Some limit) (entry_in object (box_at tree no_box n))
+
+-- what is next of digits, at a place: none is left, or a 0 or a 1 and those behind it
+pub record IsDigitAt (digits : List Bool) (at : ℕ) (digit : Bool) : Type 0 where
+  pub within : at < length digits
+  pub is : drop at digits ≡ digit ∷ drop (at + 1) digits
+
+abbrev pub IsNext : List Bool → ℕ → Digit → Type 0
+IsNext digits at End = drop at digits ≡ []
+IsNext digits at Shut = IsDigitAt digits at false
+IsNext digits at Opened = IsDigitAt digits at true
+
+-- where the digits that were taken end: at the place that was told, or at the last of them where they were refused
+abbrev pub end_of : ℕ → Option ℕ → ℕ
+end_of many None = many
+end_of many (Some at) = at
+
+-- digits were taken from one place to another, with at most one step and four items for each
+pub record AreFew (at after many steps_before steps_after items_before items_after : ℕ) : Type 0 where
+  pub from : at ≤ after
+  pub to : after ≤ many
+  pub steps : steps_after + at ≤ steps_before + after
+  pub items : items_after + 4 * at ≤ items_before + 4 * after
+
+-- an instance with its structure, as the program holds them
+abbrev pub placement_value : Instance → BottomWithTree → Placement
+placement_value instance bottom = record { instance = instance_value instance; bottom = bottom }
+
+-- what the next string gives for the part of one instance, if it has one, and the strings that are left
+abbrev pub string_taken : Ratio → List Found → List Part → List (List Bool) → Option (List Found × List (List Bool))
+string_taken limit fs [] ds = Some (fs, ds)
+string_taken limit fs (p ∷ ps) [] = None
+string_taken limit fs (p ∷ ps) (d ∷ ds) = option_map (λ gs. (fs ++ gs, ds)) (found_taken limit p d)
+
+-- so many digits stand in strings
+abbrev pub digits_in : List (List Bool) → ℕ
+digits_in [] = 0
+digits_in (d ∷ ds) = length d + digits_in ds
+
+-- how many items a string gives, if it gives any
+abbrev pub many_in : Option (List ℕ) → ℕ
+many_in None = 0
+many_in (Some items) = length items

@@ -1,8 +1,20 @@
 //! Certificates of hits.
 #![tactic(auto)]
 
+mod cert;
+mod checking;
+mod cutting;
+mod finding;
+mod gathering;
 mod laws;
+mod meeting;
 mod named;
+mod places;
+mod stated;
+mod strings;
 
+pub use checking::check_cert;
+pub use cert::{Cert, Digits};
 pub use laws::{commits_law, supports_law};
 pub use named::Named;
+pub use stated::Stated;

@@ -1,0 +1,7 @@
+use Rattle.ray_tree.specs.Shapes.{levels}
+use Rattle.ray_tree.specs.Trees.{shape_at}
+use Rattle.ray_cert.proofs.cutting.+mark_node.Given as goal
+
+-- what is below a child has fewer levels
+abbrev pub decreases-mark_node : goal.decreases-mark_node
+decreases-mark_node g l = levels (shape_at l.tree.now l.node)

@@ -1,0 +1,14 @@
+use Rattle.std.proofs.Common.{◌≡◌, ◌+◌, ◌*◌, ◌-◌, ◌≤◌, [], drop, length}
+use Rattle.ray_cert.specs.Checking.{digits_in, gathered_from}
+use Rattle.ray_cert.specs.Parts.{parts_from, parts_of_ray}
+use Rattle.ray_cert.proofs.gathering.gather_tested.Given as goal
+
+-- what is left, behind what was found, gives what all gives
+abbrev pub invariant-loop-number : goal.invariant-loop-number
+invariant-loop-number g l = record {
+  value : gathered_from l.limit l.found.items
+      (parts_from l.top.contents l.bottoms l.ray l.flags l.mask l.number (length l.top.contents.instances - l.number)) (drop l.taken l.strings)
+      ≡ gathered_from l.limit [] (parts_of_ray l.top.contents l.bottoms l.ray l.flags l.mask) l.strings;
+  cost : l.steps + 5 * digits_in (drop l.taken l.strings) ≤ l.initial.steps + 5 * digits_in l.strings;
+  rising : l.initial.steps ≤ l.steps;
+}
