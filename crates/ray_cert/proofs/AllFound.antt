@@ -45,7 +45,7 @@ use Rattle.ray_candidates.proofs.Opened.{le_tells}
 use Rattle.ray_candidates.proofs.Placing.{All-at, placeable_at}
 use Rattle.ray_candidates.proofs.Spread.{joined-permuted}
 use Rattle.ray_candidates.proofs.StructureFound.{bottom-found}
-use Rattle.ray_cert.specs.Certificates.{CertValue, Supports, digits_of, limit_of, name_of}
+use Rattle.ray_cert.specs.Certificates.{CertValue, Supports, cert_of, name_of}
 use Rattle.ray_cert.specs.Parts.{Part, part_of, parts_at, parts_by, parts_from, parts_of_ray, placement_of, tree_of}
 use Rattle.ray_cert.specs.PlayLaw.{IsUpTo}
 use Rattle.ray_cert.proofs.BelowNodes.{root_held}
@@ -218,3 +218,9 @@ module _ (top : TopValue) (bottoms : Slots) (ray : RayValue) (flags : RayFlags) 
     named-answer cert s =
         ap (option_map name_of) (sym same_answer)
         ∙ supported-answer (parts_of ray.tmax) all_parts parts-sound parts-apart meaning number flags cert s
+
+    -- and the certificate that is made of the answer supports it
+    pub made-supports : (o : Option Commit) → o ≡ trace_answer meaning top.contents (structures_in bottoms) ray number flags mask
+        → Supports meaning top.contents bottoms ray number flags mask (cert_of (parts_of ray.tmax) all_parts o)
+    made-supports o is =
+        answer-supported (parts_of ray.tmax) all_parts parts-sound parts-apart meaning number flags o (is ∙ sym same_answer)

@@ -9,3 +9,4 @@ pub mod Entering
 pub mod Placed
 pub mod StringsRead
 pub mod Deciding
+pub mod Made

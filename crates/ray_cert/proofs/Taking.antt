@@ -201,10 +201,14 @@ zero_of : (k : ℕ) → (0 < k → ⊥) → k ≡ 0
 zero_of zero none = refl
 zero_of (suc k) none = absurd (none (omega arith))
 
--- a tree without nodes has nothing to read
+-- a tree without nodes has nothing to read, and no digits
+gone-root : (tree : TreeValue) → (0 < length tree.nodes → ⊥) → shape_at tree 0 ≡ Gone
+gone-root tree none = ap (λ k. shape_in k tree.nodes 0) (zero_of (length tree.nodes) none) ∙ shape_zero tree.nodes 0
+
 pub taken-gone : (met : ℕ → Bool) (tree : TreeValue) (old : List ℕ) (digits : List Bool) → (0 < length tree.nodes → ⊥)
     → ◌≡◌ {A = Option Taken} (Some (old, digits)) (behind old (taken_of met tree.order (shape_at tree 0) digits))
 taken-gone met tree old digits none =
-    let many : length tree.nodes ≡ 0 = zero_of (length tree.nodes) none in
-    let empty : shape_at tree 0 ≡ Gone = ap (λ k. shape_in k tree.nodes 0) many ∙ shape_zero tree.nodes 0 in
-    ap (λ (zs : List ℕ). Some (zs, digits)) (sym (append-nil old)) ∙ sym (ap (λ s. behind old (taken_of met tree.order s digits)) empty)
+    ap (λ (zs : List ℕ). Some (zs, digits)) (sym (append-nil old)) ∙ sym (ap (λ s. behind old (taken_of met tree.order s digits)) (gone-root tree none))
+
+pub made-gone : (met : ℕ → Bool) (tree : TreeValue) (old : List Bool) → (0 < length tree.nodes → ⊥) → old ≡ old ++ marks (cut_by met (shape_at tree 0))
+made-gone met tree old none = sym (append-nil old) ∙ ap (λ s. old ++ marks (cut_by met s)) (sym (gone-root tree none))

@@ -4,7 +4,7 @@
 -- confirms. The stated tree is one leaf, whose box is entered at 5. The certificate that names instance 0, geometry 0, primitive 0 at
 -- 5/1 supports its hit with the string 1: the play of the one candidate commits just that. With the string 0 it doesn't: the node isn't
 -- entered above 5. With none named and the string 1 it doesn't, since the play commits a hit; nor with 4/1 named, or with no string.
-use Rattle.std.specs.Prelude.{ℕ, ◌≡◌, ◌++◌, Bool, false, Option, Some, None, option_map, List, [], ◌∷◌, All}
+use Rattle.std.specs.Prelude.{ℕ, ◌≡◌, ◌++◌, Bool, false, Option, Some, None, option_map, List, [], ◌∷◌, All, map}
 use Rattle.std.specs.List.{flat_map}
 use Rattle.ray_geom.specs.declared.ratio.Ratio.{Ratio}
 use Rattle.ray_geom.specs.Ratio.{parts_of, ratio_of}
@@ -85,8 +85,15 @@ abbrev pub Supports : (Candidate → Decision) → TopContents → Slots → Ray
 Supports meaning top bottoms ray number flags mask cert =
     SupportsOver meaning number flags (parts_of ray.tmax) (parts_of_ray top bottoms ray flags mask) cert
 
--- ---- the certificate that is made
+-- ---- the certificate that is made of an answer
 
--- the digits of the cutting that is cut off just where nothing is met up to a limit
+-- the digits of the cutting that is cut off just where nothing is met up to a limit: a digit is 1 exactly where its node is met
 abbrev pub digits_of : Ratio → Part → List Bool
 digits_of limit p = marks (cut_by (is_met limit p) (shape_at p.tree 0))
+
+-- it names what was committed, and has those digits up to its distance
+abbrev pub cert_of : Ratio → List Part → Option Commit → CertValue
+cert_of end parts commit = record {
+  named = option_map name_of commit;
+  strings = map (digits_of (limit_of end (option_map name_of commit))) parts;
+}

@@ -2,7 +2,8 @@
 use Rattle.std.specs.Prelude.{ℕ, ◌≡◌, ◌+◌, ◌*◌, ◌<◌, ◌≤◌, length, ◌++◌, Bool, true, false, if◌then◌else◌, Option, Some, None, option_and_then, option_map, List, [], ◌∷◌, take, drop}
 use Rattle.std.specs.List.{flat_map}
 use Rattle.ray_geom.specs.declared.ratio.Ratio.{Ratio}
-use Rattle.ray_geom.specs.ObjectRay.{ObjectRayValue}
+use Rattle.ray_geom.specs.ObjectRay.{ObjectRayValue, object_of}
+use Rattle.ray_geom.specs.Scene.{RayValue}
 use Rattle.ray_tree.specs.Shapes.{Shape, Gone, Tip, Fork}
 use Rattle.ray_tree.specs.Trees.{TreeValue, box_at, no_box, shape_at}
 use Rattle.ray_bottom.specs.Trees.{BottomWithTree}
@@ -13,7 +14,8 @@ use Rattle.ray_candidates.specs.Placements.{Placement, entry_in}
 use Rattle.ray_cert.specs.declared.cutting.Digit.{Digit}
 use Rattle.ray_cert.specs.declared.cutting.Digit.TheVariants.{End, Opened, Shut}
 use Rattle.ray_query.specs.declared.found.Found.{Found}
-use Rattle.ray_cert.specs.Parts.{Part}
+use Rattle.ray_cert.specs.Cuttings.{cut_by, marks}
+use Rattle.ray_cert.specs.Parts.{Part, tree_of}
 use Rattle.ray_cert.specs.Certificates.{is_met}
 
 -- the items of the leaves that are tested, and the digits that are left
@@ -114,3 +116,13 @@ digits_in (d ∷ ds) = length d + digits_in ds
 abbrev pub many_in : Option (List ℕ) → ℕ
 many_in None = 0
 many_in (Some items) = length items
+
+-- ---- strings that are made
+
+-- the digits along a tree, and those of an instance with its structure, if there is one
+abbrev pub digits_along : Ratio → ObjectRayValue → TreeValue → List Bool
+digits_along limit object tree = marks (cut_by (is_met_in object limit tree) (shape_at tree 0))
+
+abbrev pub strings_by : Ratio → RayValue → Option Placement → List (List Bool)
+strings_by limit ray None = []
+strings_by limit ray (Some p) = digits_along limit (object_of ray p.instance.matrix) (tree_of p.bottom) ∷ []
