@@ -1,6 +1,6 @@
 -- What a certificate of a ray speaks of: for each active instance whose mask is seen, in rising number, the stated tree of its
 -- structure, and what the ray meets and finds there. (Own.)
-use Rattle.std.specs.Prelude.{ℕ, ◌≡◌, Bool, if◌then◌else◌, Option, Some, None, IfSome, option_map, option_and_then, List, [], ◌∷◌, length, All}
+use Rattle.std.specs.Prelude.{ℕ, ◌≡◌, ◌==◌, if◌then◌else◌, Option, Some, None, IfSome, option_map, option_and_then, List, [], ◌∷◌, length, All}
 use Rattle.std.specs.List.{flat_map, range_with_len}
 use Rattle.std.specs.Map.{lookup}
 use Rattle.std.specs.BTreeMap.{is_at}
@@ -71,6 +71,10 @@ Trees = List (ℕ × TreeValue)
 
 abbrev pub tree_at : ℕ → Trees → Option TreeValue
 tree_at id trees = lookup (is_at (nat_cmp id)) trees
+
+-- a tree is put under an id, and the other ids keep theirs
+pub record PutsTree (id : ℕ) (tree : TreeValue) (before after : Trees) : Type 0 where
+  pub each : (q : ℕ) → tree_at q after ≡ (if q == id then Some tree else tree_at q before)
 
 -- the stated tree of the structure that an instance names stands under its id, where there is such a structure
 pub record IsStatedFor (bottoms : Slots) (trees : Trees) (i : InstanceValue) : Type 0 where
