@@ -4,3 +4,4 @@ pub mod Certificates
 pub mod Checking
 pub mod PlayLaw
 pub mod Laws
+pub mod Spelling

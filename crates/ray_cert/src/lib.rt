@@ -13,6 +13,7 @@ mod named;
 mod places;
 mod stated;
 mod strings;
+mod writing;
 
 pub use checking::check_cert;
 pub use cert::{Cert, Digits};
@@ -20,3 +21,4 @@ pub use laws::{commits_law, supports_law};
 pub use making::make_cert;
 pub use named::Named;
 pub use stated::Stated;
+pub use writing::write_cert;
