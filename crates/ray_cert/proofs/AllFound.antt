@@ -1,13 +1,12 @@
 -- What is found in all parts of a ray is what the ray finds, in another order; and each part is sound.
-use Rattle.std.proofs.Common.{◌≡◌, ◌∙◌, ◌*◌, ◌^◌, ◌≤◌, refl, sym, ap, subst, ℕ, zero, suc, Bool, true, false, if◌then◌else◌, List, [], ◌∷◌, ◌++◌, Option, Some, None, option_map, option_and_then, length, slice_get, append_assoc, append-nil, inl, inr, arith}
-use Rattle.std.specs.Prelude.{IfSome}
+use Rattle.std.proofs.Common.{◌≡◌, ◌∙◌, ◌*◌, ◌^◌, ◌≤◌, refl, sym, ap, subst, ℕ, Bool, true, false, if◌then◌else◌, List, [], ◌∷◌, ◌++◌, Option, Some, None, option_map, option_and_then, length, slice_get, append_assoc, append-nil, arith}
 use Rattle.std.specs.List.{flat_map, range_with_len}
 use Rattle.std.specs.List.Sorted.{IsPermutation}
 use Rattle.std.proofs.lemmas.List.Concat.{flat_map-cons}
 use Rattle.std.proofs.lemmas.List.Sorted.{IsPermutation-refl, IsPermutation-sym, sum_by-IsPermutation}
 use Rattle.ray_geom.specs.declared.ratio.Ratio.{Ratio}
 use Rattle.ray_geom.specs.Frac.{numerator, denominator}
-use Rattle.ray_geom.specs.Ratio.{parts_of, ratio_of}
+use Rattle.ray_geom.specs.Ratio.{parts_of}
 use Rattle.ray_geom.specs.ObjectRay.{object_of}
 use Rattle.ray_geom.specs.Scene.{IsRay, RayValue}
 use Rattle.ray_prune.specs.BoxSpan.{IsInside}
@@ -18,12 +17,11 @@ use Rattle.ray_stated.specs.Order.{stated_order}
 use Rattle.ray_stated.specs.Stated.{stated_tree}
 use Rattle.ray_tree.specs.Trees.{TreeOver, items_below, shape_at}
 use Rattle.ray_geom.specs.Boxes.{BoxValue}
-use Rattle.ray_geometries.specs.Contents.{ContentsValue as BottomContents}
 use Rattle.ray_bottom.proofs.Places.{items-few}
-use Rattle.ray_bottom.specs.Slots.{AreSound, IsSound, Slots, structure_at}
+use Rattle.ray_bottom.specs.Slots.{AreSound, Slots, structure_at}
 use Rattle.ray_bottom.specs.Trees.{BottomWithTree, items_of, place_at, without_tree}
 use Rattle.ray_top.specs.Instances.{InstanceValue}
-use Rattle.ray_top.specs.Contents.{ContentsValue as TopContents, IsActive, IsInstance, IsTop, TopValue}
+use Rattle.ray_top.specs.Contents.{IsActive, IsInstance, IsTop, TopValue}
 use Rattle.ray_query.specs.declared.candidate.Candidate.{Candidate}
 use Rattle.ray_query.specs.declared.commit.Commit.{Commit}
 use Rattle.ray_query.specs.declared.decision.Decision.{Decision}
@@ -34,7 +32,7 @@ use Rattle.ray_query.specs.Play.{play, start}
 use Rattle.ray_query.proofs.Members.{Member, Member-flat_map, Member-permuted}
 use Rattle.ray_query.proofs.Orders.{Each}
 use Rattle.ray_query.proofs.Rising.{in_key_order-same}
-use Rattle.ray_candidates.specs.Candidates.{Structures, active_instance, candidates, found_in, found_in_instance, found_in_structure, is_seen, joined, trace_answer}
+use Rattle.ray_candidates.specs.Candidates.{active_instance, candidates, found_in, found_in_instance, found_in_structure, is_seen, joined, trace_answer}
 use Rattle.ray_candidates.specs.Placements.{IsWellPlaced, Placement, found_by_item}
 use Rattle.ray_candidates.specs.Standing.{AreStanding, structures_in}
 use Rattle.ray_candidates.specs.Telling.{IsPlaceable}
@@ -46,7 +44,7 @@ use Rattle.ray_candidates.proofs.Placing.{All-at, placeable_at}
 use Rattle.ray_candidates.proofs.Spread.{joined-permuted}
 use Rattle.ray_candidates.proofs.StructureFound.{bottom-found}
 use Rattle.ray_cert.specs.Certificates.{CertValue, Supports, cert_of, name_of}
-use Rattle.ray_cert.specs.Parts.{Part, part_of, parts_at, parts_by, parts_from, parts_of_ray, placement_of, tree_of}
+use Rattle.ray_cert.specs.Parts.{Part, part_of, parts_at, parts_by, parts_of_ray, placement_of, tree_of}
 use Rattle.ray_cert.specs.PlayLaw.{IsUpTo}
 use Rattle.ray_cert.proofs.BelowNodes.{root_held}
 use Rattle.ray_cert.proofs.Supporting.{answer-supported, supported-answer}

@@ -21,7 +21,7 @@ use Rattle.ray_tree.proofs.NodeLaws.{at_inner, at_leaf}
 use Rattle.ray_tree.proofs.Under.{shape_zero}
 use Rattle.ray_bottom.specs.Trees.{items_of, place_at}
 use Rattle.ray_query.specs.declared.found.Found.{Found}
-use Rattle.ray_query.specs.Limits.{Holds, IsInOrder}
+use Rattle.ray_query.specs.Limits.{Holds}
 use Rattle.ray_query.proofs.Members.{Each-from_members, Each-member, Member, Member-append, Member-flat_map}
 use Rattle.ray_query.proofs.Orders.{Each, Each-from_All}
 use Rattle.ray_candidates.specs.Placements.{IsWellPlaced, Placement, entry_in, found_by_item}

@@ -14,7 +14,7 @@ use Rattle.ray_candidates.specs.Candidates.{joined}
 use Rattle.ray_candidates.specs.Placements.{Placement}
 use Rattle.ray_candidates.proofs.Aligned.{joined-range}
 use Rattle.ray_cert.specs.declared.named.Named.{Named}
-use Rattle.ray_cert.specs.Certificates.{CertValue, cert_of, digits_of, limit_of, name_of}
+use Rattle.ray_cert.specs.Certificates.{CertValue, digits_of, limit_of, name_of}
 use Rattle.ray_cert.specs.Checking.{strings_by}
 use Rattle.ray_cert.specs.Laws.{IsMadeOf}
 use Rattle.ray_cert.specs.Parts.{parts_at, parts_by, parts_of_ray, placement_at}

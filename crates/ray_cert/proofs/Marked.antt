@@ -1,5 +1,5 @@
 -- The digits that are taken spell a cutting, and each cutting is taken by its digits.
-use Rattle.std.proofs.Common.{suc, ◌≡◌, ◌∙◌, refl, sym, ap, subst, ℕ, Bool, true, false, if◌then◌else◌, List, [], ◌∷◌, ◌++◌, Option, Some, None, option_map, option_and_then, All, ◌+◌, append_assoc, append-nil, arith}
+use Rattle.std.proofs.Common.{suc, ◌≡◌, ◌∙◌, refl, sym, ap, ℕ, Bool, true, false, if◌then◌else◌, List, [], ◌∷◌, ◌++◌, Option, Some, None, option_map, option_and_then, All, append_assoc, append-nil, arith}
 use Rattle.std.specs.Prelude.{IfSome}
 use Rattle.std.specs.List.{flat_map}
 use Rattle.std.proofs.lemmas.List.Elements.{All-append, All-cons, All-nil}
@@ -9,7 +9,7 @@ use Rattle.ray_tree.specs.Trees.{shape_at}
 use Rattle.ray_tree.proofs.LeastLists.{All-second}
 use Rattle.ray_query.specs.declared.found.Found.{Found}
 use Rattle.ray_cert.specs.Certificates.{AreCutsOf, IsCutOf, is_met, tested_in, tested_in_part}
-use Rattle.ray_cert.specs.Checking.{Taken, behind, both_by, cut_off, found_taken, gathered_from, items_taken, refused, taken_of, whole_of}
+use Rattle.ray_cert.specs.Checking.{Taken, behind, both_by, cut_off, found_taken, gathered_from, refused, taken_of, whole_of}
 use Rattle.ray_cert.specs.Cuttings.{Bare, Cutting, Fits, Shut, Split, Tested, marks, shut_of, tested_of}
 use Rattle.ray_cert.specs.Parts.{Part}
 

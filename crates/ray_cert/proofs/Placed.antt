@@ -1,5 +1,5 @@
 -- The place of an item, geometry by geometry.
-use Rattle.std.proofs.Common.{◌≡◌, ◌∙◌, ◌+◌, ◌-◌, ◌<◌, ◌≤◌, refl, sym, ap, ℕ, suc, zero, List, [], ◌∷◌, ◌++◌, Option, Some, None, length, drop, get_or, map, option_map, slice_get, arith}
+use Rattle.std.proofs.Common.{◌≡◌, ◌∙◌, ◌+◌, ◌-◌, ◌<◌, ◌≤◌, refl, sym, ap, ℕ, suc, zero, List, [], ◌∷◌, ◌++◌, Some, length, drop, get_or, map, option_map, slice_get, arith}
 use Rattle.std.specs.List.{range_with_len}
 use Rattle.std.proofs.lemmas.List.{get_or-map, length-map}
 use Rattle.std.proofs.lemmas.List.FromFn.{get_or-range_with_len, length-range_with_len}
@@ -79,10 +79,3 @@ place-left gs k count p at told here above =
     ∙ (ap (λ hs. place_from k hs p) rest.is
     ∙ (place-later k rest.first (drop (k + 1) gs) p (omega (arith, many, above))
     ∙ ap (λ n. place_from (k + 1) (drop (k + 1) gs) (p - n)) many))
-
-drop-all : {X : Type 0} (xs : List X) → drop (length xs) xs ≡ []
-drop-all [] = refl
-drop-all (x ∷ xs) = drop-all xs
-
-pub place-none : (gs : List Geometry) (p : ℕ) (at : PrimPlace) → at ≡ place_from (length gs) (drop (length gs) gs) p → place_of 0 0 ≡ at
-place-none gs p at here = sym (here ∙ ap (λ hs. place_from (length gs) hs p) (drop-all gs))

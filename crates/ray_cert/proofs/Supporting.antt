@@ -1,5 +1,5 @@
 -- A certificate that supports its hit names the answer, and the one that is made of the answer supports it: over any sound parts.
-use Rattle.std.proofs.Common.{◌≡◌, ◌∙◌, refl, sym, ap, subst, ℕ, Bool, true, false, if◌then◌else◌, List, [], ◌∷◌, ◌++◌, All, Option, Some, None, option_map, map, inl, inr, arith}
+use Rattle.std.proofs.Common.{◌≡◌, ◌∙◌, refl, sym, ap, subst, ℕ, Bool, true, false, if◌then◌else◌, List, [], ◌∷◌, All, Option, Some, None, option_map, map}
 use Rattle.std.proofs.lemmas.List.Elements.{All-append, All-cons, All-nil}
 use Rattle.ray_geom.specs.declared.ratio.Ratio.{Ratio}
 use Rattle.ray_flags.specs.declared.ray_flags.RayFlags.{RayFlags}
@@ -16,9 +16,8 @@ use Rattle.ray_query.proofs.Members.{All-from_Each, Contains-from_Member, Each-f
 use Rattle.ray_query.proofs.Orders.{Each}
 use Rattle.ray_query.proofs.Rising.{Rises-in_key_order, in_key_order-has, in_key_order-keeps}
 use Rattle.ray_candidates.proofs.Order.{KeysRise-from_Rises}
-use Rattle.ray_cert.specs.declared.named.Named.{Named}
 use Rattle.ray_cert.specs.Certificates.{AreCutsOf, CertValue, SupportsOver, digits_of, is_met, limit_of, name_of, tested_in}
-use Rattle.ray_cert.specs.Cuttings.{Cutting, Fits, Shut, Split, Tested, cut_by, marks, shut_of}
+use Rattle.ray_cert.specs.Cuttings.{Cutting, Fits, Shut, Split, Tested, cut_by, shut_of}
 use Rattle.ray_cert.specs.Parts.{Part}
 use Rattle.ray_cert.specs.PlayLaw.{AreUpTo, HaveSameUpTo, IsUpTo, committed_limit}
 use Rattle.ray_cert.proofs.Commits.{plays-alike}

@@ -1,9 +1,9 @@
 -- One step along a tree: what digits give at a node, and which digits are made of one.
-use Rattle.std.proofs.Common.{◌≡◌, ◌∙◌, ◌+◌, ◌<◌, ◌≤◌, refl, sym, ap, subst, ℕ, suc, zero, Bool, true, false, if◌then◌else◌, List, [], ◌∷◌, ◌++◌, Option, Some, None, option_map, length, take, drop, append-nil, append_assoc, arith}
+use Rattle.std.proofs.Common.{◌≡◌, ◌∙◌, ◌+◌, ◌<◌, ◌≤◌, refl, sym, ap, ℕ, suc, zero, Bool, true, false, if◌then◌else◌, List, [], ◌∷◌, ◌++◌, Option, Some, None, option_map, length, take, drop, append-nil, append_assoc, arith}
 use Rattle.std.specs.Prelude.{Err, IfOk, Ok, Result}
 use Rattle.ray_tree.specs.declared.node.Node.{Node}
 use Rattle.ray_tree.specs.declared.node.Node.TheVariants as nodes
-use Rattle.ray_tree.specs.Shapes.{Fork, Gone, Shape, grow, levels, node_at, shape_in}
+use Rattle.ray_tree.specs.Shapes.{Gone, grow, levels, node_at, shape_in}
 use Rattle.ray_tree.specs.Trees.{IsShape, TreeValue, shape_at}
 use Rattle.ray_tree.proofs.Under.{shape_zero}
 use Rattle.ray_tree.proofs.NodeLaws.{at_inner, unfolds}

@@ -1,5 +1,5 @@
 -- What is found up to a limit is found of the leaves that are tested, where what is cut off isn't met up to it.
-use Rattle.std.proofs.Common.{◌≡◌, ◌∙◌, refl, sym, ap, subst, ℕ, Bool, false, ◌+◌, ◌≤◌, List, [], ◌∷◌, ◌++◌, All, Option, Some, None, inl, inr, sum_by, arith}
+use Rattle.std.proofs.Common.{◌≡◌, ◌∙◌, sym, ap, subst, ℕ, Bool, false, ◌+◌, ◌≤◌, List, [], ◌∷◌, ◌++◌, All, Option, Some, inl, inr, sum_by, arith}
 use Rattle.std.specs.List.{flat_map}
 use Rattle.std.proofs.lemmas.Grind.{flat_map-append}
 use Rattle.std.proofs.lemmas.List.Sums.{sum_by-append}
@@ -13,8 +13,8 @@ use Rattle.ray_query.specs.KeyOrder.{AreApart, has_key}
 use Rattle.ray_query.specs.Limits.{Holds, IsInOrder, is_open, is_within}
 use Rattle.ray_query.proofs.Members.{Each-member, Member, Member-append, Member-append_left, Member-append_right}
 use Rattle.ray_query.proofs.Orders.{Each, never, shut-beyond}
-use Rattle.ray_cert.specs.Certificates.{AreCutsOf, IsCutOf, is_met, tested_in, tested_in_part}
-use Rattle.ray_cert.specs.Cuttings.{Bare, Cutting, Fits, Shut, Split, Tested, marks, shut_of, tested_of}
+use Rattle.ray_cert.specs.Certificates.{AreCutsOf, tested_in, tested_in_part}
+use Rattle.ray_cert.specs.Cuttings.{Bare, Cutting, Fits, Shut, Split, Tested, shut_of, tested_of}
 use Rattle.ray_cert.specs.Parts.{Part}
 use Rattle.ray_cert.specs.PlayLaw.{IsUpTo}
 use Rattle.ray_cert.proofs.BelowNodes.{AreHeld}

@@ -3,7 +3,7 @@
 -- By hand: a tree of one leaf, `Tip 0 0 1`, has two cuttings. `Shut` is spelled 0, `Tested` is spelled 1. In a tree whose root has two
 -- leaves, 1 0 1 is the cutting whose right leaf alone is tested; 1 1 spells none, since the right child's digit is missing, and 0 1
 -- none, since nothing follows a 0.
-use Rattle.std.specs.Prelude.{ℕ, ◌≡◌, ◌++◌, Bool, true, false, if◌then◌else◌, List, [], ◌∷◌, take, drop}
+use Rattle.std.specs.Prelude.{ℕ, ◌++◌, Bool, true, false, if◌then◌else◌, List, [], ◌∷◌, take, drop}
 use Rattle.ray_tree.specs.Shapes.{Shape, Gone, Tip, Fork}
 
 -- nothing, of a tree without nodes; a node that is cut off; a leaf whose items are tested; an inner node that is opened

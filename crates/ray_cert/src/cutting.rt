@@ -30,16 +30,15 @@ fn digit_at(digits: &[bool], at: usize) -> Digit
     if at == digits.len() {
         return Digit::End;
     }
-    if digits[at] { Digit::Opened } else { Digit::Shut }
+    if digits[at] {
+        Digit::Opened
+    } else {
+        Digit::Shut
+    }
 }
 
 // Adds the items at places of a tree.
-fn add_items(
-    tree: &Tree,
-    first: u32,
-    count: u32,
-    items: &mut Vec<u32>,
-) -> Result<(), NoMemory>
+fn add_items(tree: &Tree, first: u32, count: u32, items: &mut Vec<u32>) -> Result<(), NoMemory>
     requires { first + count ≤ length tree.now.order }
     ensures { OnOk result
         (items.new.items ≡ items.old.items ++ take count (drop first tree.now.order)) }

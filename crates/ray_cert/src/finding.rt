@@ -64,7 +64,10 @@ fn find_item<L: Ledger>(
     ensures step { steps.new ≡ steps.old + 1 }
 {
     let place = place_of_item(bottom, item);
-    add(found, find(bottom, number, instance, place, ray, flags, steps))
+    add(
+        found,
+        find(bottom, number, instance, place, ray, flags, steps),
+    )
 }
 
 // Adds one, if there is one.

@@ -1,4 +1,25 @@
-//! Certificates of hits.
+//! Certificates of hits, and a small checker that says yes only to the hit of testing every
+//! primitive.
+//!
+//! A certificate of a ray names a hit, or none, and has a string of digits for each active instance
+//! whose mask is seen. Along the stated tree of the instance's structure a 1 opens a node, or has
+//! the items of a leaf tested, and a 0 cuts it off. `specs/Certificates` says when it supports its
+//! hit: the strings spell cuttings of the trees, nothing that is cut off is met up to the named
+//! distance, and the play of what is tested commits just what is named.
+//!
+//! - [`Stated`] keeps stated trees by the ids of structures;
+//! - [`make_cert`] gives the certificate of an answer: it supports that answer, whatever the client;
+//! - [`check_cert`] says yes exactly where a certificate supports its hit. What is named is then the
+//!   answer over all candidates, `trace_answer` of ray_candidates. It takes a step for each box and
+//!   for each primitive that it tests, at most five for a digit;
+//! - [`write_cert`] gives the spelling, `line_of` of `specs/Spelling`;
+//! - [`commits_law`] and [`supports_law`] are the laws that this stands on, [`commits_law`] that what
+//!   is committed depends on the candidates up to its distance alone.
+//!
+//! Who believes the checker has to read these definitions, and no walk through trees: the crate
+//! doesn't stand on ray_walk. It stands on ray_candidates (what is found of a primitive), ray_stated
+//! (the trees), ray_query (the play), ray_prune (boxes), ray_top and ray_bottom. Want of memory is
+//! the only error.
 #![tactic(auto)]
 
 mod cert;
@@ -15,8 +36,8 @@ mod stated;
 mod strings;
 mod writing;
 
-pub use checking::check_cert;
 pub use cert::{Cert, Digits};
+pub use checking::check_cert;
 pub use laws::{commits_law, supports_law};
 pub use making::make_cert;
 pub use named::Named;

@@ -127,7 +127,15 @@ pub fn make_cert<L: Ledger>(
     for number in 0..top.len() {
         let instance = top.active_instance(number);
         add_string(
-            alloc, &mut strings, bottoms, trees, instance, ray, mask, &limit, steps,
+            alloc,
+            &mut strings,
+            bottoms,
+            trees,
+            instance,
+            ray,
+            mask,
+            &limit,
+            steps,
         )?;
     }
     Ok(Cert::new(named, strings))

@@ -1,4 +1,4 @@
-use Rattle.std.proofs.Common.{◌∙◌, ◌+◌, arith, drop, length, sym}
+use Rattle.std.proofs.Common.{◌+◌, arith, drop, length, sym}
 use Rattle.ray_tree.specs.Trees.{shape_at}
 use Rattle.ray_cert.specs.Checking.{behind, is_met_in, taken_of}
 use Rattle.ray_cert.proofs.Taking.{end-some, other-taken, lower-left, lower-right, taken-end, taken-leaf, taken-left, taken-right, taken-shut}
@@ -16,9 +16,16 @@ pub take_node-requires-in-Some : goal.take_node-requires-in-Some
 take_node-requires-in-Some g t c κs within =
     let a = c.args in
     let met = is_met_in a.object.now a.limit.now a.tree.now in
-    let less = lower-right met a.tree.now c.shape.ensures a.node c.requires.within c.in-Inner.left c.in-Inner.right (sym c.in-Inner.ensures.value) in
-    (omega (arith, less, c.decreases), (within, (c.in-Inner.ensures.limits.1,
-    end-some (length a.digits.now) c.in-Some.after c.in_ok-take_node-in-Inner.field-0 c.in-Some.is c.in_ok-take_node-in-Inner.ensures.few.to)))
+    let less = lower-right met a.tree.now c.shape.ensures a.node c.requires.within c.in-Inner.left c.in-Inner.right (sym c.in-Inner.ensures.value) in (
+      omega (arith, less, c.decreases),
+      (
+        within,
+        (
+          c.in-Inner.ensures.limits.1,
+          end-some (length a.digits.now) c.in-Some.after c.in_ok-take_node-in-Inner.field-0 c.in-Some.is c.in_ok-take_node-in-Inner.ensures.few.to,
+        ),
+      ),
+    )
 
 pub returns-in-End-clause-value : goal.returns-in-End-clause-value
 returns-in-End-clause-value g t c =

@@ -50,5 +50,5 @@ returns-clause-supported g c =
       is_ray = c.tmax-most.ensures.limits;
     } in
     λ meaning number flags is.
-        subst (Supports meaning a.top.now.contents a.bottoms.now a.ray.now number flags a.mask) (sym (made flags))
-        (made-supports (without_tree a.top.now) a.bottoms.now a.ray.now flags a.mask given meaning number a.commit is)
+    subst (Supports meaning a.top.now.contents a.bottoms.now a.ray.now number flags a.mask) (sym (made flags))
+    (made-supports (without_tree a.top.now) a.bottoms.now a.ray.now flags a.mask given meaning number a.commit is)

@@ -1,4 +1,4 @@
-use Rattle.std.proofs.Common.{arith, length}
+use Rattle.std.proofs.Common.{arith}
 use Rattle.ray_bottom.specs.Trees.{place_at}
 use Rattle.ray_cert.proofs.Placed.{place-found, place-left}
 use Rattle.ray_cert.proofs.places.place_of_item.Goals as goal
