@@ -33,9 +33,9 @@ impl Digits {
     }
 }
 
-/// A certificate of a ray: the hit that it names, if any, and for each active instance whose mask is
-/// seen a string of digits, which says which leaves of its structure's stated tree have to be tested
-/// so that nothing else can be hit sooner (`Supports` of `specs/Certificates`). (Own.)
+/// A certificate of a ray: the hit that it names, if any, and for each active instance whose mask
+/// is seen a string of digits, which says which leaves of its structure's stated tree have to be
+/// tested so that nothing else can be hit sooner (`Supports` of `specs/Certificates`). (Own.)
 #[derive(Drop)]
 pub struct Cert {
     named: Option<Named>,

@@ -73,13 +73,13 @@ fn name_played<C: Client>(
     name_of(query.committed())
 }
 
-/// Whether a certificate supports its hit, for the ray of this number with these flags and this cull
-/// mask, and for this client. Where it does, what it names is what testing every primitive commits.
-/// The structure of each active instance stands under its id, with the bounds that stood beside the
-/// id when `top` was built or last updated, `trees` are the stated trees of these structures, and
-/// `flags` doesn't ask that everything counts as opaque and that nothing does. A step is taken for
-/// each box that is tested, at most one for a digit, and for each primitive that is tested, at most
-/// four for a digit. (Own.)
+/// Whether a certificate supports its hit, for the ray of this number with these flags and this
+/// cull mask, and for this client. Where it does, what it names is what testing every primitive
+/// commits. The structure of each active instance stands under its id, with the bounds that stood
+/// beside the id when `top` was built or last updated, `trees` are the stated trees of these
+/// structures, and `flags` doesn't ask that everything counts as opaque and that nothing does. A
+/// step is taken for each box that is tested, at most one for a digit, and for each primitive that
+/// is tested, at most four for a digit. (Own.)
 ///
 /// # Errors
 ///

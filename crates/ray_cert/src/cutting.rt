@@ -56,8 +56,8 @@ fn shut_at(met: bool, after: usize) -> Option<usize>
 }
 
 // Reads the digits from a place on along what is from a node down, and adds the items of the leaves
-// that they open: the place behind them. None where they spell no cutting, or cut off a node that is
-// met up to the limit. It takes a step for each box that is tested, one for a digit 0.
+// that they open: the place behind them. None where they spell no cutting, or cut off a node that
+// is met up to the limit. It takes a step for each box that is tested, one for a digit 0.
 pub(crate) fn take_node<L: Ledger>(
     tree: &Tree,
     node: u32,

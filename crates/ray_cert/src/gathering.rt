@@ -1,5 +1,5 @@
 //! What is found by all strings of a certificate.
-ghost use Rattle.std.specs.Prelude.{◌≡◌, ◌+◌, ◌*◌, ◌++◌, ◌∷◌, ◌<◌, ◌≤◌, [], IfOk, IfSome, drop, length};
+ghost use Rattle.std.specs.Prelude.{◌≡◌, ◌+◌, ◌*◌, ◌∷◌, ◌<◌, ◌≤◌, [], IfOk, IfSome, drop, length};
 ghost use Rattle.std.specs.Prelude.{option_and_then, option_copied, option_map, slice_get};
 ghost use Rattle.ray_contents.specs.Bounds.{KeepsBounds};
 ghost use Rattle.ray_flags.specs.Admission.{AsksBoth, ForcesBoth};

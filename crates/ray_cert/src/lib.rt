@@ -8,18 +8,18 @@
 //! distance, and the play of what is tested commits just what is named.
 //!
 //! - [`Stated`] keeps stated trees by the ids of structures;
-//! - [`make_cert`] gives the certificate of an answer: it supports that answer, whatever the client;
-//! - [`check_cert`] says yes exactly where a certificate supports its hit. What is named is then the
-//!   answer over all candidates, `trace_answer` of ray_candidates. It takes a step for each box and
-//!   for each primitive that it tests, at most five for a digit;
+//! - [`make_cert`] gives the certificate of an answer: it supports that, whatever the client;
+//! - [`check_cert`] says yes exactly where a certificate supports its hit. What is named is then
+//!   the answer over all candidates, `trace_answer` of ray_candidates. It takes a step for each box
+//!   and for each primitive that it tests, at most five for a digit;
 //! - [`write_cert`] gives the spelling, `line_of` of `specs/Spelling`;
-//! - [`commits_law`] and [`supports_law`] are the laws that this stands on, [`commits_law`] that what
-//!   is committed depends on the candidates up to its distance alone.
+//! - [`supports_law`] is the law that a supported certificate names the answer, [`commits_law`]
+//!   that what is committed depends on the candidates up to its distance alone.
 //!
 //! Who believes the checker has to read these definitions, and no walk through trees: the crate
-//! doesn't stand on ray_walk. It stands on ray_candidates (what is found of a primitive), ray_stated
-//! (the trees), ray_query (the play), ray_prune (boxes), ray_top and ray_bottom. Want of memory is
-//! the only error.
+//! doesn't stand on ray_walk. It stands on ray_candidates (what is found of a primitive),
+//! ray_stated (the trees), ray_query (the play), ray_prune (boxes), ray_top and ray_bottom. Want of
+//! memory is the only error.
 #![tactic(auto)]
 
 mod cert;

@@ -92,10 +92,10 @@ fn add_string<L: Ledger>(
 
 /// The certificate of an answer: it names what was committed, and its digits are 1 exactly where a
 /// node is met at an entry up to the committed distance, or up to the end of the ray where nothing
-/// was. It supports its hit for each ray number, flags and client for which the ray has this answer.
-/// The structure of each active instance stands under its id, with the bounds that stood beside the
-/// id when `top` was built or last updated, and `trees` are the stated trees of these structures.
-/// (Own.)
+/// was. It supports its hit for each ray number, flags and client for which the ray has this
+/// answer. The structure of each active instance stands under its id, with the bounds that stood
+/// beside the id when `top` was built or last updated, and `trees` are the stated trees of these
+/// structures. (Own.)
 ///
 /// # Errors
 ///

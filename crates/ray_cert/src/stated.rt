@@ -1,5 +1,4 @@
-ghost use Rattle.std.specs.Prelude.{◌≡◌, ◌≤◌, ◌==◌, ◌^◌, [], OnErr, OnOk, Some, length, option_copied};
-ghost use Rattle.std.specs.Prelude.{if◌then◌else◌};
+ghost use Rattle.std.specs.Prelude.{◌≡◌, ◌≤◌, ◌^◌, [], OnErr, OnOk, length, option_copied};
 ghost use Rattle.ray_stated.specs.Stated.{stated_tree};
 ghost use Rattle.ray_cert.specs.Parts.{PutsTree, tree_at};
 
@@ -10,8 +9,8 @@ use std::alloc::{AllocError as NoMemory, Global};
 use std::collections::BTreeMap;
 use std::marker::Model;
 
-/// The stated trees of structures, by the structures' ids. Contracts see them as a list of ids, each
-/// with its tree. (Own.)
+/// The stated trees of structures, by the structures' ids. Contracts see them as a list of ids,
+/// each with its tree. (Own.)
 #[derive(Drop)]
 pub struct Stated {
     trees: BTreeMap<u32, Tree>,
