@@ -1,5 +1,5 @@
 -- The places of primitives, geometry by geometry.
-use Rattle.std.proofs.Common.{ℕ, ◌≡◌, ◌+◌, ◌++◌, ◌<◌, ◌≤◌, Bool, true, false, cond, List, [], ◌∷◌, length, take, map, get_or, refl, sym, ap, ◌∙◌, arith, append_assoc}
+use Rattle.std.proofs.Common.{ℕ, ◌≡◌, ◌+◌, ◌++◌, ◌<◌, ◌≤◌, Bool, true, false, cond, List, [], ◌∷◌, length, take, map, get_or, refl, sym, ap, ◌∙◌, ◌^◌, arith, append_assoc}
 use Rattle.std.specs.Prelude.{ltb, Option, None, Some, is_some, count_by}
 use Rattle.std.specs.List.{filter_map, cons_option}
 use Rattle.std.proofs.lemmas.List.Recursion.{is_count_by}
@@ -110,3 +110,7 @@ pub places-alone : (gs : List Geometry) (g : Geometry) (count : ℕ) (numbers : 
     → map (place_in_one count) numbers ≡ map (place_at gs) numbers
 places-alone gs g count numbers one many =
     ap (λ n. map (place_in_one n) numbers) many ∙ (places-one g numbers ∙ ap (λ hs. map (place_at hs) numbers) (sym one))
+
+-- there are at most 2^20 of either
+pub items-within : (gs : List Geometry) (v : List (Option BoxValue)) → v ≡ items_of gs → total_of gs ≤ 2 ^ 20 → length v ≤ 2 ^ 20
+items-within gs v is few = omega (arith, ap length is, items-few gs)

@@ -1,4 +1,4 @@
-ghost use Rattle.std.specs.Prelude.{◌≡◌, ◌↔◌, ◌+◌, ◌<◌, ◌≤◌, All, IfOk, OnOk, IfSome, [], None, Some, length, map, slice_get, option_map};
+ghost use Rattle.std.specs.Prelude.{◌≡◌, ◌↔◌, ◌+◌, ◌<◌, ◌≤◌, ◌^◌, All, IfOk, OnOk, IfSome, [], None, Some, length, map, slice_get, option_map};
 ghost use Rattle.ray_geom.specs.LeastBoxes.{HoldsBoxes, IsLeast};
 ghost use Rattle.ray_bytes.specs.StructureSizes.{compacted_size};
 ghost use Rattle.ray_geometries.specs.Contents.{bounds_of, total_of, active_of, active_boxes};
@@ -13,6 +13,7 @@ ghost use Rattle.ray_tree.specs.Trees.{TreeOver};
 ghost use Rattle.ray_wide.specs.Subtrees.{IsWideLeaf};
 ghost use Rattle.ray_wide.specs.Wides.{WideOver};
 
+use crate::items::items_of;
 use ray_bytes::compacted_of;
 use ray_flags::{BuildFlags, Kind};
 use ray_geom::{Box3, Steps};
@@ -229,6 +230,23 @@ impl Bottom {
         ensures rising { steps.old ≤ steps.new }
     {
         self.contents.payload(alloc, steps)
+    }
+
+    /// The box of each primitive, through all geometries in order; an inactive one has none. They
+    /// are the items of its tree. It takes one step for each of them.
+    pub fn item_boxes<L: Ledger>(
+        &self,
+        alloc: Global,
+        steps: &mut Steps<L>,
+    ) -> Result<Vec<Option<Box3>>, NoMemory>
+        ensures value { IfOk result (λ v. v.items ≡ items_of self.now.geometries) }
+        ensures few { IfOk result (λ v. length v.items ≤ 2 ^ 20) }
+        ensures cost { OnOk result (steps.new ≡ steps.old + total_of self.now.geometries) }
+        ensures rising { steps.old ≤ steps.new }
+    {
+        let total = self.total();
+        count_each(total as usize, steps);
+        items_of(alloc, self.contents.as_slice(), total)
     }
 
     /// Whether a geometry is opaque.

@@ -9,7 +9,8 @@ ghost use Rattle.ray_geometries.specs.Storing.{stored_shapes};
 ghost use Rattle.ray_bottom.specs.Trees.{items_of, without_tree};
 ghost use Rattle.ray_hierarchy.specs.Hierarchies.{IsTreeOf};
 ghost use Rattle.ray_bottom.specs.Updating.{IsUpdateOf};
-ghost use Rattle.ray_tree.specs.Trees.{TreeOver, active_of};
+ghost use Rattle.ray_tree.specs.Shapes.{levels};
+ghost use Rattle.ray_tree.specs.Trees.{TreeOver, active_of, shape_at};
 ghost use Rattle.ray_climb.specs.Refits.{IsRefit};
 
 use crate::bottom::Bottom;
@@ -23,6 +24,7 @@ use ray_leaves::leaf_items_of;
 use ray_primitives::{
     BoxInfo, BuildFault, KeptBox, KeptTriangle, TriangleInfo, read_boxes, read_triangles,
 };
+use ray_tree::Tree;
 use std::alloc::{AllocError as NoMemory, Global};
 use std::marker::Model;
 use std::thread::Threads;
@@ -184,6 +186,40 @@ impl<'a> Builder<'a> {
         let flags = self.contents.flags();
         let active = self.contents.active() as usize;
         let hierarchy = hierarchy_of(rt, self.alloc, self.replaced, flags, items, active)?;
+        let places = places_of(self.alloc, geometries, total, hierarchy.order())?;
+        let leaf_items = leaf_items_of(self.alloc, geometries, &places)?;
+        Ok(Bottom {
+            contents: self.contents,
+            hierarchy,
+            places,
+            leaf_items,
+        })
+    }
+
+    /// The box of each primitive that was added, through all geometries in order; an inactive one
+    /// has none. They are the items over which a tree for [`Builder::finish_with`] stands.
+    pub fn item_boxes(&self) -> Result<Vec<Option<Box3>>, NoMemory>
+        ensures value { IfOk result (λ v. v.items ≡ items_of self.now.contents.geometries) }
+        ensures few { IfOk result (λ v. length v.items ≤ 2 ^ 20) }
+    {
+        let _limits = self.contents.geometries();
+        items_of(self.alloc, self.contents.as_slice(), self.contents.total())
+    }
+
+    /// The structure with the contents and with this tree, which is one over the boxes of its
+    /// primitives, with at most 96 levels. The builder is of a new structure. (Own; for a structure
+    /// whose tree was read from serialized bytes.)
+    pub fn finish_with(self, tree: Tree) -> Result<Bottom, NoMemory>
+        requires anew { IsNew self }
+        requires over { TreeOver tree (items_of self.contents.geometries) }
+        requires low { levels (shape_at tree 0) ≤ 96 }
+        ensures contents { IfOk result (λ b. without_tree b ≡ self.entry.contents) }
+        ensures tree { IfOk result (λ b. b.tree ≡ tree) }
+    {
+        let geometries = self.contents.as_slice();
+        let total = self.contents.total();
+        let _limits = self.contents.geometries();
+        let hierarchy = Hierarchy::of_tree(self.alloc, tree)?;
         let places = places_of(self.alloc, geometries, total, hierarchy.order())?;
         let leaf_items = leaf_items_of(self.alloc, geometries, &places)?;
         Ok(Bottom {

@@ -3,7 +3,8 @@
 //!
 //! The layers above use these:
 //! - [`Builder`], whose calls say by `with_triangles` and `with_boxes` of `specs/Builders` which
-//!   contents it holds, or which data rule a geometry breaks first;
+//!   contents it holds, or which data rule a geometry breaks first, and which ends in a structure
+//!   with a tree of its own or, by `finish_with`, with one that is given;
 //! - [`Bottom`], which contracts see by `specs/Trees` as its contents (`specs/Contents` of
 //!   `ray_geometries`) with its box tree, with its accessors;
 //! - [`Bottoms`], the structures by their ids, with room that is made first.

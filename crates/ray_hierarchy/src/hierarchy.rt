@@ -58,6 +58,19 @@ impl Hierarchy {
         Ok(Hierarchy { tree, wide })
     }
 
+    /// The trees of a binary tree that is given: itself, and the wide tree that it collapses to.
+    /// (Own; for a tree that was read from serialized bytes.)
+    ///
+    /// # Errors
+    ///
+    /// For want of memory alone.
+    pub fn of_tree(alloc: Global, tree: Tree) -> Result<Hierarchy, NoMemory>
+        ensures { IfOk result (λ h. h.tree ≡ tree) }
+    {
+        let wide = collapse(alloc, &tree)?;
+        Ok(Hierarchy { tree, wide })
+    }
+
     /// The trees of an update: where the items, which are at most 2^20, have the activity of this
     /// tree's, these trees refit to them, and else those of a build with the flags. `active` is how
     /// many of them are active.

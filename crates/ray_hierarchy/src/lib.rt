@@ -4,6 +4,7 @@
 //! [`Hierarchy`] is the one type. Contracts see it as both trees. The layers above use these:
 //! - [`Hierarchy::build`], which says by `IsBuilt` of `specs/Hierarchies` what the flags of a build
 //!   come to: a tree by keys where fast builds are preferred, else a tree by halves;
+//! - [`Hierarchy::of_tree`], the trees of a binary tree that is given;
 //! - [`Hierarchy::updated`], which says by `IsUpdated` what an update comes to: the old tree refit,
 //!   where the items have its activity, and else a tree that is built anew;
 //! - [`Hierarchy::tree`], [`Hierarchy::wide`] and [`Hierarchy::order`], what it is.
