@@ -1,8 +1,10 @@
 -- The steps of the loops over geometries.
-use Rattle.std.proofs.Common.{ℕ, suc, ◌≡◌, ◌<◌, ◌+◌, ◌-◌, ◌==◌, ◌&&◌, Bool, true, false, List, length, Option, Some, None, refl, sym, ap, ◌∙◌, arith}
-use Rattle.std.specs.Prelude.{is_some, if◌then◌else◌}
-use Rattle.ray_form.specs.Heads.{count_in, is_geometry, geometry_in}
-use Rattle.ray_form.specs.Rows.{after_first, are_geometries, total_in, row_total, with_first, geometries_in}
+use Rattle.std.proofs.Common.{ℕ, suc, ◌≡◌, ◌<◌, ◌≤◌, ◌+◌, ◌-◌, ◌==◌, ◌&&◌, Bool, true, false, List, length, Option, Some, None, refl, sym, ap, ◌∙◌, arith}
+use Rattle.std.specs.Prelude.{is_some, nat_le, if◌then◌else◌}
+use Rattle.std.proofs.lemmas.Bool.Decides.{nat_tests}
+use Rattle.std.proofs.lemmas.List.{length-drop}
+use Rattle.ray_form.specs.Heads.{count_in, geometry_size, is_whole, is_geometry, geometry_in}
+use Rattle.ray_form.specs.Rows.{after_first, are_geometries, total_in, row_total, row_size, with_first, geometries_in}
 
 -- elements before, and those of the geometries that follow
 abbrev pub more_elements : ℕ → Option ℕ → Option ℕ
@@ -70,3 +72,39 @@ pub sound_stops : (i n : ℕ) (rest : List ℕ) → i < n → is_some (geometry_
 sound_stops i n rest below e =
     lacks_first (geometry_in rest) (geometries_in (n - (i + 1)) (after_first rest)) e
     ∙ ap (λ m. is_some (geometries_in m rest)) (sym (fewer i n below))
+
+-- ---- how many bytes
+
+first_taken : (whole : Bool) (size left : ℕ) → whole ≡ true → (if whole then size + left else 0) ≡ size + left
+first_taken true size left e = refl
+first_taken false size left e = absurd cc
+
+both : (a b : Bool) → (a && b) ≡ true → b ≡ true
+both true b e = e
+both false b e = absurd cc
+
+at_most : (a b : ℕ) → nat_le a b ≡ true → a ≤ b
+at_most a b e = grind (arith, nat_tests)
+
+whole_within : (rest : List ℕ) → is_whole rest ≡ true → geometry_size rest ≤ length rest
+unfolding is_whole
+whole_within rest e = at_most (geometry_size rest) (length rest) (both (nat_le 32 (length rest)) (nat_le (geometry_size rest) (length rest)) e)
+
+length-after_first : (rest : List ℕ) → length (after_first rest) ≡ length rest - geometry_size rest
+unfolding after_first
+length-after_first rest = length-drop (geometry_size rest) rest
+
+-- what is gone past after one geometry more
+pub record IsGonePast (n i : ℕ) (bytes rest : List ℕ) : Type 0 where
+  pub size : length bytes + row_size (n - i) rest ≡ row_size n bytes + length rest
+  pub within : length rest ≤ length bytes
+
+pub size_goes_on : (n i : ℕ) (bytes rest : List ℕ) → i < n → is_whole rest ≡ true → length bytes + row_size (n - i) rest ≡ row_size n bytes + length rest
+    → length rest ≤ length bytes → IsGonePast n (i + 1) bytes (after_first rest)
+size_goes_on n i bytes rest below whole so_far within =
+    let here = whole_within rest whole in
+    let left = length-after_first rest in
+    let step : row_size (n - i) rest ≡ geometry_size rest + row_size (n - (i + 1)) (after_first rest) =
+    ap (λ m. row_size m rest) (fewer i n below)
+    ∙ first_taken (is_whole rest) (geometry_size rest) (row_size (n - (i + 1)) (after_first rest)) whole in
+    record { size = omega arith; within = omega arith }

@@ -3,20 +3,22 @@
 -- and the three sizes that Vulkan places after it.)
 --
 --     0        the 16 bytes of the text 'vkray-software-1'
---     16       the 16 bytes of the text 'vkray-form-00001'
+--     16       the 16 bytes of the text 'vkray-form-00001', or 'vkray-form-00002' in form 2
 --     32       the serialized size in 64 bits: all bytes of the form
 --     40       the deserialized size in 64 bits: the size of the structure
 --     48       the count h of handles in 64 bits; 0 for a bottom structure
 --     56       h handles of 64 bits
 --     56 + 8 h the payload: four words of 32 bits, which are the number of its kind (0 a bottom, 1 a top), its build flags,
 --              its count of geometries and 0; and its geometries, each with its head and its elements
+--     then     in form 2 a tree part (`specs/TreeParts` of `ray_tree_part`)
 use Rattle.std.specs.Prelude.{ℕ, ◌+◌, ◌*◌, ◌==◌, ◌&&◌, ◌||◌, not, nat_eq, nat_le, nat_lt, Bool, if◌then◌else◌, Option, Some, None, is_none, List, codes, length, take, drop}
 use Rattle.std.specs.Cmp.Lexicographic.{pointwise}
 use Rattle.ray_bytes.specs.Fields.{word_at, long_at}
 use Rattle.ray_bytes.specs.StructureSizes.{structure_size}
 use Rattle.ray_flags.specs.declared.build_flags.BuildFlags.{BuildFlags}
 use Rattle.ray_top.specs.Contents.{has_both_fast}
-use Rattle.ray_form.specs.Rows.{row_total, geometries_in}
+use Rattle.ray_tree_part.specs.TreeParts.{is_part}
+use Rattle.ray_form.specs.Rows.{row_total, row_size, geometries_in}
 use Rattle.ray_form.specs.InstanceBytes.{are_instances}
 
 -- ---- the parts
@@ -27,14 +29,26 @@ device_text = codes "vkray-software-1"
 abbrev pub form_text : List ℕ
 form_text = codes "vkray-form-00001"
 
+abbrev pub form_2_text : List ℕ
+form_2_text = codes "vkray-form-00002"
+
+-- a text isn't the one that stands here
+unfoldable pub lacks : List ℕ → ℕ → List ℕ → Bool
+lacks text at bytes = not (pointwise nat_eq (take 16 (drop at bytes)) text)
+
+-- whether they are in form 2, which has a tree part after the elements
+unfoldable pub has_tree : List ℕ → Bool
+has_tree bytes = not (lacks form_2_text 16 bytes)
+
 -- how many handles there are
 unfoldable pub handle_count_in : List ℕ → ℕ
 handle_count_in bytes = long_at bytes 48
 
--- the payload, and its head: whether it is that of a top structure, its flags, and its count of geometries
-unfoldable pub payload_in : List ℕ → List ℕ
-payload_in bytes = drop (56 + 8 * handle_count_in bytes) bytes
+-- what follows the handles
+unfoldable pub body_in : List ℕ → List ℕ
+body_in bytes = drop (56 + 8 * handle_count_in bytes) bytes
 
+-- the head of a payload: whether it is that of a top structure, its flags, and its count of geometries
 unfoldable pub is_top_payload : List ℕ → Bool
 is_top_payload payload = word_at payload 0 == 1
 
@@ -48,6 +62,20 @@ geometry_count payload = word_at payload 8
 unfoldable pub row_of : List ℕ → List ℕ
 row_of payload = drop 16 payload
 
+-- how many bytes the payload takes where others follow it: its head, and its geometries
+unfoldable pub payload_size : List ℕ → ℕ
+payload_size body = 16 + row_size (geometry_count body) (row_of body)
+
+-- the payload, which is followed by the tree part in form 2 and by nothing in form 1; and the tree part
+abbrev pub payload_of_body : Bool → List ℕ → List ℕ
+payload_of_body tree body = if tree then take (payload_size body) body else body
+
+unfoldable pub payload_in : List ℕ → List ℕ
+payload_in bytes = payload_of_body (has_tree bytes) (body_in bytes)
+
+unfoldable pub tree_part_in : List ℕ → List ℕ
+tree_part_in bytes = drop (payload_size (body_in bytes)) (body_in bytes)
+
 -- the instances of a top structure, which stand after the head of its geometry
 unfoldable pub instances_of_payload : List ℕ → List ℕ
 instances_of_payload payload = drop 48 payload
@@ -58,9 +86,9 @@ instances_of_payload payload = drop 48 payload
 abbrev pub is_short : List ℕ → Bool
 is_short bytes = nat_lt (length bytes) 56
 
--- lines 2 and 3: a text isn't the one that stands here
-unfoldable pub lacks : List ℕ → ℕ → List ℕ → Bool
-lacks text at bytes = not (pointwise nat_eq (take 16 (drop at bytes)) text)
+-- line 3: the second text is that of neither form
+unfoldable pub has_other_form : List ℕ → Bool
+has_other_form bytes = lacks form_text 16 bytes && not (has_tree bytes)
 
 -- line 4: the serialized size isn't the number of bytes
 unfoldable pub has_other_size : List ℕ → Bool
@@ -104,6 +132,10 @@ total_of_payload handles payload =
     else None)
     else None
 
+-- form 2 is that of a top structure, or what follows the elements hasn't the size of a tree part
+unfoldable pub ends_wrongly : List ℕ → Bool
+ends_wrongly bytes = has_tree bytes && (is_top_payload (payload_in bytes) || not (is_part (tree_part_in bytes)))
+
 -- line 7: the deserialized size isn't that of a structure of its geometries and elements
 unfoldable pub has_other_structure_size : ℕ → ℕ → ℕ → Bool
 has_other_structure_size size geometries total = not (size == structure_size geometries total)
@@ -132,13 +164,14 @@ payload_line bytes None = Some 6
 payload_line bytes (Some total) = broken_contents_line bytes total
 
 unfoldable pub broken_payload_line : List ℕ → Option ℕ
-broken_payload_line bytes = payload_line bytes (total_of_payload (handle_count_in bytes) (payload_in bytes))
+broken_payload_line bytes =
+    line 6 (ends_wrongly bytes) (payload_line bytes (total_of_payload (handle_count_in bytes) (payload_in bytes)))
 
 unfoldable pub broken_line : List ℕ → Option ℕ
 broken_line bytes =
     line 1 (is_short bytes)
     (line 2 (lacks device_text 0 bytes)
-    (line 3 (lacks form_text 16 bytes)
+    (line 3 (has_other_form bytes)
     (line 4 (has_other_size bytes)
     (line 5 (lacks_room bytes)
     (broken_payload_line bytes)))))

@@ -2,7 +2,7 @@
 -- (Own: the layout.)
 use Rattle.std.specs.Prelude.{ℕ, zero, suc, ◌+◌, ◌==◌, ◌&&◌, Bool, if◌then◌else◌, Option, Some, None, List, [], ◌∷◌, length, drop}
 use Rattle.ray_geometries.specs.declared.geometry.Geometry.{Geometry}
-use Rattle.ray_form.specs.Heads.{count_in, geometry_size, is_geometry, geometry_in}
+use Rattle.ray_form.specs.Heads.{count_in, geometry_size, is_whole, is_geometry, geometry_in}
 
 -- what follows the first geometry
 unfoldable pub after_first : List ℕ → List ℕ
@@ -21,6 +21,11 @@ total_in (suc n) rest = count_in rest + total_in n (after_first rest)
 -- the same where n geometries of this kind fill the bytes
 abbrev pub row_total : ℕ → ℕ → List ℕ → Option ℕ
 row_total kind n rest = if are_geometries kind n rest then Some (total_in n rest) else None
+
+-- how many bytes the first n geometries take; those that are whole, where not all are
+abbrev pub row_size : ℕ → List ℕ → ℕ
+row_size zero rest = 0
+row_size (suc n) rest = if is_whole rest then geometry_size rest + row_size n (after_first rest) else 0
 
 -- one value in front of others, where all are there
 abbrev pub with_first : {X : Type 0} → Option X → Option (List X) → Option (List X)

@@ -37,7 +37,7 @@ pub(crate) fn count_in(rest: &[u8]) -> u32
 
 // The size of its elements.
 #[tactic(auto, unfolding(crate::specs::Heads::elements_size))]
-fn elements_size(rest: &[u8]) -> u64
+pub(crate) fn elements_size(rest: &[u8]) -> u64
     requires { 32 ≤ length rest.now }
     ensures value { result ≡ elements_size rest.now }
     ensures limits { result < 2 ^ 40 }
@@ -83,7 +83,7 @@ fn is_head(kind: u32, rest: &[u8]) -> bool
 
 // Whether a head and all its elements are there.
 #[tactic(auto, unfolding(crate::specs::Heads::is_whole))]
-fn is_whole(rest: &[u8]) -> bool
+pub(crate) fn is_whole(rest: &[u8]) -> bool
     ensures value { result ≡ is_whole rest.now }
     ensures room { OnTrue result (32 ≤ length rest.now) }
 {

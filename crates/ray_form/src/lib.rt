@@ -5,7 +5,8 @@
 //! the calls that give the parts of a form, each by the word of `specs/Form`, `specs/Heads` or
 //! `specs/InstanceBytes` of its name.
 //!
-//! It stands on `ray_geometries` (geometries as they are stored), `ray_top` (instances),
+//! It stands on `ray_geometries` (geometries as they are stored), `ray_tree_part` (the tree of form
+//! 2), `ray_top` (instances),
 //! `ray_contents`, `ray_bytes` and `ray_flags`.
 #![tactic(auto)]
 
@@ -21,8 +22,8 @@ pub use crate::fields::long;
 pub use crate::geometry::{after_first, stored};
 pub use crate::instances::record_of;
 pub use crate::lines::{
-    broken_line, flags_of_payload, geometry_count, handle_count_in, instances_of_payload,
-    is_top_payload, payload_in, row_of,
+    broken_line, flags_of_payload, geometry_count, handle_count_in, has_tree, instances_of_payload,
+    is_top_payload, payload_in, row_of, tree_part_in,
 };
 pub use crate::serial_fault::SerialFault;
-pub use crate::texts::{DEVICE, FORM};
+pub use crate::texts::{DEVICE, FORM, FORM_2};

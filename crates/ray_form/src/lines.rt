@@ -1,5 +1,7 @@
-ghost use Rattle.std.specs.Prelude.{◌≡◌, ◌≤◌, false, length};
+ghost use Rattle.std.specs.Prelude.{◌≡◌, ◌≤◌, false, length, take};
 ghost use Rattle.ray_top.specs.Contents.{has_both_fast};
+ghost use Rattle.ray_form.specs.Form.{has_tree, has_other_form, body_in, payload_size};
+ghost use Rattle.ray_form.specs.Form.{tree_part_in, ends_wrongly};
 ghost use Rattle.ray_form.specs.Form.{handle_count_in, payload_in, is_top_payload};
 ghost use Rattle.ray_form.specs.Form.{flags_of_payload, instances_of_payload};
 ghost use Rattle.ray_form.specs.Rows.{row_total};
@@ -11,11 +13,12 @@ ghost use Rattle.ray_form.specs.Form.{broken_payload_line, broken_line};
 
 use crate::fields::{long, word};
 use crate::instances::are_instances;
-use crate::rows::{are_sound, row_total};
-use crate::texts::{DEVICE, FORM, lacks};
+use crate::rows::{are_sound, row_size, row_total};
+use crate::texts::{DEVICE, FORM, FORM_2, lacks};
 use bitflags::Flags;
 use ray_bytes::sizes_of;
 use ray_flags::BuildFlags;
+use ray_tree_part::is_part;
 
 /// The first of the eight lines of faults that bytes break.
 #[tactic(auto, unfolding(crate::specs::Form::broken_line))]
@@ -28,7 +31,7 @@ pub fn broken_line(bytes: &[u8]) -> Option<u8>
     if lacks(&DEVICE, 0, bytes) {
         return Some(2);
     }
-    if lacks(&FORM, 16, bytes) {
+    if has_other_form(bytes) {
         return Some(3);
     }
     if has_other_size(bytes) {
@@ -38,6 +41,24 @@ pub fn broken_line(bytes: &[u8]) -> Option<u8>
         return Some(5);
     }
     broken_payload_line(bytes)
+}
+
+/// Whether they are in form 2, which has a tree part after the elements.
+#[tactic(auto, unfolding(crate::specs::Form::has_tree))]
+pub fn has_tree(bytes: &[u8]) -> bool
+    requires { 56 ≤ length bytes.now }
+    ensures { result ≡ has_tree bytes.now }
+{
+    !lacks(&FORM_2, 16, bytes)
+}
+
+// Whether the second text is that of neither form.
+#[tactic(auto, unfolding(crate::specs::Form::has_other_form))]
+fn has_other_form(bytes: &[u8]) -> bool
+    requires { 56 ≤ length bytes.now }
+    ensures { result ≡ has_other_form bytes.now }
+{
+    lacks(&FORM, 16, bytes) && !has_tree(bytes)
 }
 
 // Whether the serialized size isn't the number of bytes.
@@ -68,16 +89,65 @@ fn lacks_room(bytes: &[u8]) -> bool
     count > 65_536 || (bytes.len() as u64) < 56 + 8 * count + 16
 }
 
-/// The payload.
-#[tactic(auto, unfolding(crate::specs::Form::payload_in, crate::specs::Form::lacks_room))]
+// What follows the handles.
+#[tactic(auto, unfolding(crate::specs::Form::body_in, crate::specs::Form::lacks_room))]
+fn body_in(bytes: &[u8]) -> &[u8]
+    requires whole { 56 ≤ length bytes.now }
+    requires room { lacks_room bytes.now ≡ false }
+    ensures value { result.now ≡ body_in bytes.now }
+    ensures limits { 16 ≤ length result.now }
+{
+    let (_, body) = bytes.split_at(56 + 8 * handle_count_in(bytes) as usize);
+    body
+}
+
+// How many bytes the payload takes where others follow it.
+#[tactic(auto, unfolding(crate::specs::Form::payload_size, crate::specs::Form::row_of))]
+fn payload_size(body: &[u8]) -> usize
+    requires { 16 ≤ length body.now }
+    ensures value { result ≡ payload_size body.now }
+    ensures least { 16 ≤ result }
+    ensures limits { result ≤ length body.now }
+{
+    16 + row_size(geometry_count(body), row_of(body))
+}
+
+/// The payload, without the tree part that follows it in form 2.
+#[tactic(auto, unfolding(crate::specs::Form::payload_in))]
 pub fn payload_in(bytes: &[u8]) -> &[u8]
     requires whole { 56 ≤ length bytes.now }
     requires room { lacks_room bytes.now ≡ false }
     ensures value { result.now ≡ payload_in bytes.now }
     ensures limits { 16 ≤ length result.now }
 {
-    let (_, payload) = bytes.split_at(56 + 8 * handle_count_in(bytes) as usize);
-    payload
+    let body = body_in(bytes);
+    if has_tree(bytes) {
+        front_of(body)
+    } else {
+        body
+    }
+}
+
+// The payload, where others follow it.
+fn front_of(body: &[u8]) -> &[u8]
+    requires { 16 ≤ length body.now }
+    ensures value { result.now ≡ take (payload_size body.now) body.now }
+    ensures limits { 16 ≤ length result.now }
+{
+    let (front, _) = body.split_at(payload_size(body));
+    front
+}
+
+/// The tree part, which follows the payload in form 2.
+#[tactic(auto, unfolding(crate::specs::Form::tree_part_in))]
+pub fn tree_part_in(bytes: &[u8]) -> &[u8]
+    requires whole { 56 ≤ length bytes.now }
+    requires room { lacks_room bytes.now ≡ false }
+    ensures { result.now ≡ tree_part_in bytes.now }
+{
+    let body = body_in(bytes);
+    let (_, part) = body.split_at(payload_size(body));
+    part
 }
 
 /// Whether it is that of a top structure.
@@ -218,6 +288,17 @@ fn total_of_payload(handles: u64, payload: &[u8]) -> Option<u32>
     }
 }
 
+// Whether form 2 is that of a top structure, or what follows the elements hasn't the size of a tree
+// part.
+#[tactic(auto, unfolding(crate::specs::Form::ends_wrongly))]
+fn ends_wrongly(bytes: &[u8]) -> bool
+    requires whole { 56 ≤ length bytes.now }
+    requires room { lacks_room bytes.now ≡ false }
+    ensures { result ≡ ends_wrongly bytes.now }
+{
+    has_tree(bytes) && (is_top_payload(payload_in(bytes)) || !is_part(tree_part_in(bytes)))
+}
+
 // Whether the deserialized size isn't that of a structure of these geometries and elements.
 #[tactic(auto, unfolding(crate::specs::Form::has_other_structure_size))]
 fn has_other_structure_size(size: u64, geometries: u32, total: u32) -> bool
@@ -263,6 +344,9 @@ fn broken_payload_line(bytes: &[u8]) -> Option<u8>
     requires room { lacks_room bytes.now ≡ false }
     ensures { result ≡ broken_payload_line bytes.now }
 {
+    if ends_wrongly(bytes) {
+        return Some(6);
+    }
     match total_of_payload(handle_count_in(bytes), payload_in(bytes)) {
         Some(total) => broken_contents_line(bytes, total),
         None => Some(6),

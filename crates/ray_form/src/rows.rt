@@ -1,7 +1,7 @@
-ghost use Rattle.std.specs.Prelude.{◌≡◌, is_some};
-ghost use Rattle.ray_form.specs.Rows.{row_total, geometries_in};
+ghost use Rattle.std.specs.Prelude.{◌≡◌, ◌≤◌, is_some, length};
+ghost use Rattle.ray_form.specs.Rows.{row_total, row_size, geometries_in};
 
-use crate::geometry::{after_first, count_in, is_geometry, is_sound};
+use crate::geometry::{after_first, count_in, is_geometry, is_sound, is_whole};
 
 // How many elements n geometries have together, where those of one kind fill the bytes.
 pub(crate) fn row_total(kind: u32, n: u32, bytes: &[u8]) -> Option<u64>
@@ -17,6 +17,21 @@ pub(crate) fn row_total(kind: u32, n: u32, bytes: &[u8]) -> Option<u64>
         rest = after_first(rest);
     }
     if rest.is_empty() { Some(total) } else { None }
+}
+
+// How many bytes the first n geometries take; those that are whole, where not all are.
+pub(crate) fn row_size(n: u32, bytes: &[u8]) -> usize
+    ensures value { result ≡ row_size n bytes.now }
+    ensures limits { result ≤ length bytes.now }
+{
+    let mut rest = bytes;
+    for i in 0..n {
+        if !is_whole(rest) {
+            return bytes.len() - rest.len();
+        }
+        rest = after_first(rest);
+    }
+    bytes.len() - rest.len()
 }
 
 // Whether n geometries are there, and each of their elements stands for a primitive.

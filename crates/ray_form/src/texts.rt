@@ -5,8 +5,11 @@ ghost use Rattle.ray_form.specs.Form.{lacks};
 /// VkAccelerationStructureVersionInfoKHR.)
 pub const DEVICE: [u8; 16] = *b"vkray-software-1";
 
-/// The text of the form, which follows it. (Own; the compatibility UUID.)
+/// The text of form 1, which follows it. (Own; the compatibility UUID.)
 pub const FORM: [u8; 16] = *b"vkray-form-00001";
+
+/// The text of form 2, which follows it where a tree part follows the elements. (Own.)
+pub const FORM_2: [u8; 16] = *b"vkray-form-00002";
 
 // Whether a text isn't the one that stands at a place.
 #[tactic(auto, unfolding(crate::specs::Form::lacks))]

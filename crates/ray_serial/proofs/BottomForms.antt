@@ -18,14 +18,15 @@ use Rattle.ray_geometries.specs.Storing.{bytes_of_words, kind_number, geometry_b
 use Rattle.ray_form.specs.Heads.{element_size}
 use Rattle.ray_form.specs.Rows.{are_geometries, total_in, row_total, geometries_in}
 use Rattle.ray_form.specs.InstanceBytes.{are_instances}
-use Rattle.ray_form.specs.Form.{handle_count_in, payload_in, instances_of_payload, is_top_payload, flags_of_payload, geometry_count, row_of, at_most, or_else, bottom_total, has_flags, top_total, lacks_room, total_of_payload, has_bad_element, broken_line}
-use Rattle.ray_serial.specs.Meaning.{KeepsLines, IsForm, is_top_form, deserialized_in, handle_at, with_flags, bottom_in_payload, bottom_in, HasRoom, CanRestore}
+use Rattle.ray_form.specs.Form.{has_tree, handle_count_in, payload_in, instances_of_payload, is_top_payload, flags_of_payload, geometry_count, row_of, at_most, or_else, bottom_total, has_flags, top_total, lacks_room, total_of_payload, has_bad_element, broken_line}
+use Rattle.ray_serial.specs.Meaning.{text_of, KeepsLines, IsForm, is_top_form, deserialized_in, handle_at, with_flags, bottom_in_payload, bottom_in, HasRoom, CanRestore}
 use Rattle.ray_serial.specs.Written.{form_size, form_bytes, bottom_form}
 use Rattle.ray_serial.proofs.Words.{AreBytes, AreBytes-drop, HasFour, four_bytes, four_back, four_again, length-four_bytes, after_four, three, not_true}
 use Rattle.ray_serial.proofs.GeometryBack.{length-geometry_bytes, IsRow, row_back}
 use Rattle.ray_serial.proofs.GeometryAgain.{row_again}
 use Rattle.ray_serial.proofs.KeptLines.{KeepsLines-unbroken, unbroken-KeepsLines}
-use Rattle.ray_serial.proofs.Headers.{HasHeader, header_back, form_again, length-payload_in}
+use Rattle.ray_serial.proofs.Headers.{HasHeader, header_back, form_again, fits_payload, payload_room}
+use Rattle.ray_serial.proofs.Endings.{plain_ends}
 use Rattle.ray_primitives.proofs.Chosen.{if_some}
 use Rattle.ray_geometries.proofs.Restoring.{mapped}
 
@@ -121,7 +122,7 @@ pub record SaysBottom (c : ContentsValue) (payload : List ℕ) : Type 0 where
   pub head : HasFour payload 0 c.flags.0 (length c.geometries)
   pub row : row_of payload ≡ flat_map geometry_bytes c.geometries
 
-payload_says : (c : ContentsValue) → IsContents c → c.flags.0 < 32 → SaysBottom c (payload_of c)
+pub payload_says : (c : ContentsValue) → IsContents c → c.flags.0 < 32 → SaysBottom c (payload_of c)
 unfolding row_of
 payload_says c is known =
     let many = is.geometries in
@@ -130,7 +131,7 @@ payload_says c is known =
       row = after_four 0 c.flags.0 (length c.geometries) (flat_map geometry_bytes c.geometries);
     }
 
-count_said : (c : ContentsValue) (payload : List ℕ) → SaysBottom c payload → geometry_count payload ≡ length c.geometries
+pub count_said : (c : ContentsValue) (payload : List ℕ) → SaysBottom c payload → geometry_count payload ≡ length c.geometries
 unfolding geometry_count
 count_said c payload s = s.head.count_is
 
@@ -138,7 +139,7 @@ flags_said : (c : ContentsValue) (payload : List ℕ) → SaysBottom c payload �
 unfolding flags_of_payload
 flags_said c payload s = let P : ℕ → BuildFlags = λ n. record { 0 = n } in ap P s.head.flags_is
 
-bottom_said : (c : ContentsValue) (payload : List ℕ) → SaysBottom c payload → is_top_payload payload ≡ false
+pub bottom_said : (c : ContentsValue) (payload : List ℕ) → SaysBottom c payload → is_top_payload payload ≡ false
 unfolding is_top_payload
 bottom_said c payload s = ap (λ n. n == 1) s.head.kind_is
 
@@ -168,7 +169,7 @@ has_flags_said c payload is known s =
     (λ i. nat_lt (s.head.flags_is i) 32 && not (has_both_fast (flags_said c payload s i)) && (s.head.zero_is i == 0))
     ∙ (λ i. small i && not (is.flags i) && true)
 
-total_said : (c : ContentsValue) (payload : List ℕ) → IsContents c → c.flags.0 < 32 → SaysBottom c payload →
+pub total_said : (c : ContentsValue) (payload : List ℕ) → IsContents c → c.flags.0 < 32 → SaysBottom c payload →
     total_of_payload 0 payload ≡ Some (total_of c.geometries)
 unfolding total_of_payload
 total_said c payload is known s =
@@ -184,7 +185,7 @@ bottom_in-payload_of c payload is s =
     (λ i. option_map (with_flags (flags_said c payload s i)) (geometries_in (count_said c payload s i) (row_of payload)))
     ∙ ap (option_map (with_flags c.flags)) row.same
 
-elements_said : (c : ContentsValue) (payload : List ℕ) → IsContents c → SaysBottom c payload → has_bad_element 0 payload ≡ false
+pub elements_said : (c : ContentsValue) (payload : List ℕ) → IsContents c → SaysBottom c payload → has_bad_element 0 payload ≡ false
 unfolding has_bad_element
 elements_said c payload is s =
     let k = one_kind c.geometries is.one_kind in
@@ -193,7 +194,7 @@ elements_said c payload is s =
     ∙ ap is_none row.same
 
 -- the size of a structure fits
-size_fits : (geometries total : ℕ) → geometries ≤ 256 → total ≤ 2 ^ 20 → structure_size geometries total < 2 ^ 64
+pub size_fits : (geometries total : ℕ) → geometries ≤ 256 → total ≤ 2 ^ 20 → structure_size geometries total < 2 ^ 64
 size_fits geometries total p q = omega arith
 
 pub header_of : (c : ContentsValue) → IsContents c →
@@ -204,7 +205,7 @@ header_of c is =
     header_back (structure_size (length c.geometries) (total_of c.geometries)) [] (payload_of c)
     (size_fits (length c.geometries) (total_of c.geometries) is.geometries is.primitives) (omega arith)
 
-payload_long : (c : ContentsValue) → IsContents c → 16 ≤ length (payload_of c)
+pub payload_long : (c : ContentsValue) → IsContents c → 16 ≤ length (payload_of c)
 payload_long c is =
     let k = one_kind c.geometries is.one_kind in
     let size = length-payload_of k.kind c k.all in
@@ -222,7 +223,8 @@ lines_of c is known =
       total = total_of c.geometries;
       long = omega arith;
       device = h.device;
-      form = h.form;
+      form = h.form ∙ sym (ap text_of h.plain);
+      ending = plain_ends bytes h.plain;
       size = h.size ∙ sym h.length_is;
       handles = omega arith;
       room = omega arith;
@@ -375,13 +377,6 @@ bottom_again handles payload total c fits long keeps e =
     let P : ContentsValue → Type 0 = λ d. IsAgain payload total d in
     subst P m.same (contents_again handles payload total m.value fits long keeps m.is_some)
 
-fits_payload : (bytes : List ℕ) → AreBytes bytes → AreBytes (payload_in bytes)
-unfolding payload_in
-fits_payload bytes fits = AreBytes-drop (56 + 8 * handle_count_in bytes) bytes fits
-
-pub payload_room : (bytes : List ℕ) → KeepsLines bytes → 16 ≤ length (payload_in bytes)
-payload_room bytes k = let room = k.room in let left = length-payload_in bytes in omega arith
-
 no_handles : (bytes : List ℕ) (n : ℕ) → n ≡ 0 → map (handle_at bytes) (range_with_len 0 n) ≡ []
 no_handles bytes n e = ap (λ m. map (handle_at bytes) (range_with_len 0 m)) e
 
@@ -398,15 +393,15 @@ unfolding deserialized_in
 structure_again bytes k n total p q = (λ i. structure_size (p i) (q i)) ∙ sym k.structure
 
 -- it is written again as the same bytes
-pub bottom_form-bottom_in : (bytes : List ℕ) (c : ContentsValue) → AreBytes bytes → KeepsLines bytes → is_top_form bytes ≡ false → bottom_in bytes ≡ Some c →
+pub bottom_form-bottom_in : (bytes : List ℕ) (c : ContentsValue) → AreBytes bytes → KeepsLines bytes → has_tree bytes ≡ false → is_top_form bytes ≡ false → bottom_in bytes ≡ Some c →
     bottom_form c ≡ bytes
 unfolding bottom_form
-bottom_form-bottom_in bytes c fits k bottom e =
+bottom_form-bottom_in bytes c fits k plain bottom e =
     let again = form_contents bytes c fits k bottom e in
     let keeps = bottom_kept (handle_count_in bytes) (payload_in bytes) k.total bottom k.payload in
     let size = structure_again bytes k (length c.geometries) (total_of c.geometries) again.count again.total_is in
     let none = sym (no_handles bytes (handle_count_in bytes) keeps.none) in
-    (λ i. form_bytes (size i) (none i) (again.same i)) ∙ form_again bytes fits k
+    (λ i. form_bytes (size i) (none i) (again.same i)) ∙ form_again bytes fits k plain
 
 -- ---- what calls cite
 
@@ -507,8 +502,8 @@ pub restored_in : (bytes : List ℕ) (c : ContentsValue) →
 unfolding bottom_in_payload
 restored_in bytes c e = e
 
-pub restored_again : (bytes : List ℕ) (c : ContentsValue) → AreBytes bytes → IsForm bytes → is_top_form bytes ≡ false →
+pub restored_again : (bytes : List ℕ) (c : ContentsValue) → AreBytes bytes → IsForm bytes → has_tree bytes ≡ false → is_top_form bytes ≡ false →
     option_map (with_flags (flags_of_payload (payload_in bytes))) (geometries_in (geometry_count (payload_in bytes)) (row_of (payload_in bytes))) ≡ Some c →
     bottom_form c ≡ bytes
-restored_again bytes c fits is bottom e =
-    bottom_form-bottom_in bytes c fits (KeepsLines-unbroken bytes is.unbroken) bottom (restored_in bytes c e)
+restored_again bytes c fits is plain bottom e =
+    bottom_form-bottom_in bytes c fits (KeepsLines-unbroken bytes is.unbroken) plain bottom (restored_in bytes c e)

@@ -100,7 +100,7 @@ pub record IsFront (g : Geometry) (rest others : List ℕ) : Type 0 where
   pub elements : drop 32 rest ≡ element_bytes g.shapes ++ others
   pub long : length rest ≡ 32 + length (element_bytes g.shapes) + length others
 
-front : (g : Geometry) (others : List ℕ) → count_of g ≤ 2 ^ 20 → IsFront g (geometry_bytes g ++ others) others
+pub front : (g : Geometry) (others : List ℕ) → count_of g ≤ 2 ^ 20 → IsFront g (geometry_bytes g ++ others) others
 front g others few =
     let kind = kind_number (kind_of g) in
     let opaque = opaque_number g.opaque in
@@ -121,11 +121,11 @@ front g others few =
           ∙ omega arith;
     })
 
-elements_are : (g : Geometry) (rest others : List ℕ) → IsFront g rest others → elements_size rest ≡ length (element_bytes g.shapes)
+pub elements_are : (g : Geometry) (rest others : List ℕ) → IsFront g rest others → elements_size rest ≡ length (element_bytes g.shapes)
 unfolding elements_size
 elements_are g rest others f = (λ i. element_size (f.words.kind_is i) * f.words.count_is i) ∙ sym (length-element_bytes g.shapes)
 
-follows : (g : Geometry) (rest others : List ℕ) → IsFront g rest others → after_first rest ≡ others
+pub follows : (g : Geometry) (rest others : List ℕ) → IsFront g rest others → after_first rest ≡ others
 unfolding after_first
 follows g rest others f =
     let size = elements_are g rest others f in
@@ -144,7 +144,7 @@ both_true a b p q = λ i. p i && q i
 le_test : (a b : ℕ) → a ≤ b → nat_le a b ≡ true
 le_test a b h = grind (arith, nat_tests)
 
-is_whole-front : (g : Geometry) (rest others : List ℕ) → IsFront g rest others → is_whole rest ≡ true
+pub is_whole-front : (g : Geometry) (rest others : List ℕ) → IsFront g rest others → is_whole rest ≡ true
 unfolding is_whole
 is_whole-front g rest others f =
     let size = elements_are g rest others f in

@@ -2,6 +2,9 @@ pub mod Words
 pub mod GeometryBack
 pub mod GeometryAgain
 pub mod KeptLines
+pub mod Endings
+pub mod Form2Back
+pub mod Form2Restored
 pub mod Headers
 pub mod BottomForms
 pub mod Restore

@@ -11,12 +11,13 @@ use Rattle.byteorder.specs.Endian.{little_bytes, little_number}
 use Rattle.byteorder.specs.Numbers.{little_number-reads_back, little_from-lt, length-bytes_low_first}
 use Rattle.ray_bytes.specs.Fields.{long_at}
 use Rattle.ray_bytes.specs.StructureSizes.{structure_size}
-use Rattle.ray_form.specs.Form.{handle_count_in, payload_in, geometry_count, total_of_payload, has_bad_element}
-use Rattle.ray_serial.specs.Meaning.{KeepsLines, IsForm, deserialized_in, handle_at, handle_in}
+use Rattle.ray_form.specs.Form.{has_tree, handle_count_in, payload_in, geometry_count, total_of_payload, has_bad_element}
+use Rattle.ray_serial.specs.Meaning.{text_of, KeepsLines, IsForm, is_top_form, deserialized_in, handle_at, handle_in}
 use Rattle.ray_serial.specs.Written.{long_bytes, form_bytes}
 use Rattle.ray_serial.specs.Replaced.{with_handles, IsReplaced}
 use Rattle.ray_serial.proofs.Words.{AreBytes, AreBytes-drop}
 use Rattle.ray_serial.proofs.KeptLines.{KeepsLines-unbroken, unbroken-KeepsLines}
+use Rattle.ray_serial.proofs.Endings.{plain_ends, plain_top}
 use Rattle.ray_serial.proofs.Headers.{HasHeader, header_back, after_header, length-payload_in}
 
 -- numbers of 64 bits
@@ -53,23 +54,23 @@ deserialized_is : (bytes : List ℕ) → deserialized_in bytes ≡ long_at bytes
 unfolding deserialized_in
 deserialized_is bytes = refl
 
-other_header : (bytes handles : List ℕ) → AreBytes bytes → KeepsLines bytes → length handles ≡ handle_count_in bytes →
+other_header : (bytes handles : List ℕ) → AreBytes bytes → KeepsLines bytes → has_tree bytes ≡ false → length handles ≡ handle_count_in bytes →
     HasHeader (with_handles bytes handles) (deserialized_in bytes) handles (payload_in bytes)
-other_header bytes handles fits k many =
+other_header bytes handles fits k plain many =
     let size = k.size in
     let room = k.room in
-    let left = length-payload_in bytes in
+    let left = length-payload_in bytes plain in
     let whole = long_fits bytes 32 fits in
     let d = deserialized_is bytes in
     let small = long_fits bytes 40 fits in
     header_back (deserialized_in bytes) handles (payload_in bytes) (omega arith) (omega arith)
 
-other_lines : (bytes handles : List ℕ) → AreBytes bytes → KeepsLines bytes → length handles ≡ handle_count_in bytes → KeepsLines (with_handles bytes handles)
-other_lines bytes handles fits k many =
-    let h = other_header bytes handles fits k many in
+other_lines : (bytes handles : List ℕ) → AreBytes bytes → KeepsLines bytes → has_tree bytes ≡ false → length handles ≡ handle_count_in bytes → KeepsLines (with_handles bytes handles)
+other_lines bytes handles fits k plain many =
+    let h = other_header bytes handles fits k plain many in
     let size = h.length_is in
     let count = h.count in
-    let left = length-payload_in bytes in
+    let left = length-payload_in bytes plain in
     let room = k.room in
     let few = k.handles in
     let same = h.count ∙ many in
@@ -77,7 +78,8 @@ other_lines bytes handles fits k many =
       total = k.total;
       long = omega arith;
       device = h.device;
-      form = h.form;
+      form = h.form ∙ sym (ap text_of h.plain);
+      ending = plain_ends (with_handles bytes handles) h.plain;
       size = h.size ∙ sym h.length_is;
       handles = omega arith;
       room = omega arith;
@@ -117,13 +119,14 @@ handle_said deserialized handles payload k fits count =
           ∙ sym (none_past handles k past)
     ]
 
-pub IsReplaced-form : (bytes handles : List ℕ) → AreBytes bytes → AreLong handles → IsForm bytes → length handles ≡ handle_count_in bytes →
+pub IsReplaced-form : (bytes handles : List ℕ) → AreBytes bytes → AreLong handles → IsForm bytes → is_top_form bytes ≡ true → length handles ≡ handle_count_in bytes →
     IsReplaced bytes handles (with_handles bytes handles)
-IsReplaced-form bytes handles fits longs is many =
+IsReplaced-form bytes handles fits longs is top many =
     let k = KeepsLines-unbroken bytes is.unbroken in
-    let h = other_header bytes handles fits k many in
+    let plain = plain_top bytes k top in
+    let h = other_header bytes handles fits k plain many in
     record {
-      form = record { unbroken = unbroken-KeepsLines (with_handles bytes handles) (other_lines bytes handles fits k many) };
+      form = record { unbroken = unbroken-KeepsLines (with_handles bytes handles) (other_lines bytes handles fits k plain many) };
       payload = h.payload_is;
       each = λ j. handle_said (deserialized_in bytes) handles (payload_in bytes) j longs h.count;
     }

@@ -30,10 +30,11 @@ use Rattle.ray_form.specs.Heads.{element_size, count_in, elements_size, geometry
 use Rattle.ray_form.specs.Rows.{after_first, row_total, geometries_in}
 use Rattle.ray_form.specs.InstanceBytes.{is_active, is_placed, is_instance, are_instances}
 use Rattle.ray_form.specs.Form.{is_top_payload, flags_of_payload, geometry_count, row_of, instances_of_payload, at_most, bottom_total, top_total, has_flags, total_of_payload, has_bad_element}
-use Rattle.ray_serial.specs.Meaning.{KeepsLines, IsForm}
+use Rattle.ray_serial.specs.Meaning.{text_of, KeepsLines, IsForm}
 use Rattle.ray_serial.specs.TopWritten.{handles_of, handle_number, placed_bytes, instance_bytes, all_instance_bytes, top_head, top_payload, top_form, FitsTold}
 use Rattle.ray_serial.proofs.Words.{head_bytes, head_back, length-head_bytes}
 use Rattle.ray_serial.proofs.KeptLines.{unbroken-KeepsLines}
+use Rattle.ray_serial.proofs.Endings.{plain_ends}
 use Rattle.ray_serial.proofs.Headers.{HasHeader, header_back}
 use Rattle.ray_serial.proofs.TopSteps.{length-handles_of, length-instance_bytes, length-all_instance_bytes, length-top_payload, top_few}
 use Rattle.ray_serial.proofs.Distinct.{has, has_handle}
@@ -347,7 +348,8 @@ lines_of t can =
       total = length c.instances;
       long = omega arith;
       device = h.device;
-      form = h.form;
+      form = h.form ∙ sym (ap text_of h.plain);
+      ending = plain_ends bytes h.plain;
       size = h.size ∙ sym h.length_is;
       handles = omega arith;
       room = omega arith;

@@ -27,10 +27,11 @@ use Rattle.ray_form.specs.Heads.{element_size, count_in, elements_size, geometry
 use Rattle.ray_form.specs.Rows.{after_first, row_total}
 use Rattle.ray_form.specs.InstanceBytes.{is_active, instance_parts}
 use Rattle.ray_form.specs.Form.{handle_count_in, payload_in, is_top_payload, flags_of_payload, geometry_count, row_of, instances_of_payload, at_most, bottom_total, top_total, has_flags, total_of_payload}
-use Rattle.ray_serial.specs.Meaning.{KeepsLines, IsForm, is_top_form, handle_at}
+use Rattle.ray_serial.specs.Meaning.{IsForm, is_top_form, handle_at}
 use Rattle.ray_serial.specs.TopMeaning.{with_reference, reference_in, instance_in, instances_in, linked, instance_linked, linked_at, top_in, not_zero, put_reference, put_part, put_parts}
 use Rattle.ray_serial.proofs.Words.{AreBytes, AreBytes-drop, three, not_true}
 use Rattle.ray_serial.proofs.KeptLines.{KeepsLines-unbroken}
+use Rattle.ray_serial.proofs.Headers.{payload_room}
 use Rattle.ray_primitives.proofs.Chosen.{if_some}
 
 -- ---- parts one after the other
@@ -360,10 +361,6 @@ pub record SaysTop (bytes : List ℕ) : Type 0 where
   pub total : ℕ
   pub keeps : KeepsTop (payload_in bytes) total
   pub many : length (instance_parts (instances_of_payload (payload_in bytes))) ≡ total
-
-payload_room : (bytes : List ℕ) → KeepsLines bytes → 16 ≤ length (payload_in bytes)
-unfolding payload_in
-payload_room bytes k = let room = k.room in let left = length-drop (56 + 8 * handle_count_in bytes) bytes in omega arith
 
 pub top_says : (bytes : List ℕ) → IsForm bytes → is_top_form bytes ≡ true → SaysTop bytes
 top_says bytes is top =

@@ -7,7 +7,10 @@ use Rattle.ray_geometries.specs.Contents as bottoms
 use Rattle.ray_geometries.specs.declared.geometry.Geometry.{Geometry}
 use Rattle.ray_geometries.specs.Storing.{payload_of}
 use Rattle.ray_flags.specs.declared.kind.Kind.{Kind}
-use Rattle.ray_form.specs.Form.{device_text, form_text}
+use Rattle.ray_bottom.specs.Trees.{items_of}
+use Rattle.ray_stated.specs.Stated.{stated_tree}
+use Rattle.ray_tree_part.specs.TreeParts.{tree_bytes}
+use Rattle.ray_form.specs.Form.{device_text, form_text, form_2_text}
 
 -- numbers of 64 bits
 unfoldable pub long_bytes : List ℕ → List ℕ
@@ -28,6 +31,19 @@ form_bytes deserialized handles payload =
 unfoldable pub bottom_form : bottoms.ContentsValue → List ℕ
 bottom_form c =
     form_bytes (structure_size (length c.geometries) (bottoms.total_of c.geometries)) [] (payload_of c)
+
+-- the same in form 2: its second text, and behind the payload the tree part of the stated tree over the primitives
+abbrev pub form_2_size : List ℕ → List ℕ → ℕ
+form_2_size payload part = 56 + (length payload + length part)
+
+unfoldable pub form_2_bytes : ℕ → List ℕ → List ℕ → List ℕ
+form_2_bytes deserialized payload part =
+    device_text ++ (form_2_text ++ (long_bytes (form_2_size payload part ∷ deserialized ∷ 0 ∷ []) ++ (payload ++ part)))
+
+unfoldable pub bottom_form_2 : bottoms.ContentsValue → List ℕ
+bottom_form_2 c =
+    form_2_bytes (structure_size (length c.geometries) (bottoms.total_of c.geometries)) (payload_of c)
+    (tree_bytes (stated_tree (items_of c.geometries)))
 
 -- ---- words of private calls alone
 

@@ -1,18 +1,19 @@
 ghost use Rattle.std.specs.Prelude.{◌≡◌, Some, IfOk, IfErr, false, true};
 ghost use Rattle.ray_bottom.specs.Trees.{without_tree};
 ghost use Rattle.ray_top.specs.Trees.{GivesTop};
-ghost use Rattle.ray_form.specs.Form.{payload_in};
+ghost use Rattle.ray_form.specs.Form.{payload_in, has_tree};
 ghost use Rattle.ray_serial.specs.TopMeaning.{top_in, IsLinkRule};
 ghost use Rattle.ray_serial.specs.Meaning.{IsForm, opened, is_top_form, deserialized_in};
-ghost use Rattle.ray_serial.specs.Meaning.{handle_in, bottom_in, HasRoom};
+ghost use Rattle.ray_serial.specs.Meaning.{handle_in, bottom_in, HasRoom, IsToBottom};
 ghost use Rattle.ray_serial.specs.Written.{bottom_form};
 
 use crate::linking::top_of;
-use crate::restoring::restored;
+use crate::restoring::{restored, restored_with};
+use crate::stored_fault::StoredFault;
 use ray_bottom::Bottom;
 use ray_form::{
-    SerialFault, broken_line, flags_of_payload, geometry_count, handle_count_in, is_top_payload,
-    long, payload_in, row_of,
+    SerialFault, broken_line, flags_of_payload, geometry_count, handle_count_in, has_tree,
+    is_top_payload, long, payload_in, row_of, tree_part_in,
 };
 use ray_top::{BuildFault, Top, Used};
 use std::alloc::{AllocError as NoMemory, Global};
@@ -72,14 +73,26 @@ impl<'a> SerialView<'a> {
         handle(self.whole(), u64::from(i))
     }
 
-    /// The bottom structure that it stands for. It isn't the form of a top structure. What the
-    /// structure is written as again is this form.
-    pub fn to_bottom<R: Threads + Sync>(&self, rt: &R, alloc: Global) -> Result<Bottom, NoMemory>
+    /// The bottom structure that it stands for, which has the tree that a form 2 carries. It isn't
+    /// the form of a top structure. What the structure is written as again is this form, where this
+    /// is form 1.
+    ///
+    /// # Errors
+    ///
+    /// BadTree exactly where it is a form 2 that carries no tree, and NoMemory for want of memory
+    /// alone.
+    pub fn to_bottom<R: Threads + Sync>(&self, rt: &R, alloc: Global) -> Result<Bottom, StoredFault>
         requires { is_top_form self.now ≡ false }
-        ensures value { IfOk result (λ bottom. bottom_in self.now ≡ Some (without_tree bottom)) }
-        ensures again { IfOk result (λ bottom. bottom_form (without_tree bottom) ≡ self.now) }
+        ensures value { IsToBottom self.now result }
+        ensures again { has_tree self.now ≡ false
+            → IfOk result (λ bottom. bottom_form (without_tree bottom) ≡ self.now) }
     {
-        bottom_of(rt, alloc, self.whole())
+        let bytes = self.whole();
+        if has_tree(bytes) {
+            bottom_with_tree(alloc, bytes)
+        } else {
+            plain_bottom(rt, alloc, bytes)
+        }
     }
 
     /// The top structure that it stands for, where each handle is the reference of a structure in
@@ -108,10 +121,48 @@ impl<'a> SerialView<'a> {
     }
 }
 
-// The bottom structure of a form.
+// The bottom structure of a form 1.
+fn plain_bottom<R: Threads + Sync>(
+    rt: &R,
+    alloc: Global,
+    bytes: &[u8],
+) -> Result<Bottom, StoredFault>
+    requires form { IsForm bytes.now }
+    requires bottom { is_top_form bytes.now ≡ false }
+    requires plain { has_tree bytes.now ≡ false }
+    requires limits { HasRoom bytes.now }
+    ensures value { IsToBottom bytes.now result }
+    ensures again { IfOk result (λ bottom. bottom_form (without_tree bottom) ≡ bytes.now) }
+{
+    match bottom_of(rt, alloc, bytes) {
+        Ok(bottom) => Ok(bottom),
+        Err(_) => Err(StoredFault::NoMemory),
+    }
+}
+
+// The bottom structure of a form 2, with the tree that it carries.
+fn bottom_with_tree(alloc: Global, bytes: &[u8]) -> Result<Bottom, StoredFault>
+    requires form { IsForm bytes.now }
+    requires bottom { is_top_form bytes.now ≡ false }
+    requires tree { has_tree bytes.now ≡ true }
+    requires limits { HasRoom bytes.now }
+    ensures { IsToBottom bytes.now result }
+{
+    let payload = payload_in(bytes);
+    restored_with(
+        alloc,
+        flags_of_payload(payload),
+        geometry_count(payload),
+        row_of(payload),
+        tree_part_in(bytes),
+    )
+}
+
+// The bottom structure of a form 1.
 fn bottom_of<R: Threads + Sync>(rt: &R, alloc: Global, bytes: &[u8]) -> Result<Bottom, NoMemory>
     requires form { IsForm bytes.now }
     requires bottom { is_top_form bytes.now ≡ false }
+    requires plain { has_tree bytes.now ≡ false }
     requires limits { HasRoom bytes.now }
     ensures value { IfOk result (λ bottom. bottom_in bytes.now ≡ Some (without_tree bottom)) }
     ensures again { IfOk result (λ bottom. bottom_form (without_tree bottom) ≡ bytes.now) }

@@ -72,7 +72,7 @@ pub(crate) fn form_bytes(
 }
 
 // Numbers of 64 bits.
-fn append_longs(bytes: &mut Vec<u8>, numbers: &[u64]) -> Result<(), NoMemory>
+pub(crate) fn append_longs(bytes: &mut Vec<u8>, numbers: &[u64]) -> Result<(), NoMemory>
     ensures { OnOk result (bytes.new.items ≡ bytes.old.items ++ long_bytes numbers.now) }
 {
     for number in numbers {

@@ -1,4 +1,4 @@
-use ray_serial::{SerialFault, SerialView, serialize};
+use ray_serial::{SerialFault, SerialView, StoredFault, serialize, serialize_form_2};
 use std::alloc::{AllocError, Global};
 use std::test::Fail;
 use std::thread::Threads;
@@ -34,6 +34,17 @@ fn form(alloc: Global) -> Result<Vec<u8>, AllocError> {
     Ok(bytes)
 }
 
+// The 196 bytes of form 2: the second text, the size, and behind the elements the tree part, which
+// is one leaf from (0,0,0) to (4,4,0) over item 0.
+fn form_2(alloc: Global) -> Result<Vec<u8>, AllocError> {
+    let mut bytes = form(alloc)?;
+    bytes[31] = b'2';
+    bytes[32] = 196;
+    let part = [1, 1, 0, 0, 0, 4, 4, 0, 1, 0, 0];
+    bytes.extend_from_slice(bytes_of(alloc, &part)?.as_slice())?;
+    Ok(bytes)
+}
+
 // The fault of bytes, if they aren't a form.
 fn fault_of(bytes: &[u8]) -> u8 {
     match SerialView::open(bytes) {
@@ -54,7 +65,8 @@ fn refuses_what_is_cut(rt: HostRuntime) -> Result<(), Fail> {
     Ok(())
 }
 
-// Whether bytes are refused, or are a form that is written again as it was.
+// Whether bytes are refused, are a form 2 that carries no tree, or are a form that is written again
+// as it was.
 fn refused_or_again<R: AllocGlobal + Threads + Sync>(
     rt: &R,
     bytes: &[u8],
@@ -64,9 +76,15 @@ fn refused_or_again<R: AllocGlobal + Threads + Sync>(
             if view.is_top() {
                 return Ok(false);
             }
-            let bottom = view.to_bottom(rt, rt.alloc())?;
-            let again = serialize(rt.alloc(), &bottom)?;
-            Ok(again.as_slice() == bytes)
+            match view.to_bottom(rt, rt.alloc()) {
+                Ok(bottom) => {
+                    let first = serialize(rt.alloc(), &bottom)?;
+                    let second = serialize_form_2(rt.alloc(), &bottom)?;
+                    Ok(first.as_slice() == bytes || second.as_slice() == bytes)
+                }
+                Err(StoredFault::BadTree) => Ok(true),
+                Err(StoredFault::NoMemory) => Err(AllocError),
+            }
         }
         Err(_) => Ok(true),
     }
@@ -76,6 +94,22 @@ fn refused_or_again<R: AllocGlobal + Threads + Sync>(
 #[test]
 fn keeps_each_changed_bit(rt: HostRuntime) -> Result<(), Fail> {
     let mut bytes = form(rt.alloc())?;
+    assert!(rt; refused_or_again(&rt, bytes.as_slice())?);
+    for at in 0..bytes.len() {
+        for bit in 0..8_u32 {
+            let whole = bytes.as_slice()[at];
+            bytes[at] = whole ^ (1 << bit);
+            assert!(rt; refused_or_again(&rt, bytes.as_slice())?, "{at} {bit}");
+            bytes[at] = whole;
+        }
+    }
+    Ok(())
+}
+
+// The same of form 2. A tree part with another bit is none, since one item has one tree.
+#[test]
+fn keeps_each_changed_bit_of_form_2(rt: HostRuntime) -> Result<(), Fail> {
+    let mut bytes = form_2(rt.alloc())?;
     assert!(rt; refused_or_again(&rt, bytes.as_slice())?);
     for at in 0..bytes.len() {
         for bit in 0..8_u32 {

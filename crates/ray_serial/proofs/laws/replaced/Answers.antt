@@ -5,4 +5,4 @@ use Rattle.ray_serial.proofs.laws.replaced.Goals as goal
 pub returns : goal.returns
 returns c = λ many.
     IsReplaced-form c.args._bytes.now c.args._handles.now (record { each = λ i. let f = c.type_inv._bytes i in omega arith })
-    (record { each = λ i. let f = c.type_inv._handles i in omega arith }) c.requires many
+    (record { each = λ i. let f = c.type_inv._handles i in omega arith }) c.requires.form c.requires.top many

@@ -46,5 +46,5 @@ returns-clause-again g c =
     let row = sym (c.row_of.ensures ∙ ap row_of c.payload_in-payload.ensures.value) in
     IfOk-then (λ b. option_map (with_flags c.flags_of_payload.result) (geometries_in c.geometry_count.result c.row_of.result.now) ≡ Some (without_tree b))
     (λ b. bottom_form (without_tree b) ≡ c.args.bytes.now) c.restored.result
-    (λ b e. restored_again c.args.bytes.now (without_tree b) (fits c.args.bytes.now (λ i. let f = c.type_inv.bytes i in omega arith)) c.requires.form c.requires.bottom
+    (λ b e. restored_again c.args.bytes.now (without_tree b) (fits c.args.bytes.now (λ i. let f = c.type_inv.bytes i in omega arith)) c.requires.form c.requires.plain c.requires.bottom
     ((λ i. option_map (with_flags (flags i)) (geometries_in (count i) (row i))) ∙ e)) c.restored.ensures
