@@ -56,7 +56,7 @@ pub fn touches_of(
         }
         Command::Build { infos } => build(alloc, status, infos.as_slice()),
         Command::CopyStructure { src, dst, .. } => copy_structure(alloc, status, *src, *dst),
-        Command::Serialize { src, dst } => serialize(alloc, status, *src, *dst),
+        Command::Serialize { src, dst, .. } => serialize(alloc, status, *src, *dst),
         Command::Deserialize { src, dst, uses } => {
             deserialize(alloc, status, *src, *dst, uses.as_slice())
         }

@@ -51,7 +51,7 @@ seen_same (CopyStructure mode src dst) m z same =
     let source = contents_same src (FormOf dst ∷ []) m z same in
     let form = form_same dst [] m z (agree_rest (ContentsOf src) (FormOf dst ∷ []) m z same) in
     λ i. (source i, form i)
-seen_same (SerializeStructure src to) m z same = contents_same src [] m z same
+seen_same (SerializeStructure src to form) m z same = contents_same src [] m z same
 seen_same (DeserializeStructure from dst uses) m z same =
     let bytes = bytes_same from (FormOf dst ∷ (ContentsOfEach uses ∷ [])) m z same in
     let after_bytes = agree_rest (Bytes from) (FormOf dst ∷ (ContentsOfEach uses ∷ [])) m z same in

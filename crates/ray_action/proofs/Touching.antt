@@ -275,8 +275,8 @@ copy-within mode src dst = record {
   writes = λ l e. or_left (is_contents_of dst l) false e;
 }
 
-serialize-within : (src : ℕ) (dst : Stretch) → TouchesWithin (SerializeStructure src (stretch_range dst)) (serialize_accesses src dst)
-serialize-within src dst = record {
+serialize-within : (src : ℕ) (dst : Stretch) (form : Option ℕ) → TouchesWithin (SerializeStructure src (stretch_range dst) form) (serialize_accesses src dst)
+serialize-within src dst form = record {
   reads = λ l d e.
       either (covers (ContentsOf src) l) false e
       (λ source. or_left (is_contents_of src l) false source)
@@ -349,8 +349,8 @@ touch_within rec z (commands.Copy src dst regions) stage k action s e = regions-
 touch_within rec z (commands.Build infos) stage k action s e = infos-within z 0 infos k action e
 touch_within rec z (commands.CopyStructure mode src dst) stage k action s e =
     subst (λ a. TouchesWithin a (structure_copy_accesses src dst)) (one-of (CopyStructure mode src dst) action k e) (copy-within mode src dst)
-touch_within rec z (commands.Serialize src dst) stage k action s e =
-    subst (λ a. TouchesWithin a (serialize_accesses src dst)) (one-of (SerializeStructure src (stretch_range dst)) action k e) (serialize-within src dst)
+touch_within rec z (commands.Serialize src dst form) stage k action s e =
+    subst (λ a. TouchesWithin a (serialize_accesses src dst)) (one-of (SerializeStructure src (stretch_range dst) form) action k e) (serialize-within src dst form)
 touch_within rec z (commands.Deserialize src dst uses) stage k action s e =
     subst (λ a. TouchesWithin a (deserialize_accesses src dst uses)) (one-of (DeserializeStructure (stretch_range src) dst uses) action k e) (deserialize-within src dst uses)
 touch_within rec z (commands.Property what structures dst) stage k action s e =

@@ -1,7 +1,7 @@
 -- Actions: what is done at one moment, by a host command or by a piece of a device command, with all that
 -- the commands before it tell of it. (Vulkan: the operations of each command; own: that one info of a
 -- build, one region of a copy and 64 rays of a trace are done at one moment.)
-use Rattle.std.specs.Prelude.{ℕ, List, [], ◌∷◌, map}
+use Rattle.std.specs.Prelude.{ℕ, Option, List, [], ◌∷◌, map}
 use Rattle.std.specs.List.{flat_map}
 use Rattle.std.specs.Option.{option_to_list}
 use Rattle.ray_flags.specs.declared.build_flags.BuildFlags.{BuildFlags}
@@ -59,7 +59,7 @@ pub data Action : Type 0 where
   BuildTop : (build : Building) (flags : BuildFlags) (uses : List ℕ) (instances : Geometry) → Action
   UpdateTop : (build : Building) (src : ℕ) (uses : List ℕ) (instances : Geometry) → Action
   CopyStructure : (mode : CopyMode) (src dst : ℕ) → Action
-  SerializeStructure : (src : ℕ) (to : ByteRange) → Action
+  SerializeStructure : (src : ℕ) (to : ByteRange) (form : Option ℕ) → Action
   DeserializeStructure : (from : ByteRange) (dst : ℕ) (uses : List ℕ) → Action
   TellProperty : (what : Asked) (structures : List ℕ) (to : ByteRange) → Action
   -- rays
@@ -103,7 +103,7 @@ areas_read (BuildTop build flags uses instances) =
 areas_read (UpdateTop build src uses instances) =
     FormOf build.dst ∷ (ContentsOf src ∷ (ContentsOfEach uses ∷ geometry_areas build.buffers instances))
 areas_read (CopyStructure mode src dst) = ContentsOf src ∷ (FormOf dst ∷ [])
-areas_read (SerializeStructure src to) = ContentsOf src ∷ []
+areas_read (SerializeStructure src to form) = ContentsOf src ∷ []
 areas_read (DeserializeStructure from dst uses) = Bytes from ∷ (FormOf dst ∷ (ContentsOfEach uses ∷ []))
 areas_read (TellProperty what structures to) = flat_map structure_areas structures
 areas_read (TraceRays trace) = Bytes trace.rays ∷ (ContentsOf trace.top ∷ (ContentsOfEach trace.uses ∷ []))

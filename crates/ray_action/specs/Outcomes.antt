@@ -1,6 +1,6 @@
 -- What an action gives, computed from what it sees. (Vulkan: the operations of each command; own: the data
 -- rules, and exact numbers.)
-use Rattle.std.specs.Prelude.{ℕ, ◌+◌, List, [], ◌∷◌, Option, Some, None, Result, Ok, Err, length, nat_lt, if◌then◌else◌, unwrap_or}
+use Rattle.std.specs.Prelude.{ℕ, ◌+◌, Bool, true, false, List, [], ◌∷◌, Option, Some, None, Result, Ok, Err, length, nat_lt, if◌then◌else◌, unwrap_or}
 use Rattle.std.specs.List.{flat_map}
 use Rattle.std.specs.Option.{option_map, option_map_or, option_and_then}
 use Rattle.byteorder.specs.Endian.{little_bytes}
@@ -23,10 +23,11 @@ use Rattle.ray_bottom.specs.Builders.{BuilderValue}
 use Rattle.ray_top.specs.declared.used.Used.{Used}
 use Rattle.ray_top.specs.Contents as tops
 use Rattle.ray_form.specs.Form.{broken_line}
-use Rattle.ray_serial.specs.Meaning.{is_top_form, deserialized_in, bottom_in}
+use Rattle.ray_serial.specs.Meaning.{is_top_form, deserialized_in, bottom_in, lacks_its_tree}
 use Rattle.ray_serial.specs.TopMeaning.{top_in}
 use Rattle.ray_serial.specs.TopWritten.{handles_of, top_form}
-use Rattle.ray_serial.specs.Written.{bottom_form}
+use Rattle.ray_serial.specs.Written.{bottom_form, bottom_form_2}
+use Rattle.ray_cmd.specs.Copies.{is_form_2}
 use Rattle.ray_candidates.specs.Candidates.{Structures, trace_answer}
 use Rattle.ray_cmd.specs.declared.asked.Asked.{Asked}
 use Rattle.ray_cmd.specs.declared.asked.Asked.TheVariants as asked
@@ -109,14 +110,14 @@ copy_outcome copies.Compact contents (Some form) = of_bottom contents (compact_c
 
 -- ---- serialized copies
 
--- the bytes that contents are serialized as
-abbrev pub serialized_of : Contents → List ℕ
-serialized_of (Bottom bottom) = bottom_form bottom
-serialized_of (Top top) = top_form top.contents
+-- the bytes that contents are serialized as, in form 2 or in form 1; a top structure has form 1 alone
+abbrev pub serialized_of : Bool → Contents → List ℕ
+serialized_of second (Bottom bottom) = if second then bottom_form_2 bottom else bottom_form bottom
+serialized_of second (Top top) = top_form top.contents
 
 -- how many they are
-abbrev pub size_of_serialized : Contents → ℕ
-size_of_serialized contents = length (serialized_of contents)
+abbrev pub size_of_serialized : Bool → Contents → ℕ
+size_of_serialized second contents = length (serialized_of second contents)
 
 -- how many handles they have: those of a bottom structure have none
 abbrev pub handle_count_of : Contents → ℕ
@@ -124,14 +125,14 @@ handle_count_of (Bottom bottom) = 0
 handle_count_of (Top top) = length (handles_of top.contents.instances)
 
 -- contents that are serialized into so many bytes: X13 where they are too few
-abbrev pub serialized_into : ℕ → Contents → Outcome
-serialized_into size contents =
-    if nat_lt size (size_of_serialized contents) then Breaks (record { rule = X13; place = Whole })
-    else Gives (Bytes (serialized_of contents))
+abbrev pub serialized_into : Bool → ℕ → Contents → Outcome
+serialized_into second size contents =
+    if nat_lt size (size_of_serialized second contents) then Breaks (record { rule = X13; place = Whole })
+    else Gives (Bytes (serialized_of second contents))
 
 -- what the serializing of a structure gives
-abbrev pub serialize_outcome : ByteRange → Option Contents → Outcome
-serialize_outcome to contents = option_map_or (serialized_into to.size) contents Undefined
+abbrev pub serialize_outcome : Option ℕ → ByteRange → Option Contents → Outcome
+serialize_outcome form to contents = option_map_or (serialized_into (is_form_2 form) to.size) contents Undefined
 
 -- a top structure that serialized bytes stand for, or the rule that an instance breaks
 abbrev pub linked_outcome : Result tops.TopValue DataFault → Outcome
@@ -152,10 +153,14 @@ fitting_in size used bytes kind =
 abbrev pub bad_bytes : ℕ → Outcome
 bad_bytes number = Breaks (record { rule = X12; place = Part number })
 
+-- the form of a bottom structure, in one of this size: number 10 where it is a form 2 that carries no tree
+abbrev pub carried_in : ℕ → List Used → List ℕ → Outcome
+carried_in size used bytes = if lacks_its_tree bytes then bad_bytes 10 else fitting_in size used bytes kinds.Bottom
+
 -- bytes that break no line of the serialized form, in a structure of a kind and a size: number 9 where they
 -- are of the other kind
 abbrev pub kept_outcome : StructureKind → ℕ → List Used → List ℕ → Outcome
-kept_outcome kinds.Bottom size used bytes = if is_top_form bytes then bad_bytes 9 else fitting_in size used bytes kinds.Bottom
+kept_outcome kinds.Bottom size used bytes = if is_top_form bytes then bad_bytes 9 else carried_in size used bytes
 kept_outcome kinds.Top size used bytes = if is_top_form bytes then fitting_in size used bytes kinds.Top else bad_bytes 9
 
 -- the same of any bytes: X12 with the number of the first line that they break
@@ -174,7 +179,8 @@ deserialize_outcome used _ _ = Undefined
 abbrev pub number_of : Asked → SeenStructure → Option ℕ
 number_of asked.Compacted seen = option_map compacted_of (option_and_then as_bottom seen.contents)
 number_of asked.Size seen = option_map (λ (form : Form). form.size) seen.form
-number_of asked.Serialized seen = option_map size_of_serialized seen.contents
+number_of asked.Serialized seen = option_map (size_of_serialized false) seen.contents
+number_of asked.SerializedForm2 seen = option_map (size_of_serialized true) seen.contents
 number_of asked.Handles seen = option_map handle_count_of seen.contents
 
 -- the numbers of several structures: none where one is missing
@@ -255,7 +261,7 @@ computed meaning (BuildTop build flags uses instances) seen =
 computed meaning (UpdateTop build src uses instances) seen =
     of_top seen.0 (λ old. top_outcome build.info (top_again old (all_used seen.1.uses uses) instances seen.1.instances))
 computed meaning (CopyStructure mode src dst) seen = copy_outcome mode seen.0 seen.1
-computed meaning (SerializeStructure src to) seen = serialize_outcome to seen
+computed meaning (SerializeStructure src to form) seen = serialize_outcome form to seen
 computed meaning (DeserializeStructure from dst uses) seen = deserialize_outcome (all_used seen.uses uses) seen.bytes seen.dst
 computed meaning (TellProperty what structures to) seen = property_outcome (numbers_of what seen)
 computed meaning (TraceRays trace) seen = trace_outcome meaning trace seen.uses seen.rays (option_and_then as_top seen.top)

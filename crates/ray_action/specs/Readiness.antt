@@ -134,7 +134,7 @@ IsEnough (BuildTop build flags uses instances) seen =
     IsTopReady build uses instances seen × (tops.has_both_fast flags ≡ false)
 IsEnough (UpdateTop build src uses instances) seen = IsTopSource instances seen.0 × IsTopReady build uses instances seen.1
 IsEnough (CopyStructure mode src dst) seen = IsCopyReady seen.0 seen.1 × FitsMode mode seen.0
-IsEnough (SerializeStructure src to) seen = IsSome seen
+IsEnough (SerializeStructure src to form) seen = IsSome seen
 IsEnough (DeserializeStructure from dst uses) seen = IsDeserializeReady uses seen
 IsEnough (TellProperty what structures to) seen = IsSome (numbers_of what seen)
 IsEnough (TraceRays trace) seen = IsTraceReady trace seen

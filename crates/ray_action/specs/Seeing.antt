@@ -87,7 +87,7 @@ Seen (UpdateBottom build src geometries) = Option Contents × SeenBuild
 Seen (BuildTop build flags uses instances) = SeenTop
 Seen (UpdateTop build src uses instances) = Option Contents × SeenTop
 Seen (CopyStructure mode src dst) = Option Contents × Option Form
-Seen (SerializeStructure src to) = Option Contents
+Seen (SerializeStructure src to form) = Option Contents
 Seen (DeserializeStructure from dst uses) = SeenSerialized
 Seen (TellProperty what structures to) = List SeenStructure
 Seen (TraceRays trace) = SeenTrace
@@ -125,7 +125,7 @@ see (UpdateTop build src uses instances) memory = (
   },
 )
 see (CopyStructure mode src dst) memory = (memory (ContentsAt src), memory (StructureAt dst))
-see (SerializeStructure src to) memory = memory (ContentsAt src)
+see (SerializeStructure src to form) memory = memory (ContentsAt src)
 see (DeserializeStructure from dst uses) memory = record {
   bytes = bytes_at memory from;
   dst = memory (StructureAt dst);

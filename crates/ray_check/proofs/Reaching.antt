@@ -109,7 +109,7 @@ kept_is_within rec z (commands.Build infos) h k =
     let scratch = no_part (scratch_reaches_out z) infos k in
     record { reads = build_reads z infos (no_part (info_reaches_out z) infos h) scratch; writes = build_writes z infos scratch; host = tt }
 kept_is_within rec z (commands.CopyStructure mode src dst) h k = record { reads = (tt, tt); writes = (tt, tt); host = tt }
-kept_is_within rec z (commands.Serialize src dst) h k =
+kept_is_within rec z (commands.Serialize src dst form) h k =
     record { reads = (tt, tt); writes = (within z.buffers _ (not_broken _ h), tt); host = tt }
 kept_is_within rec z (commands.Deserialize src dst uses) h k =
     record { reads = (within z.buffers _ (not_broken _ h), structures z.buffers uses); writes = (tt, tt); host = tt }

@@ -8,7 +8,7 @@ use Rattle.serde_json.specs.Find.{as_array, get, get_item}
 use Rattle.ray_json.specs.Fields.{◌>>=◌, at, guard, items_of, list_of, listed_at, only, optional_at, u32_of, u64_of, hex_of}
 use Rattle.ray_script.specs.Rules.{rules_of}
 use Rattle.ray_cmd.specs.Building.{build_of}
-use Rattle.ray_cmd.specs.Copies.{copy_structure_of, serialize_of, deserialize_of, property_of}
+use Rattle.ray_cmd.specs.Copies.{is_form, copy_structure_of, serialize_of, deserialize_of, property_of}
 use Rattle.ray_cmd.specs.Grammar.{op_of, command_by, command_of}
 use Rattle.ray_cmd.specs.Host.{buffer_of, structure_of, destroy_of, sizes_of, begin_of, end_of, submit_of, wait_of, read_of}
 use Rattle.ray_cmd.specs.Infos.{info_of, source_fits}
@@ -144,9 +144,11 @@ by-passes ops.CopyStructure d =
     after-any have_their_sources (at u32_of (codes "src") d) _ (λ src.
     after-any have_their_sources (at u32_of (codes "dst") d) _ (λ dst. refl))))
 by-passes ops.Serialize d =
-    after-any have_their_sources (only (codes "op" ∷ codes "src" ∷ codes "dst" ∷ []) d) _ (λ u.
+    after-any have_their_sources (only (codes "op" ∷ codes "src" ∷ codes "dst" ∷ codes "form" ∷ []) d) _ (λ u.
     after-any have_their_sources (at u32_of (codes "src") d) _ (λ src.
-    after-any have_their_sources (at stretch_of (codes "dst") d) _ (λ dst. refl)))
+    after-any have_their_sources (at stretch_of (codes "dst") d) _ (λ dst.
+    after-any have_their_sources (optional_at u32_of (codes "form") d) _ (λ form.
+    after-any have_their_sources (guard (is_form form)) _ (λ fits. refl)))))
 by-passes ops.Deserialize d =
     after-any have_their_sources (only (codes "op" ∷ codes "src" ∷ codes "dst" ∷ codes "uses" ∷ []) d) _ (λ u.
     after-any have_their_sources (at stretch_of (codes "src") d) _ (λ src.

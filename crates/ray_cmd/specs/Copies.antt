@@ -1,7 +1,7 @@
 -- Copies of structures, also to and from their serialized form, and their properties. (Own: the JSON; each command is named in `Command`.)
-use Rattle.std.specs.Prelude.{[], ◌∷◌, Option, Some, codes}
+use Rattle.std.specs.Prelude.{ℕ, [], ◌∷◌, ◌==◌, ◌||◌, Bool, true, false, Option, Some, None, codes}
 use Rattle.serde_json.specs.Data.{Data}
-use Rattle.ray_json.specs.Fields.{◌>>=◌, only, at, listed_at, u32_of, list_of}
+use Rattle.ray_json.specs.Fields.{◌>>=◌, guard, only, at, optional_at, listed_at, u32_of, list_of}
 use Rattle.ray_cmd.specs.Words.{copy_mode_of, asked_of}
 use Rattle.ray_cmd.specs.Places.{spot_of, stretch_of}
 use Rattle.ray_cmd.specs.declared.command.Command.{Command}
@@ -16,13 +16,24 @@ copy_structure_of d = do
   dst ← at u32_of (codes "dst") d
   Some (commands.CopyStructure mode src dst)
 
+-- whether there is such a form; and whether it is form 2. None stands for form 1 (own)
+abbrev pub is_form : Option ℕ → Bool
+is_form None = true
+is_form (Some number) = (number == 1) || (number == 2)
+
+abbrev pub is_form_2 : Option ℕ → Bool
+is_form_2 None = false
+is_form_2 (Some number) = number == 2
+
 -- the command `serialize`: a structure that is serialized
 unfoldable pub serialize_of : Data → Option Command
 serialize_of d = do
-  _ ← only (codes "op" ∷ codes "src" ∷ codes "dst" ∷ []) d
+  _ ← only (codes "op" ∷ codes "src" ∷ codes "dst" ∷ codes "form" ∷ []) d
   src ← at u32_of (codes "src") d
   dst ← at stretch_of (codes "dst") d
-  Some (commands.Serialize src dst)
+  form ← optional_at u32_of (codes "form") d
+  _ ← guard (is_form form)
+  Some (commands.Serialize src dst form)
 
 -- the command `deserialize`: a structure that is read from its serialized form
 unfoldable pub deserialize_of : Data → Option Command

@@ -68,7 +68,7 @@ build_mode_of = word_of ((codes "build", modes.Build) ∷ (codes "update", modes
 
 -- which number of a structure is asked
 abbrev pub asked_of : Data → Option Asked
-asked_of = word_of ((codes "compacted", numbers.Compacted) ∷ (codes "serialized", numbers.Serialized) ∷ (codes "handles", numbers.Handles) ∷ (codes "size", numbers.Size) ∷ [])
+asked_of = word_of ((codes "compacted", numbers.Compacted) ∷ (codes "serialized", numbers.Serialized) ∷ (codes "serialized_form_2", numbers.SerializedForm2) ∷ (codes "handles", numbers.Handles) ∷ (codes "size", numbers.Size) ∷ [])
 
 -- which kind of geometry follows
 abbrev pub geometry_kind_of : Data → Option GeometryKind

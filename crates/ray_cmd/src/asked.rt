@@ -11,6 +11,8 @@ pub enum Asked {
     Compacted,
     /// The size of the serialized form, in bytes.
     Serialized,
+    /// The size of the serialized form 2 of a bottom structure, in bytes. (Own.)
+    SerializedForm2,
     /// The number of handles in the serialized form.
     Handles,
     /// The size with which the structure was made, in bytes.
@@ -27,6 +29,7 @@ impl FromJson for Asked {
             &[
                 ("compacted", Asked::Compacted),
                 ("serialized", Asked::Serialized),
+                ("serialized_form_2", Asked::SerializedForm2),
                 ("handles", Asked::Handles),
                 ("size", Asked::Size),
             ],

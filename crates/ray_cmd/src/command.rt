@@ -85,10 +85,12 @@ pub enum Command {
         src: u32,
         dst: u32,
     },
-    /// Writes a structure's serialized form (vkCmdCopyAccelerationStructureToMemoryKHR).
+    /// Writes a structure's serialized form (vkCmdCopyAccelerationStructureToMemoryKHR), which is
+    /// form 1 or, with the tree of a bottom structure, form 2; none stands for 1 (own).
     Serialize {
         src: u32,
         dst: Stretch,
+        form: Option<u32>,
     },
     /// Reads a structure from its serialized form (vkCmdCopyMemoryToAccelerationStructureKHR).
     Deserialize {

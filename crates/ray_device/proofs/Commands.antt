@@ -202,8 +202,8 @@ part-stores rec z (commands.Build infos) k output m within s =
 part-stores rec z (commands.CopyStructure mode src dst) k output m within s =
     stores-by rec z (commands.CopyStructure mode src dst) k output m (CopyStructure mode src dst)
     (first-part _ k within) (λ l. refl)
-part-stores rec z (commands.Serialize src dst) k output m within s =
-    stores-by rec z (commands.Serialize src dst) k output m (SerializeStructure src (stretch_range dst)) (first-part _ k within) (λ l. refl)
+part-stores rec z (commands.Serialize src dst form) k output m within s =
+    stores-by rec z (commands.Serialize src dst form) k output m (SerializeStructure src (stretch_range dst) form) (first-part _ k within) (λ l. refl)
 part-stores rec z (commands.Deserialize src dst uses) k output m within s =
     stores-by rec z (commands.Deserialize src dst uses) k output m (DeserializeStructure (stretch_range src) dst uses) (first-part _ k within) (λ l. refl)
 part-stores rec z (commands.Property what structures dst) k output m within s =
@@ -236,7 +236,7 @@ part-can rec z (commands.Build infos) k output m within s =
     (subst (λ a. IsStorable a output m) (build-part rec z infos k (slice_get infos k) refl) s)
 part-can rec z (commands.CopyStructure mode src dst) k output m within s =
     subst (λ a. IsStorable a output m) (first-part (CopyStructure mode src dst) k within) s
-part-can rec z (commands.Serialize src dst) k output m within s = tt
+part-can rec z (commands.Serialize src dst form) k output m within s = tt
 part-can rec z (commands.Deserialize src dst uses) k output m within s =
     subst (λ a. IsStorable a output m) (first-part (DeserializeStructure (stretch_range src) dst uses) k within) s
 part-can rec z (commands.Property what structures dst) k output m within s = tt

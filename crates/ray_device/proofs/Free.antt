@@ -217,8 +217,8 @@ module _ (meaning : Meaning) where
       (build-part rec z infos k (slice_get infos k) refl) (info-free m z k (slice_get infos k)) ready
   part_free rec z (commands.CopyStructure mode src dst) k m within ready =
       part-if m _ (CopyStructure mode src dst) _ _ (first-part _ k within) (λ r. (r, refl)) ready
-  part_free rec z (commands.Serialize src dst) k m within ready =
-      part-if m _ (SerializeStructure src (stretch_range dst)) _ _ (first-part _ k within) (λ r. (r, refl)) ready
+  part_free rec z (commands.Serialize src dst form) k m within ready =
+      part-if m _ (SerializeStructure src (stretch_range dst) form) _ _ (first-part _ k within) (λ r. (r, refl)) ready
   part_free rec z (commands.Deserialize src dst uses) k m within ready =
       part-if m _ (DeserializeStructure (stretch_range src) dst uses) _ _ (first-part _ k within) (deserialize-free m src dst uses) ready
   part_free rec z (commands.Property what structures dst) k m within ready =
@@ -256,9 +256,9 @@ module _ (meaning : Meaning) where
   unfolding part_given
   copy_is m mode src dst k = refl
 
-  pub serialize_is : (m : Memory) (src : ℕ) (dst : Stretch) (k : ℕ) → serialize_outcome (stretch_range dst) (m (ContentsAt src)) ≡ part_given m meaning (commands.Serialize src dst) k
+  pub serialize_is : (m : Memory) (src : ℕ) (dst : Stretch) (form : Option ℕ) (k : ℕ) → serialize_outcome form (stretch_range dst) (m (ContentsAt src)) ≡ part_given m meaning (commands.Serialize src dst form) k
   unfolding part_given
-  serialize_is m src dst k = refl
+  serialize_is m src dst form k = refl
 
   pub deserialize_is : (m : Memory) (src : Stretch) (dst : ℕ) (uses : List ℕ) (k : ℕ)
       → deserialize_outcome (map (used_now m) uses) (bytes_at m (stretch_range src)) (m (StructureAt dst)) ≡ part_given m meaning (commands.Deserialize src dst uses) k

@@ -12,7 +12,7 @@ use Rattle.ray_bottom.specs.Builders.{BuilderValue}
 use Rattle.ray_top.specs.Contents as tops
 use Rattle.ray_top.specs.declared.used.Used.{Used}
 use Rattle.ray_form.specs.Form.{broken_line}
-use Rattle.ray_serial.specs.Meaning.{bottom_in, deserialized_in, is_top_form}
+use Rattle.ray_serial.specs.Meaning.{bottom_in, deserialized_in, is_top_form, lacks_its_tree}
 use Rattle.ray_serial.specs.TopMeaning.{top_in}
 use Rattle.ray_cmd.specs.declared.command.Command.TheVariants as commands
 use Rattle.ray_cmd.specs.declared.copy_mode.CopyMode.{CopyMode}
@@ -25,7 +25,7 @@ use Rattle.ray_action.specs.declared.form.Form.{Form}
 use Rattle.ray_action.specs.Memory.{Memory, Contents, Bottom, Top, StructureAt, ContentsAt, kind_of, as_bottom, as_top, bytes_at}
 use Rattle.ray_action.specs.Action.{MakeBuffer, MakeStructure, DestroyBuffer, DestroyStructure, ShowSizes, ShowBytes, UpdateBytes, FillBytes, CopyBytes, BuildBottom, UpdateBottom, BuildTop, UpdateTop, CopyStructure, SerializeStructure, DeserializeStructure, TellProperty, TraceRays, Rest, Impossible}
 use Rattle.ray_action.specs.Building.{add_all, new_builder, update_builder, all_used, top_of, top_again}
-use Rattle.ray_action.specs.Outcomes.{Output, Outcome, Fault, Holds, compacted_of, Gives, Breaks, Undefined, bad_bytes, bottom_outcome, top_outcome, copy_outcome, deserialize_outcome, fitting_in, kept_outcome, linked_outcome, opened_outcome, structure_in}
+use Rattle.ray_action.specs.Outcomes.{Output, Outcome, Fault, Holds, compacted_of, Gives, Breaks, Undefined, bad_bytes, bottom_outcome, carried_in, top_outcome, copy_outcome, deserialize_outcome, fitting_in, kept_outcome, linked_outcome, opened_outcome, structure_in}
 use Rattle.ray_action.specs.Seeing.{SeenBytes, see_geometry, see_structures}
 use Rattle.ray_action.specs.Pieces.{info_actions, region_action, rays_action, trace_pieces, actions_of}
 use Rattle.ray_action.specs.Readiness.{IsMade}
@@ -123,7 +123,8 @@ kept-holds : (dst : ℕ) (kind : StructureKind) (size : ℕ) (used : List Used) 
     → kept_outcome kind size used bytes ≡ Gives output → CanHold dst output m
 kept-holds dst kinds.Bottom size used bytes output m made e =
     fitting-holds dst size used bytes kinds.Bottom output m made
-    (second-gives (is_top_form bytes) (bad_bytes 9) (fitting_in size used bytes kinds.Bottom) output (λ f. absurd cc) e)
+    (second-gives (lacks_its_tree bytes) (bad_bytes 10) (fitting_in size used bytes kinds.Bottom) output (λ f. absurd cc)
+    (second-gives (is_top_form bytes) (bad_bytes 9) (carried_in size used bytes) output (λ f. absurd cc) e))
 kept-holds dst kinds.Top size used bytes output m made e =
     fitting-holds dst size used bytes kinds.Top output m made
     (first-gives (is_top_form bytes) (fitting_in size used bytes kinds.Top) (bad_bytes 9) output (λ f. absurd cc) e)
@@ -162,7 +163,7 @@ outputs-are_storable meaning (UpdateTop build src uses instances) m output ready
     (λ old. top_again old (all_used (see_structures m uses) uses) instances (see_geometry m build.buffers instances)) output m ready.1.dst e
 outputs-are_storable meaning (CopyStructure mode src dst) m output ready e =
     copy-holds mode dst ready.0.source (m (ContentsAt src)) (m (StructureAt dst)) output m ready.0.is_it ready.0.made e
-outputs-are_storable meaning (SerializeStructure src to) m output ready e = tt
+outputs-are_storable meaning (SerializeStructure src to form) m output ready e = tt
 outputs-are_storable meaning (DeserializeStructure from dst uses) m output ready e =
     restore-holds dst (all_used (see_structures m uses) uses) (bytes_at m from) (m (StructureAt dst)) output m refl e
 outputs-are_storable meaning (TellProperty what structures to) m output ready e = tt
@@ -192,7 +193,7 @@ parts-are_actions rec z (commands.Fill buffer offset size value) is = refl
 parts-are_actions rec z (commands.Copy src dst regions) is = length-map regions (region_action src dst)
 parts-are_actions rec z (commands.Build infos) is = length-infos z 0 infos
 parts-are_actions rec z (commands.CopyStructure mode src dst) is = refl
-parts-are_actions rec z (commands.Serialize src dst) is = refl
+parts-are_actions rec z (commands.Serialize src dst form) is = refl
 parts-are_actions rec z (commands.Deserialize src dst uses) is = refl
 parts-are_actions rec z (commands.Property what structures dst) is = refl
 parts-are_actions rec z (commands.Barrier src_stages src_access dst_stages dst_access buffers) is = refl

@@ -33,7 +33,7 @@ unfoldable pub part_given : Memory → Meaning → Command → ℕ → Outcome
 part_given memory meaning (commands.Copy src dst regions) k = region_given memory src (slice_get regions k)
 part_given memory meaning (commands.Build infos) k = info_given memory k (slice_get infos k)
 part_given memory meaning (commands.CopyStructure mode src dst) k = copy_outcome mode (memory (ContentsAt src)) (memory (StructureAt dst))
-part_given memory meaning (commands.Serialize src dst) k = serialize_outcome (stretch_range dst) (memory (ContentsAt src))
+part_given memory meaning (commands.Serialize src dst form) k = serialize_outcome form (stretch_range dst) (memory (ContentsAt src))
 part_given memory meaning (commands.Deserialize src dst uses) k =
     deserialize_outcome (map (used_now memory) uses) (bytes_at memory (stretch_range src)) (memory (StructureAt dst))
 part_given memory meaning (commands.Property what structures dst) k = property_outcome (numbers_of what (map (see_structure memory) structures))
@@ -56,7 +56,7 @@ CanFetch memory (commands.Copy src dst regions) k = CanReadRegion memory src (sl
 CanFetch memory (commands.Build infos) k = CanBuildInfo memory (slice_get infos k)
 CanFetch memory (commands.CopyStructure mode src dst) k =
     IsCopyReady (memory (ContentsAt src)) (memory (StructureAt dst)) × FitsMode mode (memory (ContentsAt src))
-CanFetch memory (commands.Serialize src dst) k = IsSome (memory (ContentsAt src))
+CanFetch memory (commands.Serialize src dst form) k = IsSome (memory (ContentsAt src))
 CanFetch memory (commands.Deserialize src dst uses) k =
     IsSome (bytes_at memory (stretch_range src)) × IsSome (memory (StructureAt dst))
 CanFetch memory (commands.Property what structures dst) k = IsSome (numbers_of what (map (see_structure memory) structures))

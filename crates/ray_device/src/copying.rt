@@ -145,7 +145,8 @@ fn number(state: &State, what: Asked, id: u32) -> Option<u64>
     match what {
         Asked::Compacted => Some(state.bottom(id)?.compacted_size()),
         Asked::Size => Some(state.form(id)?.size),
-        Asked::Serialized => serialized_size_at(state, id),
+        Asked::Serialized => serialized_size_at(state, false, id),
+        Asked::SerializedForm2 => serialized_size_at(state, true, id),
         Asked::Handles => handle_count_at(state, id),
     }
 }

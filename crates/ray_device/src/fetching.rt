@@ -128,8 +128,8 @@ fn fetch_part<R: Threads + Sync, C: Client, L: Ledger>(
         Command::CopyStructure { mode, src, dst } => {
             copied_structure(alloc, state, *mode, *src, *dst)
         }
-        Command::Serialize { src, dst } => {
-            serialized(alloc, state, *src, range(dst.buffer, dst.offset, dst.size))
+        Command::Serialize { src, dst, form } => {
+            serialized(alloc, state, *src, *form, range(dst.buffer, dst.offset, dst.size))
         }
         Command::Deserialize { src, dst, uses } => deserialized(
             rt,

@@ -37,7 +37,7 @@ host_parts rec z (commands.Fill buffer offset size value) host = absurd cc
 host_parts rec z (commands.Copy src dst regions) host = absurd cc
 host_parts rec z (commands.Build infos) host = absurd cc
 host_parts rec z (commands.CopyStructure mode src dst) host = absurd cc
-host_parts rec z (commands.Serialize src dst) host = absurd cc
+host_parts rec z (commands.Serialize src dst form) host = absurd cc
 host_parts rec z (commands.Deserialize src dst uses) host = absurd cc
 host_parts rec z (commands.Property what structures dst) host = absurd cc
 host_parts rec z (commands.Barrier src_stages src_access dst_stages dst_access buffers) host = absurd cc
@@ -69,7 +69,7 @@ host-gives meaning (commands.Fill buffer offset size value) m ready = record { o
 host-gives meaning (commands.Copy src dst regions) m ready = record { output = Nothing; gives = refl }
 host-gives meaning (commands.Build infos) m ready = record { output = Nothing; gives = refl }
 host-gives meaning (commands.CopyStructure mode src dst) m ready = record { output = Nothing; gives = refl }
-host-gives meaning (commands.Serialize src dst) m ready = record { output = Nothing; gives = refl }
+host-gives meaning (commands.Serialize src dst form) m ready = record { output = Nothing; gives = refl }
 host-gives meaning (commands.Deserialize src dst uses) m ready = record { output = Nothing; gives = refl }
 host-gives meaning (commands.Property what structures dst) m ready = record { output = Nothing; gives = refl }
 host-gives meaning (commands.Barrier src_stages src_access dst_stages dst_access buffers) m ready = record { output = Nothing; gives = refl }
@@ -93,7 +93,7 @@ host-puts (commands.Fill buffer offset size value) o m l = refl
 host-puts (commands.Copy src dst regions) o m l = refl
 host-puts (commands.Build infos) o m l = refl
 host-puts (commands.CopyStructure mode src dst) o m l = refl
-host-puts (commands.Serialize src dst) o m l = refl
+host-puts (commands.Serialize src dst form) o m l = refl
 host-puts (commands.Deserialize src dst uses) o m l = refl
 host-puts (commands.Property what structures dst) o m l = refl
 host-puts (commands.Barrier src_stages src_access dst_stages dst_access buffers) o m l = refl

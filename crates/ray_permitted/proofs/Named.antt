@@ -255,8 +255,8 @@ asked_there z (id ∷ ids) l live e =
     (λ rest. either (is_contents_of id l) (cover (flat_map structure_areas ids) l) rest
     (λ contents. contents_there z id l there contents) (λ later. asked_there z ids l live.1 later))
 
-serialize_named : (z : Status) (src : ℕ) (r : ByteRange) → IsSome (look z.structures src) → IsSome (look z.buffers r.buffer) → IsNamed z (SerializeStructure src r)
-serialize_named z src r from to = record {
+serialize_named : (z : Status) (src : ℕ) (r : ByteRange) (form : Option ℕ) → IsSome (look z.structures src) → IsSome (look z.buffers r.buffer) → IsNamed z (SerializeStructure src r form)
+serialize_named z src r form from to = record {
   reads = λ l e. either (is_contents_of src l) false e (λ source. contents_there z src l from source) (λ none. absurd cc);
   writes = λ l e. bytes_there z r l to e;
 }
@@ -335,11 +335,11 @@ named rec z (commands.CopyStructure mode src dst) s k a may stage there =
     subst (IsNamed z) (one_item _ a k there).1
     (copy_named z mode src dst (is_there (look z.structures src) (no_first (lacks_structure z src) (lacks_structure z dst) live))
     (is_there (look z.structures dst) (no_second (lacks_structure z src) (lacks_structure z dst) live)))
-named rec z (commands.Serialize src dst) s k a may stage there =
-    let keep = keeps rec z (commands.Serialize src dst) may.rules in
+named rec z (commands.Serialize src dst form) s k a may stage there =
+    let keep = keeps rec z (commands.Serialize src dst form) may.rules in
     let live = not_broken (lacks_structure z src || lacks_buffer z dst.buffer) keep.names in
     subst (IsNamed z) (one_item _ a k there).1
-    (serialize_named z src (stretch_range dst) (is_there (look z.structures src) (no_first (lacks_structure z src) (lacks_buffer z dst.buffer) live))
+    (serialize_named z src (stretch_range dst) form (is_there (look z.structures src) (no_first (lacks_structure z src) (lacks_buffer z dst.buffer) live))
     (is_there (look z.buffers dst.buffer) (no_second (lacks_structure z src) (lacks_buffer z dst.buffer) live)))
 named rec z (commands.Deserialize src dst uses) s k a may stage there =
     let keep = keeps rec z (commands.Deserialize src dst uses) may.rules in

@@ -51,7 +51,7 @@ unfolding actions_of stage_of kind_of v16
 pieces_apart rec z (commands.Update buffer offset content) s k m a b l e stage less here there clash = no_second_one k m less (one_item _ b m there).0
 pieces_apart rec z (commands.Fill buffer offset size value) s k m a b l e stage less here there clash = no_second_one k m less (one_item _ b m there).0
 pieces_apart rec z (commands.CopyStructure mode src dst) s k m a b l e stage less here there clash = no_second_one k m less (one_item _ b m there).0
-pieces_apart rec z (commands.Serialize src dst) s k m a b l e stage less here there clash = no_second_one k m less (one_item _ b m there).0
+pieces_apart rec z (commands.Serialize src dst form) s k m a b l e stage less here there clash = no_second_one k m less (one_item _ b m there).0
 pieces_apart rec z (commands.Deserialize src dst uses) s k m a b l e stage less here there clash = no_second_one k m less (one_item _ b m there).0
 pieces_apart rec z (commands.Property what structures dst) s k m a b l e stage less here there clash = no_second_one k m less (one_item _ b m there).0
 pieces_apart rec z (commands.Copy src dst regions) s k m a b l e stage less here there clash =

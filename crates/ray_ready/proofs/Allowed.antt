@@ -94,6 +94,7 @@ abbrev pub MayTell : Status → Asked → ℕ → Type 0
 MayTell z asked.Compacted id = IsBuiltOf kinds.Bottom (look z.structures id)
 MayTell z asked.Size id = IsSome (look z.structures id)
 MayTell z asked.Serialized id = IsBuiltAny (look z.structures id)
+MayTell z asked.SerializedForm2 id = IsBuiltAny (look z.structures id)
 MayTell z asked.Handles id = IsBuiltAny (look z.structures id)
 
 abbrev pub MayTellAll : Status → Asked → List ℕ → Type 0
@@ -125,7 +126,7 @@ IsAllowed rec z (UpdateBottom build src gs) = IsBuiltOf kinds.Bottom (look z.str
 IsAllowed rec z (BuildTop build flags uses instances) = MayBuildTop rec z build uses instances × (tops.has_both_fast flags ≡ false)
 IsAllowed rec z (UpdateTop build src uses instances) = IsSource rec z src instances × MayBuildTop rec z build uses instances
 IsAllowed rec z (CopyStructure mode src dst) = MayCopy z mode src dst
-IsAllowed rec z (SerializeStructure src to) = IsBuiltAny (look z.structures src)
+IsAllowed rec z (SerializeStructure src to form) = IsBuiltAny (look z.structures src)
 IsAllowed rec z (DeserializeStructure from dst uses) = MayDeserialize z from dst uses
 IsAllowed rec z (TellProperty what structures to) = MayTellAll z what structures
 IsAllowed rec z (TraceRays trace) = MayTrace rec z trace

@@ -159,6 +159,10 @@ tell_all z asked.Serialized (id ∷ ids) live kind built = (
   any_built (look z.structures id) (is_there (look z.structures id) live.0) (is_there (built_at z id) built.0),
   tell_all z asked.Serialized ids live.1 kind built.1,
 )
+tell_all z asked.SerializedForm2 (id ∷ ids) live kind built = (
+  any_built (look z.structures id) (is_there (look z.structures id) live.0) (is_there (built_at z id) built.0),
+  tell_all z asked.SerializedForm2 ids live.1 (neither_second (is_top_at z id) (list_any (is_top_at z) ids) kind) built.1,
+)
 tell_all z asked.Handles (id ∷ ids) live kind built = (
   any_built (look z.structures id) (is_there (look z.structures id) live.0) (is_there (built_at z id) built.0),
   tell_all z asked.Handles ids live.1 kind built.1,
@@ -173,9 +177,9 @@ property_allowed rec z what ids dst k =
 
 -- ---- serialized copies
 
-serialize_allowed : (rec : List Command) (z : Status) (src : ℕ) (dst : Stretch) → Keeps rec z (commands.Serialize src dst) → IsBuiltAny (look z.structures src)
+serialize_allowed : (rec : List Command) (z : Status) (src : ℕ) (dst : Stretch) (form : Option ℕ) → Keeps rec z (commands.Serialize src dst form) → IsBuiltAny (look z.structures src)
 unfolding v1 v17
-serialize_allowed rec z src dst k =
+serialize_allowed rec z src dst form k =
     any_built (look z.structures src)
     (is_there (look z.structures src) (neither_first (lacks_structure z src) (lacks_buffer z dst.buffer) (not_broken (lacks_structure z src || lacks_buffer z dst.buffer) k.names)))
     (is_there (built_at z src) (not_broken (is_unbuilt z src) k.built))
@@ -334,9 +338,9 @@ command_leads rec i z (commands.CopyStructure mode src dst) m is may ties =
     one_leads (CopyStructure mode src dst) m (Ties rec (i + 1) 0 (status.after i (commands.CopyStructure mode src dst) z))
     (allowed_ready rec i 0 z m (CopyStructure mode src dst) ties copy)
     (λ o e. ties_later rec i 0 _ _ (structure_copied rec i z m mode src dst o copy e ties))
-command_leads rec i z (commands.Serialize src dst) m is may ties =
-    let k = keeps rec z (commands.Serialize src dst) may.rules in
-    bytes_on rec i z (SerializeStructure src (stretch_range dst) ∷ []) m ((serialize_allowed rec z src dst k, tt), tt) ties
+command_leads rec i z (commands.Serialize src dst form) m is may ties =
+    let k = keeps rec z (commands.Serialize src dst form) may.rules in
+    bytes_on rec i z (SerializeStructure src (stretch_range dst) form ∷ []) m ((serialize_allowed rec z src dst form k, tt), tt) ties
 command_leads rec i z (commands.Deserialize src dst uses) m is may ties =
     let k = keeps rec z (commands.Deserialize src dst uses) may.rules in
     let a : Action = DeserializeStructure (stretch_range src) dst uses in

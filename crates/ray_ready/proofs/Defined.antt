@@ -7,9 +7,10 @@ use Rattle.ray_bottom.specs.Builders.{BuilderValue}
 use Rattle.ray_top.specs.Contents as tops
 use Rattle.ray_top.specs.declared.used.Used.{Used}
 use Rattle.ray_form.specs.Form.{broken_line}
-use Rattle.ray_serial.specs.Meaning.{is_top_form, deserialized_in, bottom_in}
+use Rattle.ray_serial.specs.Meaning.{is_top_form, deserialized_in, bottom_in, lacks_its_tree}
 use Rattle.ray_serial.specs.TopMeaning.{top_in}
 use Rattle.ray_serial.proofs.BottomForms.{bottom_there}
+use Rattle.ray_cmd.specs.Copies.{is_form_2}
 use Rattle.ray_cmd.specs.declared.structure_kind.StructureKind.{StructureKind}
 use Rattle.ray_cmd.specs.declared.structure_kind.StructureKind.TheVariants as kinds
 use Rattle.ray_cmd.specs.declared.copy_mode.CopyMode.{CopyMode}
@@ -67,8 +68,8 @@ hits (Ok found) = tt
 hits (Err fault) = tt
 
 -- what is written into so many bytes
-written : (size : ℕ) (c : Contents) → IsDefined (serialized_into size c)
-written size c = either (nat_lt size (size_of_serialized c)) _ _ tt tt
+written : (second : Bool) (size : ℕ) (c : Contents) → IsDefined (serialized_into second size c)
+written second size c = either (nat_lt size (size_of_serialized second c)) _ _ tt tt
 
 -- what bytes stand for that break no line
 linked : (found : Result tops.TopValue DataFault) → IsDefined (linked_outcome found)
@@ -91,7 +92,8 @@ no_bottom e = absurd cc
 
 kept : (kind : StructureKind) (size : ℕ) (used : List Used) (bytes : List ℕ) → broken_line bytes ≡ None → IsDefined (kept_outcome kind size used bytes)
 kept kinds.Bottom size used bytes unbroken =
-    either_so (is_top_form bytes) _ _ tt (λ bottom. fits size used bytes kinds.Bottom (λ same. bottom_there bytes unbroken bottom))
+    either_so (is_top_form bytes) _ _ tt (λ bottom.
+    either (lacks_its_tree bytes) _ _ tt (fits size used bytes kinds.Bottom (λ same. bottom_there bytes unbroken bottom)))
 kept kinds.Top size used bytes unbroken =
     either (is_top_form bytes) _ _ (fits size used bytes kinds.Top (λ same. no_bottom same)) tt
 
@@ -124,7 +126,7 @@ defined meaning (UpdateBottom build src geometries) memory ready = made _ _ read
 defined meaning (BuildTop build flags uses instances) memory ready = top _ _
 defined meaning (UpdateTop build src uses instances) memory ready = made _ _ (some _ ready.0.top ready.0.is_it) (λ old. top _ _)
 defined meaning (CopyStructure mode src dst) memory ready = copied mode _ _ ready.0 ready.1
-defined meaning (SerializeStructure src to) memory ready = made _ (serialized_into to.size) ready (written to.size)
+defined meaning (SerializeStructure src to form) memory ready = made _ (serialized_into (is_form_2 form) to.size) ready (written (is_form_2 form) to.size)
 defined meaning (DeserializeStructure from dst uses) memory ready = restored _ _ _ ready.bytes ready.dst
 defined meaning (TellProperty what structures to) memory ready = told _ ready
 defined meaning (TraceRays trace) memory ready = traced meaning trace _ _ _ ready.rays (some _ ready.top ready.is_it)

@@ -28,7 +28,7 @@ use Rattle.ray_top.specs.InstanceReading.{bounds_in, bounds_kept, forced, in_use
 use Rattle.ray_top.specs.declared.used.Used.{Used}
 use Rattle.ray_top.proofs.Limits.{AreRead, AreRead-instances_read}
 use Rattle.ray_form.specs.Form.{broken_line, flags_of_payload, payload_in}
-use Rattle.ray_serial.specs.Meaning.{bottom_in, deserialized_in, is_top_form}
+use Rattle.ray_serial.specs.Meaning.{bottom_in, deserialized_in, is_top_form, lacks_its_tree}
 use Rattle.ray_serial.specs.TopMeaning.{instance_linked, instances_in, linked, linked_at, top_in}
 use Rattle.ray_cmd.specs.declared.structure_kind.StructureKind.{StructureKind}
 use Rattle.ray_cmd.specs.declared.structure_kind.StructureKind.TheVariants as kinds
@@ -41,7 +41,7 @@ use Rattle.ray_action.specs.Action.{Action, MakeBuffer, MakeStructure, DestroyBu
 use Rattle.ray_action.specs.Seeing.{SeenBytes, see_structures}
 use Rattle.ray_action.specs.Building.{all_used}
 use Rattle.ray_action.specs.Clients.{Meaning}
-use Rattle.ray_action.specs.Outcomes.{Output, Outcome, Nothing, Holds, Gives, Breaks, Undefined, bad_bytes, bottom_outcome, compact_copy, compacted_of, copy_outcome, deserialize_outcome, fitting_in, kept_outcome, linked_outcome, of_bottom, of_top, opened_outcome, structure_in, outcome_of, top_outcome}
+use Rattle.ray_action.specs.Outcomes.{Output, Outcome, Nothing, Holds, Gives, Breaks, Undefined, bad_bytes, bottom_outcome, carried_in, compact_copy, compacted_of, copy_outcome, deserialize_outcome, fitting_in, kept_outcome, linked_outcome, of_bottom, of_top, opened_outcome, structure_in, outcome_of, top_outcome}
 use Rattle.ray_action.specs.Readiness.{IsReady}
 
 -- ---- outcomes taken apart
@@ -201,7 +201,9 @@ fits_gives size used bytes kind o e =
 
 kept_gives : (kind : StructureKind) (size : ℕ) (used : List Used) (bytes : List ℕ) (o : Output) → kept_outcome kind size used bytes ≡ Gives o → MayRestoreKind kind used o
 kept_gives kinds.Bottom size used bytes o e =
-    fits_gives size used bytes kinds.Bottom o (second_gives (is_top_form bytes) (bad_bytes 9) (fitting_in size used bytes kinds.Bottom) o (λ f. absurd cc) e)
+    fits_gives size used bytes kinds.Bottom o
+    (second_gives (lacks_its_tree bytes) (bad_bytes 10) (fitting_in size used bytes kinds.Bottom) o (λ f. absurd cc)
+    (second_gives (is_top_form bytes) (bad_bytes 9) (carried_in size used bytes) o (λ f. absurd cc) e))
 kept_gives kinds.Top size used bytes o e =
     fits_gives size used bytes kinds.Top o (first_gives (is_top_form bytes) (fitting_in size used bytes kinds.Top) (bad_bytes 9) o (λ f. absurd cc) e)
 
@@ -253,7 +255,7 @@ gives_may meaning (UpdateTop build src uses instances) m o e =
     let gives = top_gives build.info _ o source.1.1 in
     (gives.0, (gives.1.0, read_top source.0.contents.flags _ _ (Some source.0.contents.instances) (count_of instances) _ gives.0 refl gives.1.1))
 gives_may meaning (CopyStructure mode src dst) m o e = copy_gives mode (m (ContentsAt src)) (m (StructureAt dst)) o e
-gives_may meaning (SerializeStructure src to) m o e = tt
+gives_may meaning (SerializeStructure src to form) m o e = tt
 gives_may meaning (DeserializeStructure from dst uses) m o e = restore_gives (all_used (see_structures m uses) uses) (bytes_at m from) (m (StructureAt dst)) o e
 gives_may meaning (TellProperty what structures to) m o e = tt
 gives_may meaning (TraceRays trace) m o e = tt
@@ -332,7 +334,7 @@ stand_may (UpdateTop build src uses instances) m ready =
     )
 stand_may (CopyStructure mode src dst) m ready =
     (ready.0.source, (ready.0.is_it, ap (λ found. option_map_or (λ c. Holds c) found Nothing) ready.0.is_it))
-stand_may (SerializeStructure src to) m ready = tt
+stand_may (SerializeStructure src to form) m ready = tt
 stand_may (DeserializeStructure from dst uses) m ready = empty_may (m (StructureAt dst)) (all_used (see_structures m uses) uses) ready.dst
 stand_may (TellProperty what structures to) m ready = tt
 stand_may (TraceRays trace) m ready = tt

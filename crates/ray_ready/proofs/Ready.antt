@@ -204,6 +204,7 @@ number_there rec i k z m asked.Compacted id ties may =
 number_there rec i k z m asked.Size id ties may =
     some_map _ (m (StructureAt id)) (subst IsSome (sym (ties.forms.form id)) (some_map form_of (look z.structures id) may))
 number_there rec i k z m asked.Serialized id ties may = some_map _ (m (ContentsAt id)) (contents_there rec i k z m id ties may)
+number_there rec i k z m asked.SerializedForm2 id ties may = some_map _ (m (ContentsAt id)) (contents_there rec i k z m id ties may)
 number_there rec i k z m asked.Handles id ties may = some_map _ (m (ContentsAt id)) (contents_there rec i k z m id ties may)
 
 numbers_there : (rec : List Command) (i k : ℕ) (z : Status) (m : Memory) (what : Asked) (ids : List ℕ) → Ties rec i k z m → MayTellAll z what ids
@@ -273,7 +274,7 @@ allowed_ready rec i k z m (BuildTop build flags uses instances) ties may = (top_
 allowed_ready rec i k z m (UpdateTop build src uses instances) ties may =
     (source_there rec i k z m src instances ties may.0, top_ready rec i k z m build uses instances ties may.1)
 allowed_ready rec i k z m (CopyStructure mode src dst) ties may = copy_ready rec i k z m mode src dst ties may
-allowed_ready rec i k z m (SerializeStructure src to) ties may = contents_there rec i k z m src ties may
+allowed_ready rec i k z m (SerializeStructure src to form) ties may = contents_there rec i k z m src ties may
 allowed_ready rec i k z m (DeserializeStructure from dst uses) ties may = deserialize_ready rec i k z m from dst uses ties may
 allowed_ready rec i k z m (TellProperty what structures to) ties may = numbers_there rec i k z m what structures ties may
 allowed_ready rec i k z m (TraceRays trace) ties may = trace_ready rec i k z m trace ties may

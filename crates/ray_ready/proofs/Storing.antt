@@ -42,7 +42,7 @@ WritesBytes (ShowBytes from form) = Unit {0}
 WritesBytes (UpdateBytes to content) = Unit {0}
 WritesBytes (FillBytes to value) = Unit {0}
 WritesBytes (CopyBytes from to) = Unit {0}
-WritesBytes (SerializeStructure src to) = Unit {0}
+WritesBytes (SerializeStructure src to form) = Unit {0}
 WritesBytes (TellProperty what structures to) = Unit {0}
 WritesBytes (TraceRays trace) = Unit {0}
 WritesBytes Rest = Unit {0}
@@ -75,8 +75,8 @@ ties_written rec i k z m (CopyBytes from to) output w ties = record {
   forms = ties.forms;
   contents = ties.contents;
 }
-ties_written rec i k z m (SerializeStructure src to) output w ties = record {
-  buffers = with_bytes rec i k z m (λ q at. put (SerializeStructure src to) (Gives output) m (ByteAt q at))
+ties_written rec i k z m (SerializeStructure src to form) output w ties = record {
+  buffers = with_bytes rec i k z m (λ q at. put (SerializeStructure src to form) (Gives output) m (ByteAt q at))
       (λ q at is. either (is_in_range to (ByteAt q at)) (bytes_left to.from output (ByteAt q at) (m (ByteAt q at))) (m (ByteAt q at)) (left_there to.from output q at (m (ByteAt q at)) is) is) ties;
   forms = ties.forms;
   contents = ties.contents;

@@ -94,7 +94,7 @@ v3 z (commands.Copy src dst regions) =
     whole (lacks_usage z TransferSrc src || lacks_usage z TransferDst dst)
 v3 z (commands.Build infos) = first_part (lacks_info_usage z) infos
 v3 z (commands.CopyStructure mode src dst) = None
-v3 z (commands.Serialize src dst) = whole (lacks_usage z TransferDst dst.buffer)
+v3 z (commands.Serialize src dst form) = whole (lacks_usage z TransferDst dst.buffer)
 v3 z (commands.Deserialize src dst uses) = whole (lacks_usage z TransferSrc src.buffer)
 v3 z (commands.Property what structures dst) = whole (lacks_usage z TransferDst dst.buffer)
 v3 z (commands.Barrier src_stages src_access dst_stages dst_access buffers) = None

@@ -75,7 +75,7 @@ v1 z (commands.Fill buffer offset size value) = whole (lacks_buffer z buffer)
 v1 z (commands.Copy src dst regions) = whole (lacks_buffer z src || lacks_buffer z dst)
 v1 z (commands.Build infos) = first_part (lacks_named z) infos
 v1 z (commands.CopyStructure mode src dst) = whole (lacks_structure z src || lacks_structure z dst)
-v1 z (commands.Serialize src dst) = whole (lacks_structure z src || lacks_buffer z dst.buffer)
+v1 z (commands.Serialize src dst form) = whole (lacks_structure z src || lacks_buffer z dst.buffer)
 v1 z (commands.Deserialize src dst uses) =
     whole (lacks_buffer z src.buffer || (lacks_structure z dst || list_any (lacks_structure z) uses))
 v1 z (commands.Property what structures dst) =

@@ -4,6 +4,7 @@
 use Rattle.std.specs.Prelude.{ℕ, List, Option, None, Bool, true, false, ◌&&◌, ◌||◌, ◌==◌, not, nat_lt, nat_le, length, sum}
 use Rattle.std.specs.List.{list_any, list_all}
 use Rattle.std.specs.Option.{option_map_or, option_or}
+use Rattle.ray_cmd.specs.Copies.{is_form_2}
 use Rattle.ray_cmd.specs.declared.asked.Asked.{Asked}
 use Rattle.ray_cmd.specs.declared.asked.Asked.TheVariants as asked
 use Rattle.ray_cmd.specs.declared.command.Command.{Command}
@@ -36,8 +37,13 @@ is_wrong_info z info = uses_wrongly z info.dst info.uses || updates_wrongly z in
 abbrev pub asks_wrongly : Status → Asked → List ℕ → Bool
 asks_wrongly z asked.Compacted structures = list_any (is_top_at z) structures
 asks_wrongly z asked.Serialized structures = false
+asks_wrongly z asked.SerializedForm2 structures = list_any (is_top_at z) structures
 asks_wrongly z asked.Handles structures = false
 asks_wrongly z asked.Size structures = false
+
+-- whether a top is to be serialized in form 2
+abbrev pub serializes_wrongly : Status → Option ℕ → ℕ → Bool
+serializes_wrongly z form src = is_form_2 form && is_top_at z src
 
 -- whether a top is to be compacted
 abbrev pub compacts_wrongly : Status → CopyMode → ℕ → Bool
@@ -45,10 +51,12 @@ compacts_wrongly z copies.Clone src = false
 compacts_wrongly z copies.Compact src = is_top_at z src
 
 -- V7: trace's `top` is a bottom; a `uses` entry is a top; `uses` isn't empty for a bottom; update's
--- `src` and `dst` differ in kind; `compacted` isn't asked of a bottom; `compact` isn't of a bottom
+-- `src` and `dst` differ in kind; `compacted` or `serialized_form_2` isn't asked of a bottom; `compact`,
+-- or `serialize` as form 2, isn't of a bottom
 unfoldable pub v7 : Status → Command → Option Place
 v7 z (commands.Build infos) = first_part (is_wrong_info z) infos
 v7 z (commands.CopyStructure mode src dst) = whole (compacts_wrongly z mode src)
+v7 z (commands.Serialize src dst form) = whole (serializes_wrongly z form src)
 v7 z (commands.Deserialize src dst uses) = whole (uses_wrongly z dst uses)
 v7 z (commands.Property what structures dst) = whole (asks_wrongly z what structures)
 v7 z (commands.Trace top rays count hits flags mask script) = whole (is_bottom_at z top)

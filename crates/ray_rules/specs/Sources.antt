@@ -135,7 +135,7 @@ uses_unbuilt z info = list_any (is_unbuilt z) info.uses
 unfoldable pub v17 : Status → Command → Option Place
 v17 z (commands.Build infos) = first_part (uses_unbuilt z) infos
 v17 z (commands.CopyStructure mode src dst) = whole (is_unbuilt z src)
-v17 z (commands.Serialize src dst) = whole (is_unbuilt z src)
+v17 z (commands.Serialize src dst form) = whole (is_unbuilt z src)
 v17 z (commands.Deserialize src dst uses) = whole (list_any (is_unbuilt z) uses)
 v17 z (commands.Property what structures dst) = first_part (is_unbuilt z) structures
 v17 z _ = None
@@ -157,6 +157,7 @@ compacts_forbidden rec z copies.Compact src = is_not_compactable rec z src
 abbrev pub first_not_compactable : List Command → Status → Asked → List ℕ → Option Place
 first_not_compactable rec z asked.Compacted structures = first_part (is_not_compactable rec z) structures
 first_not_compactable rec z asked.Serialized structures = None
+first_not_compactable rec z asked.SerializedForm2 structures = None
 first_not_compactable rec z asked.Handles structures = None
 first_not_compactable rec z asked.Size structures = None
 

@@ -53,7 +53,7 @@ v4 z (commands.Fill buffer offset size value) = whole (reaches_out z buffer offs
 v4 z (commands.Copy src dst regions) = first_part (region_reaches_out z src dst) regions
 v4 z (commands.Build infos) = first_part (info_reaches_out z) infos
 v4 z (commands.CopyStructure mode src dst) = None
-v4 z (commands.Serialize src dst) = whole (reaches_out z dst.buffer dst.offset dst.size)
+v4 z (commands.Serialize src dst form) = whole (reaches_out z dst.buffer dst.offset dst.size)
 v4 z (commands.Deserialize src dst uses) = whole (reaches_out z src.buffer src.offset src.size)
 v4 z (commands.Property what structures dst) = whole (reaches_out z dst.buffer dst.offset (8 * length structures))
 v4 z (commands.Barrier src_stages src_access dst_stages dst_access buffers) = None
@@ -93,7 +93,7 @@ info_misses info = misses 256 info.scratch.offset || list_any input_misses info.
 -- V5: an alignment is missed
 unfoldable pub v5 : Command → Option Place
 v5 (commands.Build infos) = first_part info_misses infos
-v5 (commands.Serialize src dst) = whole (misses 256 dst.offset)
+v5 (commands.Serialize src dst form) = whole (misses 256 dst.offset)
 v5 (commands.Deserialize src dst uses) = whole (misses 256 src.offset)
 v5 (commands.Property what structures dst) = whole (misses 8 dst.offset)
 v5 (commands.Trace top rays count hits flags mask script) = whole (misses 8 rays.offset || misses 8 hits.offset)

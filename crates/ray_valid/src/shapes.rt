@@ -1,10 +1,10 @@
 ghost use Rattle.std.specs.Prelude.{◌≡◌, false, length, nat_lt, sum};
 ghost use Rattle.std.specs.Option.{option_map_or, option_or};
-ghost use Rattle.ray_rules.specs.Shapes.{asks_wrongly, compacts_wrongly, is_too_large, v7, v8, v9, v10};
+ghost use Rattle.ray_rules.specs.Shapes.{asks_wrongly, compacts_wrongly, serializes_wrongly, is_too_large, v7, v8, v9, v10};
 ghost use Rattle.ray_rules.specs.Places.{first_part, part_at};
 
 use crate::place::{part_at, whole};
-use ray_cmd::{Asked, Command, CopyMode, Info, Listed, Place};
+use ray_cmd::{Asked, Command, CopyMode, Info, Listed, Place, is_form_2};
 use ray_infos::{
     first_mismatched, first_misshapen, first_preferring_both, first_too_large, is_too_many,
 };
@@ -14,7 +14,8 @@ use ray_status::{Status, has_top, is_bottom_at, is_top, is_top_at, uses_wrongly}
 const MOST_ENTRIES: usize = 4096;
 
 // V7: trace's `top` is a bottom; a `uses` entry is a top; `uses` isn't empty for a bottom; update's
-// `src` and `dst` differ in kind; `compacted` isn't asked of a bottom; `compact` isn't of a bottom.
+// `src` and `dst` differ in kind; `compacted` or `serialized_form_2` isn't asked of a bottom;
+// `compact`, or `serialize` as form 2, isn't of a bottom.
 #[tactic(auto, unfolding(ray_rules::specs::Shapes::v7))]
 pub(crate) fn v7(status: &Status, command: &Command) -> Option<Place>
     ensures { result ≡ v7 status.now command.now }
@@ -22,6 +23,7 @@ pub(crate) fn v7(status: &Status, command: &Command) -> Option<Place>
     match command {
         Command::Build { infos } => first_mismatched(status, infos),
         Command::CopyStructure { mode, src, .. } => whole(compacts_wrongly(status, *mode, *src)),
+        Command::Serialize { src, form, .. } => whole(serializes_wrongly(status, *form, *src)),
         Command::Deserialize { dst, uses, .. } => {
             whole(uses_wrongly(status, *dst, uses.as_slice()))
         }
@@ -40,9 +42,16 @@ fn asks_wrongly(status: &Status, what: Asked, structures: &[u32]) -> bool
     ensures { result ≡ asks_wrongly status.now what structures.now }
 {
     match what {
-        Asked::Compacted => has_top(status, structures),
+        Asked::Compacted | Asked::SerializedForm2 => has_top(status, structures),
         Asked::Serialized | Asked::Handles | Asked::Size => false,
     }
+}
+
+// Whether a top is to be serialized in form 2.
+fn serializes_wrongly(status: &Status, form: Option<u32>, src: u32) -> bool
+    ensures { result ≡ serializes_wrongly status.now form src }
+{
+    is_form_2(form) && is_top_at(status, src)
 }
 
 // Whether a top is to be compacted.

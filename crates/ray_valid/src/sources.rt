@@ -121,7 +121,7 @@ fn first_not_compactable(
 {
     match what {
         Asked::Compacted => part(position_of_not_compactable(rec, status, structures.as_slice())),
-        Asked::Serialized | Asked::Handles | Asked::Size => None,
+        Asked::Serialized | Asked::SerializedForm2 | Asked::Handles | Asked::Size => None,
     }
 }
 

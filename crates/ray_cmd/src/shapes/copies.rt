@@ -3,7 +3,8 @@ ghost use Rattle.ray_json.specs.Outcome.{Gives};
 ghost use Rattle.ray_cmd.specs.Copies.{copy_structure_of, serialize_of, deserialize_of, property_of};
 
 use crate::command::Command;
-use crate::fields::{at, listed_at};
+use crate::fields::{at, listed_at, optional_at};
+use crate::forms::is_form;
 use ray_json::{ReadFault, only_members};
 use serde_json::Value;
 use std::alloc::Global;
@@ -26,11 +27,14 @@ pub(crate) fn copy_structure(alloc: Global, value: &Value) -> Result<Command, Re
 pub(crate) fn serialize(alloc: Global, value: &Value) -> Result<Command, ReadFault>
     ensures { Gives result (serialize_of (view value.now)) }
 {
-    only_members(value, &["op", "src", "dst"])?;
-    Ok(Command::Serialize {
-        src: at(alloc, value, "src")?,
-        dst: at(alloc, value, "dst")?,
-    })
+    only_members(value, &["op", "src", "dst", "form"])?;
+    let src = at(alloc, value, "src")?;
+    let dst = at(alloc, value, "dst")?;
+    let form = optional_at(alloc, value, "form")?;
+    if !is_form(form) {
+        return Err(ReadFault::Shape);
+    }
+    Ok(Command::Serialize { src, dst, form })
 }
 
 // The command `deserialize`: a structure that is read from its serialized form.

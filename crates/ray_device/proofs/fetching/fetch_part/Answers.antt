@@ -55,8 +55,8 @@ returns-in-Serialize-clause-value g c =
     let meaning = g.C.Client.meaning c.args.client.now in
     let s = c.in-Serialize in
     subst (λ (o : Outcome). IsFetched o c.serialized.result)
-    (ap (λ r. serialize_outcome r (m (ContentsAt s.src))) c.range-in-Serialize.ensures
-    ∙ (serialize_is meaning m s.src s.dst c.args.part ∙ ap (λ x. part_given m meaning x c.args.part) (sym s.is)))
+    (ap (λ r. serialize_outcome s.form r (m (ContentsAt s.src))) c.range-in-Serialize.ensures
+    ∙ (serialize_is meaning m s.src s.dst s.form c.args.part ∙ ap (λ x. part_given m meaning x c.args.part) (sym s.is)))
     c.serialized.ensures
 
 pub returns-in-Deserialize-clause-value : goal.returns-in-Deserialize-clause-value
