@@ -129,7 +129,13 @@ fn fetch_part<R: Threads + Sync, C: Client, L: Ledger>(
             copied_structure(alloc, state, *mode, *src, *dst)
         }
         Command::Serialize { src, dst, form } => {
-            serialized(alloc, state, *src, *form, range(dst.buffer, dst.offset, dst.size))
+            serialized(
+                alloc,
+                state,
+                *src,
+                *form,
+                range(dst.buffer, dst.offset, dst.size),
+            )
         }
         Command::Deserialize { src, dst, uses } => deserialized(
             rt,

@@ -108,12 +108,7 @@ fn size_of_bottom(bottom: &Bottom, second: bool) -> u64
 }
 
 // A top structure, into so many bytes.
-fn serialized_top(
-    alloc: Global,
-    top: &Top,
-    second: bool,
-    size: u128,
-) -> Result<Output, FetchFault>
+fn serialized_top(alloc: Global, top: &Top, second: bool, size: u128) -> Result<Output, FetchFault>
     ensures { let held = HoldsTop (top_trees.without_tree top.now) in
         IsFetched (serialized_into second size held) result }
 {
@@ -215,11 +210,7 @@ fn carried_bottom<R: Threads + Sync>(
 }
 
 // A bottom structure that a form stands for, in one of this size.
-fn fitting_bottom(
-    size: u64,
-    view: &SerialView<'_>,
-    bottom: Bottom,
-) -> Result<Output, FetchFault>
+fn fitting_bottom(size: u64, view: &SerialView<'_>, bottom: Bottom) -> Result<Output, FetchFault>
     requires held { bottom_in view.now ≡ Some (bottom_trees.without_tree bottom) }
     requires tree { lacks_its_tree view.now ≡ false }
     ensures { IsFetched (carried_in size [] view.now) result }

@@ -28,7 +28,7 @@ pub(crate) fn v1(status: &Status, command: &Command) -> Option<Place>
         Command::CopyStructure { src, dst, .. } => {
             whole(lacks_structure(status, *src) || lacks_structure(status, *dst))
         }
-        Command::Serialize { src, dst } => {
+        Command::Serialize { src, dst, .. } => {
             whole(lacks_structure(status, *src) || lacks_buffer(status, dst.buffer))
         }
         Command::Deserialize { src, dst, uses } => whole(
