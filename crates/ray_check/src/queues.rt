@@ -17,10 +17,7 @@ use std::alloc::{AllocError as NoMemory, Global};
 /// # Errors
 ///
 /// For want of memory alone.
-pub fn check_queue_rules(
-    alloc: Global,
-    rec: &QueueRecording,
-) -> Result<Option<Refusal>, NoMemory>
+pub fn check_queue_rules(alloc: Global, rec: &QueueRecording) -> Result<Option<Refusal>, NoMemory>
     ensures value { IfOk result (λ refusal. refusal ≡ queue_rule_refusal rec.now) }
     ensures within { IfOk result (λ refusal. IfSome refusal (λ r. r.command ≤ length rec.now.commands)) }
 {
