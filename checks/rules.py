@@ -14,6 +14,8 @@ PAGE = TOP / "docs" / "RULES.md"
 DATA = ["ray_primitives", "ray_top", "ray_action"]
 DECIDING = ["ray_primitives", "ray_top", "ray_device"]
 HAZARDS = {"V25", "V26", "V27", "V32"}
+# And those on timeline semaphores.
+SEMAPHORES = {"V33", "V34"}
 WORD = re.compile(r"^(?:abbrev |unfoldable |record |data )?(?:pub )?(?:record |data )?(\w[\w-]*)(?: |$)", re.MULTILINE)
 FUNCTION = re.compile(r"\bfn (\w+)")
 
@@ -64,7 +66,11 @@ def places(rule):
     """Returns where a rule is defined, and where it is decided."""
     if rule in HAZARDS:
         defined = after_comment(rule, files(["ray_rules"], "specs", ".antt"), "--", WORD)
-        return defined, [(TOP / "crates/ray_sync/src/check.rt", "check_sync")]
+        decided = [("ray_sync", "check_sync"), ("ray_queue_check", "check_queues")]
+        return defined, [(TOP / f"crates/{crate}/src/check.rt", name) for crate, name in decided]
+    if rule in SEMAPHORES:
+        defined = after_comment(rule, files(["ray_submits"], "specs", ".antt"), "--", WORD)
+        return defined, [(TOP / "crates/ray_submits/src/check.rt", "check_semaphores")]
     if rule.startswith("V"):
         return (
             after_comment(rule, files(["ray_rules"], "specs", ".antt"), "--", WORD),
