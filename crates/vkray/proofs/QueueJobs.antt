@@ -1,27 +1,32 @@
 -- A recording that is submitted to queues and breaks no rule may be run in every order over queues.
-use Rattle.std.proofs.Common.{◌≡◌, ◌<◌, ◌≤◌, ◌+◌, ℕ, zero, suc, Bool, true, false, List, [], ◌∷◌, ◌++◌, length, Option, Some, None, refl, sym, ◌∙◌, ap, subst, inl, inr, arith}
+use Rattle.std.proofs.Common.{◌≡◌, ◌<◌, ◌≤◌, ◌+◌, ℕ, zero, suc, Bool, true, false, List, [], ◌∷◌, ◌++◌, length, Option, Some, None, refl, sym, ◌∙◌, subst, arith}
 use Rattle.std.specs.Prelude.{slice_get, if◌then◌else◌}
 use Rattle.ray_cmd.specs.declared.command.Command.{Command}
 use Rattle.ray_cmd.specs.declared.refusal.Refusal.{Refusal}
 use Rattle.ray_cmd.specs.Sources.{AreSourced}
-use Rattle.ray_rules.specs.Order.{Ordering, is_wait, last_wait}
-use Rattle.ray_rules.specs.Refusals.{Row, least_broken, or_after, refusal_at_end}
+use Rattle.ray_rules.specs.Order.{IsLongest, before, is_wait, last_wait}
+use Rattle.ray_rules.specs.Refusals.{least_broken, or_after}
 use Rattle.ray_rules.specs.Status.{Status, after, at_first}
 use Rattle.ray_rules.specs.Verdict.{rule_refusal, rule_refusal_from, rule_refusal_of, rule_table}
 use Rattle.ray_submits.specs.Submits.{QueueCommands}
 use Rattle.ray_queues.specs.QueueOrder.{queue_order}
 use Rattle.ray_queues.proofs.Covering.{queue-covered-is-ordered, queue-waits-order}
 use Rattle.ray_check.specs.Queues.{queue_rule_refusal, queue_rule_refusal_from, queue_rule_refusal_of, semaphore_rows}
-use Rattle.ray_check.proofs.Going.{IsAmong, rule-among}
+use Rattle.ray_check.proofs.Going.{rule-among}
 use Rattle.ray_check.proofs.Tables.{split}
 use Rattle.ray_check.proofs.Whole.{in-order, several-queues}
-use Rattle.ray_action.specs.Clients.{Clients}
-use Rattle.ray_ready.specs.Accepted.{refused_from}
-use Rattle.ray_permitted.specs.Job.{in_order}
+use Rattle.ray_action.specs.Clients.{Clients, HasScript, scripts}
+use Rattle.ray_ready.specs.Accepted.{KeepStaticRules, refused_from}
+use Rattle.ray_ready.proofs.Scripts.{have_scripts}
+use Rattle.ray_permitted.specs.Job.{Job, in_order}
+use Rattle.ray_permitted.specs.Laws.{UnrefusedBreakNoRule}
 use Rattle.ray_permitted.specs.Rules.{BreakNoRule, IsRunnable}
-use Rattle.ray_permitted.specs.Separates.{CarriesOrder}
+use Rattle.ray_permitted.specs.Separates.{CarriesOrder, NumbersSeparate}
+use Rattle.ray_permitted.proofs.Fetching.{chains_separate}
 use Rattle.ray_permitted.proofs.Refused.{break_no_rule}
 use Rattle.ray_permitted.proofs.Separating.{orders_separate}
+use Rattle.ray_exec.specs.Steps.{CanEach}
+use Rattle.ray_exec.specs.Waves.{wave_at}
 
 -- ---- the order over queues
 
@@ -32,15 +37,15 @@ record IsWait (rec : List Command) (n w : ℕ) : Type 0 where
 
 last_is_wait : (rec : List Command) (i n : ℕ) → i < last_wait rec n → IsWait rec n (last_wait rec n)
 last_is_wait rec i zero less = absurd (omega (arith, less))
-last_is_wait rec i (suc n) less = step (is_wait (slice_get rec n)) refl less
+last_is_wait rec i (suc n) less = step (is_wait (slice_get rec n)) refl (last_is_wait rec i n) less
   where
-    step : (b : Bool) → is_wait (slice_get rec n) ≡ b → i < (if b then n else last_wait rec n)
-        → IsWait rec (suc n) (if b then n else last_wait rec n)
-    step true is less = record { there = is; below = omega arith }
-    step false is less =
-        let rest = last_is_wait rec i n less in
-        let below = rest.below in
-        record { there = rest.there; below = omega (arith, below) }
+    step : (b : Bool) → is_wait (slice_get rec n) ≡ b → (i < last_wait rec n → IsWait rec n (last_wait rec n))
+        → i < (if b then n else last_wait rec n) → IsWait rec (suc n) (if b then n else last_wait rec n)
+    step true is rest less = record { there = is; below = omega arith }
+    step false is rest less =
+        let here = rest less in
+        let below = here.below in
+        record { there = here.there; below = omega (arith, below) }
 
 -- what is covered over queues is ordered, and so is what stands before a wait
 pub queues_carry : (q : QueueCommands) → CarriesOrder q.commands (queue_order q)
@@ -105,3 +110,35 @@ pub queue_job_runs : (q : QueueCommands) → AreSourced q.commands → (clients 
     → IsRunnable (in_order q.commands clients (queue_order q)) n
 queue_job_runs q sourced clients n upto =
     orders_separate (in_order q.commands clients (queue_order q)) n (queues_carry q) (queue_breaks_no_rule q sourced clients n upto)
+
+-- ---- what a run asks of commands that are held
+
+-- those below a refused one break no rule, by the law of the commands that are held
+held_break_no_rule : (rec : List Command) (q : QueueCommands) → rec ≡ q.commands → UnrefusedBreakNoRule rec → (clients : Clients) (n : ℕ)
+    → n ≤ refused_from (length q.commands) (queue_rule_refusal q) → BreakNoRule (in_order q.commands clients (queue_order q)) n
+held_break_no_rule rec q same law clients n upto =
+    let first = refused_first q in
+    subst (λ (r : List Command). UnrefusedBreakNoRule r) same law (queue_order q) clients n (omega (arith, upto, first))
+
+-- they keep the static rules, and their scripts are scripts
+pub held_keep_rules : (rec : List Command) (q : QueueCommands) → rec ≡ q.commands → UnrefusedBreakNoRule rec → (n : ℕ)
+    → n ≤ refused_from (length q.commands) (queue_rule_refusal q) → KeepStaticRules rec n
+held_keep_rules rec q same law n upto =
+    let kept = held_break_no_rule rec q same law (scripts q.commands) n upto in
+    subst (λ (r : List Command). KeepStaticRules r n) (sym same) (record { each = λ i command less is. (kept.accepted.each i command less is).rules })
+
+pub held_have_scripts : (rec : List Command) (q : QueueCommands) → rec ≡ q.commands → UnrefusedBreakNoRule rec → (n : ℕ)
+    → n ≤ refused_from (length q.commands) (queue_rule_refusal q) → CanEach HasScript rec n
+held_have_scripts rec q same law n upto =
+    let kept = held_break_no_rule rec q same law (scripts q.commands) n upto in
+    subst (λ (r : List Command). CanEach HasScript r n) (sym same) (λ i less. have_scripts q.commands n i kept.accepted less)
+
+-- and the lengths of the longest chains separate them
+pub held_separate : (rec : List Command) (q : QueueCommands) → rec ≡ q.commands → UnrefusedBreakNoRule rec → (n : ℕ)
+    → n ≤ refused_from (length q.commands) (queue_rule_refusal q) → (waves : List ℕ)
+    → ((i : ℕ) → i < n → IsLongest (before (queue_order q) q.commands) i (wave_at waves i)) → NumbersSeparate rec n (wave_at waves)
+held_separate rec q same law n upto waves are =
+    let kept = held_break_no_rule rec q same law (scripts q.commands) n upto in
+    let job : Job = in_order q.commands (scripts q.commands) (queue_order q) in
+    subst (λ (r : List Command). NumbersSeparate r n (wave_at waves)) (sym same)
+    (chains_separate job n (wave_at waves) (orders_separate job n (queues_carry q) kept) are)
