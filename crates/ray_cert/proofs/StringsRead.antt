@@ -16,7 +16,8 @@ use Rattle.ray_query.specs.declared.found.Found.{Found}
 use Rattle.ray_candidates.specs.Candidates.{active_instance}
 use Rattle.ray_candidates.specs.Placements.{Placement, found_by_item}
 use Rattle.ray_candidates.proofs.Placing.{All-at}
-use Rattle.ray_cert.specs.Checking.{digits_in, found_taken, gathered_from, is_met_in, string_taken, taken_of, whole_of}
+use Rattle.ray_cert.specs.Certificates.{digits_in}
+use Rattle.ray_cert.specs.Checking.{found_taken, gathered_from, is_met_in, string_taken, taken_of, whole_of}
 use Rattle.ray_cert.specs.Parts.{AreStatedFor, IsStatedFor, Part, Trees, part_of, parts_at, parts_by, parts_from, placement_of, tree_of}
 use Rattle.ray_cert.proofs.Taking.{drop-all, drop-some}
 

@@ -4,7 +4,7 @@
 -- confirms. The stated tree is one leaf, whose box is entered at 5. The certificate that names instance 0, geometry 0, primitive 0 at
 -- 5/1 supports its hit with the string 1: the play of the one candidate commits just that. With the string 0 it doesn't: the node isn't
 -- entered above 5. With none named and the string 1 it doesn't, since the play commits a hit; nor with 4/1 named, or with no string.
-use Rattle.std.specs.Prelude.{ℕ, ◌≡◌, ◌++◌, Bool, false, Option, Some, None, option_map, List, [], ◌∷◌, All, map}
+use Rattle.std.specs.Prelude.{ℕ, ◌≡◌, ◌+◌, ◌++◌, Bool, false, Option, Some, None, option_map, List, [], ◌∷◌, All, map, length}
 use Rattle.std.specs.List.{flat_map}
 use Rattle.ray_geom.specs.declared.ratio.Ratio.{Ratio}
 use Rattle.ray_geom.specs.Ratio.{parts_of, ratio_of}
@@ -28,6 +28,11 @@ use Rattle.ray_cert.specs.Parts.{Part, parts_of_ray}
 pub record CertValue : Type 0 where
   pub named : Option Named
   pub strings : List (List Bool)
+
+-- how many digits stand in strings
+abbrev pub digits_in : List (List Bool) → ℕ
+digits_in [] = 0
+digits_in (d ∷ ds) = length d + digits_in ds
 
 -- what a certificate names of a committed hit
 abbrev pub name_of : Commit → Named

@@ -107,11 +107,6 @@ string_taken limit fs [] ds = Some (fs, ds)
 string_taken limit fs (p ∷ ps) [] = None
 string_taken limit fs (p ∷ ps) (d ∷ ds) = option_map (λ gs. (fs ++ gs, ds)) (found_taken limit p d)
 
--- so many digits stand in strings
-abbrev pub digits_in : List (List Bool) → ℕ
-digits_in [] = 0
-digits_in (d ∷ ds) = length d + digits_in ds
-
 -- how many items a string gives, if it gives any
 abbrev pub many_in : Option (List ℕ) → ℕ
 many_in None = 0

@@ -6,8 +6,7 @@ ghost use Rattle.ray_query.specs.KeyOrder.{AreApart, in_key_order};
 ghost use Rattle.ray_query.specs.Play.{play, start};
 ghost use Rattle.ray_candidates.specs.Candidates.{trace_answer};
 ghost use Rattle.ray_candidates.specs.Standing.{AreStanding, structures_in};
-ghost use Rattle.ray_cert.specs.Certificates.{Supports, limit_of, name_of};
-ghost use Rattle.ray_cert.specs.Checking.{digits_in};
+ghost use Rattle.ray_cert.specs.Certificates.{Supports, digits_in, limit_of, name_of};
 ghost use Rattle.ray_cert.specs.Parts.{AreStatedFor};
 
 use crate::cert::Cert;

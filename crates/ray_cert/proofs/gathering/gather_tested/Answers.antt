@@ -3,7 +3,8 @@ use Rattle.ray_top.specs.Instances.{instance_value}
 use Rattle.ray_top.specs.Trees.{without_tree}
 use Rattle.ray_candidates.specs.Standing.{structures_in}
 use Rattle.ray_candidates.proofs.Placing.{placeable}
-use Rattle.ray_cert.specs.Checking.{digits_in, end_of}
+use Rattle.ray_cert.specs.Certificates.{digits_in}
+use Rattle.ray_cert.specs.Checking.{end_of}
 use Rattle.ray_cert.proofs.StringsRead.{gathered-all, gathered-goes_on, gathered-more, gathered-stops, stated-for}
 use Rattle.ray_cert.proofs.gathering.gather_tested.Goals as goal
 

@@ -1,5 +1,6 @@
 use Rattle.std.proofs.Common.{◌≡◌, ◌+◌, ◌*◌, ◌-◌, ◌≤◌, [], drop, length}
-use Rattle.ray_cert.specs.Checking.{digits_in, gathered_from}
+use Rattle.ray_cert.specs.Certificates.{digits_in}
+use Rattle.ray_cert.specs.Checking.{gathered_from}
 use Rattle.ray_cert.specs.Parts.{parts_from, parts_of_ray}
 use Rattle.ray_cert.proofs.gathering.gather_tested.Given as goal
 
