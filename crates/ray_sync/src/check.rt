@@ -95,7 +95,8 @@ fn hazard_of(
     cells: &Cells,
 ) -> Option<Refusal>
     requires { AreEnough (length cells.now) lanes.now }
-    ensures { (rec : List ACommand) → AreLanes (in_order rec) cells.now n lanes.now → AreCarried (one_queue rec) 0 n coverage.now
+    ensures { (rec : List ACommand) → AreLanes (in_order rec) cells.now n lanes.now
+        → AreCarried (one_queue rec) 0 n coverage.now
         → AreFronts rec n fronts → IsDoing rec n doing.now → HaveStarts rec cells.now (suc n)
         → result ≡ hazard_of (barriers rec) rec n }
 {
@@ -117,8 +118,10 @@ fn uncovered_at(
     cells: &Cells,
 ) -> Option<Place>
     requires { AreEnough (length cells.now) lanes.now }
-    ensures { (rec : List ACommand) (n : ℕ) (ts : List ATouch) → AreLanes (in_order rec) cells.now n lanes.now
-        → AreCarried (one_queue rec) 0 n coverage.now → AreTouched (status_at rec n) ts touches.now → ArePlaced rec cells.now n ts
+    ensures { (rec : List ACommand) (n : ℕ) (ts : List ATouch)
+        → AreLanes (in_order rec) cells.now n lanes.now
+        → AreCarried (one_queue rec) 0 n coverage.now → AreTouched (status_at rec n) ts touches.now
+        → ArePlaced rec cells.now n ts
         → HaveStarts rec cells.now n
         → result ≡ option_map_or (λ to. greatest_with (wrote_uncovered (barriers rec) rec n to) ts n) stage None }
 {
@@ -137,8 +140,10 @@ fn uncovered(
     cells: &Cells,
 ) -> Option<Place>
     requires { AreEnough (length cells.now) lanes.now }
-    ensures { (rec : List ACommand) (n : ℕ) (ts : List ATouch) → AreLanes (in_order rec) cells.now n lanes.now
-        → AreCarried (one_queue rec) 0 n coverage.now → AreTouched (status_at rec n) ts touches.now → ArePlaced rec cells.now n ts
+    ensures { (rec : List ACommand) (n : ℕ) (ts : List ATouch)
+        → AreLanes (in_order rec) cells.now n lanes.now
+        → AreCarried (one_queue rec) 0 n coverage.now → AreTouched (status_at rec n) ts touches.now
+        → ArePlaced rec cells.now n ts
         → HaveStarts rec cells.now n → result ≡ greatest_with (wrote_uncovered (barriers rec) rec n to) ts n }
 {
     sharing_is_meeting();
@@ -156,7 +161,8 @@ fn unordered_at(
     cells: &Cells,
 ) -> Option<Place>
     requires { AreEnough (length cells.now) lanes.now }
-    ensures { (rec : List ACommand) (ts : List ATouch) → AreLanes (in_order rec) cells.now n lanes.now
+    ensures { (rec : List ACommand) (ts : List ATouch)
+        → AreLanes (in_order rec) cells.now n lanes.now
         → AreFronts rec n fronts → AreTouched (status_at rec n) ts touches.now
         → ArePlaced rec cells.now n ts → HaveStarts rec cells.now n
         → result ≡ option_map_or (λ to. greatest_with (read_unordered (barriers rec) rec n to) ts n) stage None }
@@ -178,7 +184,8 @@ fn unordered(
     cells: &Cells,
 ) -> Option<Place>
     requires { AreEnough (length cells.now) lanes.now }
-    ensures { (rec : List ACommand) (ts : List ATouch) → AreLanes (in_order rec) cells.now n lanes.now
+    ensures { (rec : List ACommand) (ts : List ATouch)
+        → AreLanes (in_order rec) cells.now n lanes.now
         → AreFronts rec n fronts → AreTouched (status_at rec n) ts touches.now
         → ArePlaced rec cells.now n ts → HaveStarts rec cells.now n
         → result ≡ greatest_with (read_unordered (barriers rec) rec n to) ts n }

@@ -25,7 +25,8 @@ pub(crate) fn last_uncovered(
     requires { AreEnough (length cells.now) lanes.now }
     ensures { (rec : List ACommand) (n : ℕ) → AreLanes (in_order rec) cells.now n lanes.now
         → AreCarried (one_queue rec) 0 n coverage.now
-        → IsLast (λ i. AnyOf (λ t. MeetsUncovered (in_order rec) cells.now n to t i) touches.now) n result }
+        → IsLast (λ i. AnyOf (λ t. MeetsUncovered (in_order rec) cells.now n to t i) touches.now) n
+        result }
 {
     let mut last = 0;
     for touch in touches {
@@ -64,9 +65,10 @@ pub(crate) fn last_unordered(
     cells: &Cells,
 ) -> u32
     requires { AreEnough (length cells.now) lanes.now }
-    ensures { (rec : List ACommand) (n : ℕ) (to : AStage) → AreLanes (in_order rec) cells.now n lanes.now
-        → AreOrdered (in_order rec) n to limits
-        → IsLast (λ i. AnyOf (λ t. MeetsUnordered (in_order rec) cells.now n to t i) touches.now) n result }
+    ensures { (rec : List ACommand) (n : ℕ) (to : AStage)
+        → AreLanes (in_order rec) cells.now n lanes.now → AreOrdered (in_order rec) n to limits
+        → IsLast (λ i. AnyOf (λ t. MeetsUnordered (in_order rec) cells.now n to t i) touches.now) n
+        result }
 {
     let mut last = 0;
     for touch in touches {

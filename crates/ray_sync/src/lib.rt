@@ -9,13 +9,12 @@
 //! [`barrier_of`], [`chain_stage`] and [`chain_access`] say a barrier, a stage and an access in the
 //! words of ray_chains, as `specs/Events` does.
 //!
-//! It stands on ray_rules (the definitions), ray_access (what commands read and write), ray_marks and
-//! ray_chains. The set of earlier commands that have been handed on to a stage is always those below
-//! one number, of the commands of one stage; so a number for each two stages is all that is kept of
-//! order. Of coverage the fronts of ray_chains are kept for each of six ways of writing: one table
-//! for all that no barrier names, and an override for each buffer that one names. The last command
-//! of each way of writing that wrote a cell is then all that hazards ask for: where it isn't covered,
-//! it is the greatest that isn't.
+//! It stands on ray_rules (the definitions), ray_access (what commands read and write), ray_chains
+//! and ray_hazards, which keeps the lanes and the coverage that a check of hazards goes by. The set
+//! of earlier commands that have been handed on to a stage is always those below one number, of the
+//! commands of one stage; so a number for each two stages is all that is kept of order. Of coverage
+//! the fronts of ray_chains are kept for each of six ways of writing: one table for all that no
+//! barrier names, and an override for each buffer that one names.
 #![tactic(auto)]
 
 mod check;

@@ -51,8 +51,10 @@ fn pass_barrier(
     buffers: &Option<Listed<u32>>,
     status: &Status,
 ) -> Result<(), NoMemory>
-    ensures { OnOk result ((rec : List ACommand) → IsBarrierAt rec n status.now barrier.now buffers.now
-        → AreCarried (one_queue rec) 0 n coverage.old → AreCarried (one_queue rec) 0 (suc n) coverage.new) }
+    ensures { OnOk result ((rec : List ACommand)
+        → IsBarrierAt rec n status.now barrier.now buffers.now
+        → AreCarried (one_queue rec) 0 n coverage.old
+        → AreCarried (one_queue rec) 0 (suc n) coverage.new) }
 {
     match buffers {
         Some(ids) => {
