@@ -10,3 +10,4 @@ pub mod Placed
 pub mod StringsRead
 pub mod Deciding
 pub mod Made
+pub mod Growing

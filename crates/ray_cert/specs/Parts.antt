@@ -83,3 +83,13 @@ pub record IsStatedFor (bottoms : Slots) (trees : Trees) (i : InstanceValue) : T
 -- so it is for each active instance of a top structure
 pub record AreStatedFor (top : TopContents) (bottoms : Slots) (trees : Trees) : Type 0 where
   pub each : All (λ i. IfSome i (IsStatedFor bottoms trees)) top.instances
+
+-- each tree that stands there is the stated tree of the structure of its id
+pub record AreRight (bottoms : Slots) (trees : Trees) : Type 0 where
+  pub each : (id : ℕ) (tree : TreeValue) → tree_at id trees ≡ Some tree → Some tree ≡ option_map tree_of (structure_at id bottoms)
+
+-- trees grow by that of an instance's structure, if there is one: they stay right, what was stated stays so, and so is that structure now
+pub record GrowsFor (bottoms : Slots) (instance : Option InstanceValue) (before after : Trees) : Type 0 where
+  pub right : AreRight bottoms after
+  pub kept : (i : InstanceValue) → IsStatedFor bottoms before i → IsStatedFor bottoms after i
+  pub there : IfSome instance (IsStatedFor bottoms after)

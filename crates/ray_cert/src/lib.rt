@@ -22,6 +22,7 @@
 //! memory is the only error.
 #![tactic(auto)]
 
+mod building;
 mod cert;
 mod checking;
 mod cutting;
