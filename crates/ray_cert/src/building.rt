@@ -1,29 +1,14 @@
 //! The stated trees of the structures that a top structure's active instances name.
-ghost use Rattle.std.specs.Prelude.{◌≡◌, ◌≤◌, ◌^◌, IfOk, OnOk, length, option_copied, option_map};
-ghost use Rattle.ray_bottom.specs.Trees.{items_of};
+ghost use Rattle.std.specs.Prelude.{◌≤◌, IfOk, OnOk, option_copied, option_map};
 ghost use Rattle.ray_top.specs.Instances.{instance_value};
 ghost use Rattle.ray_cert.specs.Parts.{AreRight, AreStatedFor, GrowsFor, PutsTree, tree_of};
 
 use crate::stated::Stated;
 use ray_bottom::{Bottom, Bottoms};
-use ray_geom::{Box3, Steps};
+use ray_geom::Steps;
 use ray_top::{Instance, Top};
 use std::alloc::{AllocError as NoMemory, Global};
 use std::sync::ledger::Ledger;
-
-// The box of each primitive of a structure, through all geometries in order.
-fn item_boxes_of<L: Ledger>(
-    _alloc: Global,
-    _bottom: &Bottom,
-    _steps: &mut Steps<L>,
-) -> Result<Vec<Option<Box3>>, NoMemory>
-    ensures value { IfOk result (λ v. v.items ≡ items_of _bottom.now.geometries) }
-    ensures few { IfOk result (λ v. length v.items ≤ 2 ^ 20) }
-    ensures rising { _steps.old ≤ _steps.new }
-{
-    // A stand-in until ray_bottom's call has landed: `bottom.item_boxes(alloc, steps)`.
-    Err(NoMemory)
-}
 
 // Puts the stated tree of a structure under its id.
 fn put_structure<L: Ledger>(
@@ -36,7 +21,7 @@ fn put_structure<L: Ledger>(
     ensures put { OnOk result (PutsTree id (tree_of bottom.now) trees.old trees.new) }
     ensures rising { steps.old ≤ steps.new }
 {
-    let items = item_boxes_of(alloc, bottom, steps)?;
+    let items = bottom.item_boxes(alloc, steps)?;
     trees.put(alloc, id, &items)
 }
 
@@ -68,7 +53,7 @@ fn add_structure<L: Ledger>(
 
 impl Stated {
     /// The stated trees of the structures that the active instances of a top structure name, each
-    /// once. A step is taken for each primitive of these structures.
+    /// once.
     ///
     /// # Errors
     ///
