@@ -11,3 +11,5 @@ pub mod StringsRead
 pub mod Deciding
 pub mod Made
 pub mod Growing
+pub mod Spaces
+pub mod WordsRead

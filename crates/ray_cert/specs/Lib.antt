@@ -5,3 +5,4 @@ pub mod Checking
 pub mod PlayLaw
 pub mod Laws
 pub mod Spelling
+pub mod Words

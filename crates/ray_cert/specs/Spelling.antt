@@ -3,7 +3,7 @@
 -- By hand: the certificate of ray 0 of command 11, which names the triangle of instance 0, geometry 0 and primitive 0 at 5/1 and has the
 -- string 1, is `cert 11 0 tri 0 0 0 5/1 | 1`. One that names none and has no string is `cert 11 0 none |`, and with an empty string
 -- `cert 11 0 none | -`.
-use Rattle.std.specs.Prelude.{ℕ, ◌++◌, Bool, true, false, Option, Some, None, List, [], ◌∷◌, codes, decimal, map}
+use Rattle.std.specs.Prelude.{ℕ, ◌++◌, ◌<◌, ◌^◌, Bool, true, false, Option, Some, None, List, [], ◌∷◌, codes, decimal, map}
 use Rattle.std.specs.List.{flat_map}
 use Rattle.ray_geom.specs.Frac.{denominator, numerator}
 use Rattle.ray_flags.specs.declared.kind.Kind.{Kind}
@@ -40,3 +40,19 @@ string_text (d ∷ ds) = 32 ∷ map digit_code (d ∷ ds)
 -- the spelling of a certificate of the ray of a number in a trace command
 abbrev pub line_of : ℕ → ℕ → CertValue → List ℕ
 line_of command ray cert = head_text command ray cert.named ++ flat_map string_text cert.strings
+
+-- the numbers of a hit that is named are below 2 to the power 32
+pub record IsNamedSmall (n : Named) : Type 0 where
+  pub instance : n.instance < 2 ^ 32
+  pub geometry : n.geometry < 2 ^ 32
+  pub primitive : n.primitive < 2 ^ 32
+
+abbrev pub IsHitSmall : Option Named → Type 0
+IsHitSmall None = Unit {0}
+IsHitSmall (Some n) = IsNamedSmall n
+
+-- a command's number, a ray's and the numbers of a certificate are below 2 to the power 32, as they are wherever there is one
+pub record IsSpelledSmall (command ray : ℕ) (cert : CertValue) : Type 0 where
+  pub command_small : command < 2 ^ 32
+  pub ray_small : ray < 2 ^ 32
+  pub hit_small : IsHitSmall cert.named
