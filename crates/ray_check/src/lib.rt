@@ -1,6 +1,6 @@
 //! The rules on a recording, decided: whether it breaks one of V1 to V32, and by which command,
-//! which rule and where; and of one that is submitted to several queues, whether it breaks one of V1
-//! to V34.
+//! which rule and where; and of one that is submitted to several queues, whether it breaks one of
+//! V1 to V34.
 //!
 //! The layer above uses [`check_rules`], whose one clause says that it answers `rule_refusal` of
 //! ray_rules: the refusal of the first command that breaks a rule, by its least. It joins the
@@ -9,8 +9,8 @@
 //!
 //! [`check_queue_rules`] does the same over queues, by `queue_rule_refusal` of `specs/Queues`.
 //!
-//! [`kept_is_within_buffers`] is a law on what the rules are for: a command that keeps them reads and
-//! writes bytes that are there.
+//! [`kept_is_within_buffers`] is a law on what the rules are for: a command that keeps them reads
+//! and writes bytes that are there.
 //!
 //! It stands on ray_valid, ray_sync, ray_queue_check and ray_rules (the definitions).
 #![tactic(auto)]

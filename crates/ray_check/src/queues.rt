@@ -10,8 +10,8 @@ use ray_valid::check_static;
 use std::alloc::{AllocError as NoMemory, Global};
 
 /// The refusal of the first command of a recording that is submitted to queues which breaks a rule
-/// V1 to V34, by the least rule that it breaks, with its place: V25 to V27 and V32 in the order over
-/// queues. None exactly where none does. The end counts as one further command, as in
+/// V1 to V34, by the least rule that it breaks, with its place: V25 to V27 and V32 in the order
+/// over queues. None exactly where none does. The end counts as one further command, as in
 /// [`check_rules`](crate::check_rules).
 ///
 /// # Errors
@@ -19,7 +19,8 @@ use std::alloc::{AllocError as NoMemory, Global};
 /// For want of memory alone.
 pub fn check_queue_rules(alloc: Global, rec: &QueueRecording) -> Result<Option<Refusal>, NoMemory>
     ensures value { IfOk result (λ refusal. refusal ≡ queue_rule_refusal rec.now) }
-    ensures within { IfOk result (λ refusal. IfSome refusal (λ r. r.command ≤ length rec.now.commands)) }
+    ensures within { IfOk result
+        (λ refusal. IfSome refusal (λ r. r.command ≤ length rec.now.commands)) }
 {
     let commands = rec.recording();
     let refusal = check_static(alloc, commands)?;
