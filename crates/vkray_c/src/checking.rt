@@ -1,8 +1,8 @@
 ghost use Rattle.std.specs.Prelude.{◌≡◌, ◌≤◌, IfOk, length, string_bytes};
-ghost use Rattle.ray_permitted.specs.Job.{recorded};
 ghost use Rattle.vkray.specs.Answer.{Ending, answer_of, checked};
 ghost use Rattle.vkray.specs.Call.{most_bytes};
 ghost use Rattle.vkray.specs.Lines as lines;
+ghost use Rattle.vkray.specs.Tasks.{recorded_task};
 ghost use Rattle.vkray.specs.Written.{status_of, text_of};
 ghost use Rattle.vkray.specs.declared.asked.Asked.TheVariants.{Check};
 ghost use Rattle.vkray.specs.declared.request.Request.TheVariants.{Input};
@@ -53,8 +53,8 @@ fn bad_shape_line(alloc: Global, command: u32) -> Result<String, NoMemory>
 
 // What the rules say of a recording: `ok`, or the line of its refusal.
 fn check_recording(alloc: Global, recording: &Recording) -> Result<Reply, NoMemory>
-    ensures status { IfOk result (λ reply. reply.status ≡ status_of (checked (recorded recording.now))) }
-    ensures text { IfOk result (λ reply. reply.text.items ≡ text_of (checked (recorded recording.now))) }
+    ensures status { IfOk result (λ reply. reply.status ≡ status_of (checked (recorded_task recording.now))) }
+    ensures text { IfOk result (λ reply. reply.text.items ≡ text_of (checked (recorded_task recording.now))) }
 {
     match check_rules(alloc, recording)? {
         Some(refusal) => {
