@@ -34,14 +34,23 @@ fn form(alloc: Global) -> Result<Vec<u8>, AllocError> {
     Ok(bytes)
 }
 
-// The 196 bytes of form 2: the second text, the size, and behind the elements the tree part, which
-// is one leaf from (0,0,0) to (4,4,0) over item 0.
+// The same in form 2.
+const TEXTS_2: &[u8] = b"vkray-software-1vkray-form-00002";
+
+const SIZES_2: [u64; 3] = [196, 512, 0];
+
+// Its tree part: one leaf from (0,0,0) to (4,4,0) over item 0.
+const PART: [u32; 11] = [1, 1, 0, 0, 0, 4, 4, 0, 1, 0, 0];
+
+// The 196 bytes.
 fn form_2(alloc: Global) -> Result<Vec<u8>, AllocError> {
-    let mut bytes = form(alloc)?;
-    bytes[31] = b'2';
-    bytes[32] = 196;
-    let part = [1, 1, 0, 0, 0, 4, 4, 0, 1, 0, 0];
-    bytes.extend_from_slice(bytes_of(alloc, &part)?.as_slice())?;
+    let mut bytes = Vec::new(alloc);
+    bytes.extend_from_slice(TEXTS_2)?;
+    for size in &SIZES_2 {
+        bytes.extend_from_slice(&size.to_le_bytes())?;
+    }
+    bytes.extend_from_slice(bytes_of(alloc, &WORDS)?.as_slice())?;
+    bytes.extend_from_slice(bytes_of(alloc, &PART)?.as_slice())?;
     Ok(bytes)
 }
 
