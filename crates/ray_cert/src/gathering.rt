@@ -139,8 +139,9 @@ pub(crate) fn gather_tested<L: Ledger>(
     requires standing { AreStanding (without_tree top.now) (structures_in bottoms.now) }
     requires stated { AreStatedFor top.now.contents bottoms.now trees.now }
     requires flags_agree { ¬ AsksBoth flags }
-    ensures value { IfOk result (λ found. option_map (λ v. v.items) found ≡ gathered_from limit.now
-        [] (parts_of_ray top.now.contents bottoms.now ray.now flags mask) strings.now) }
+    ensures value { IfOk result (λ found. option_map (λ v. v.items) found
+        ≡ gathered_from limit.now []
+        (parts_of_ray top.now.contents bottoms.now ray.now flags mask) strings.now) }
     ensures cost { IfOk result (λ found. steps.new ≤ steps.old + 5 * digits_in strings.now) }
     ensures rising { steps.old ≤ steps.new }
 {

@@ -57,7 +57,8 @@ fn items_of_string<L: Ledger>(
         ≡ whole_of (taken_of (is_met_in object.now limit.now tree.now)
         tree.now.order (shape_at tree.now 0) digits.now)) }
     ensures cost { IfOk result (λ items.
-        steps.new + many_in (option_map (λ v. v.items) items) ≤ steps.old + 5 * length digits.now) }
+        steps.new + many_in (option_map (λ v. v.items) items)
+        ≤ steps.old + 5 * length digits.now) }
     ensures rising { steps.old ≤ steps.new }
 {
     let mut items = Vec::new(alloc);

@@ -22,7 +22,8 @@ pub enum Command {
         usage: Usage,
         content: Option<Bytes>,
     },
-    /// Makes a structure, which isn't built, in bytes of a buffer (vkCreateAccelerationStructureKHR).
+    /// Makes a structure, which isn't built, in bytes of a buffer
+    /// (vkCreateAccelerationStructureKHR).
     Structure {
         id: u32,
         kind: StructureKind,

@@ -2,11 +2,10 @@
 //! first that has no shape of a command.
 //!
 //! The layers above use [`read_recording`], whose clause `answer` says by `recording_in` of
-//! `specs/Recordings` exactly which texts it reads and as what; its clauses `ok` and `bad_shape` say
-//! the same of each item, by the words of `specs/Recorded`. [`recording_of`] is the same of a JSON
-//! value that was read. The grammar of a command is `command_of`
-//! of `specs/Grammar`, a line a member; it goes from the data of a JSON value to a [`Command`], and
-//! names no program. A command is data: an enum with one variant a command and its members as
+//! `specs/Recordings` exactly which texts it reads and as what; its clauses `ok` and `bad_shape`
+//! say the same of each item, by the words of `specs/Recorded`. [`recording_of`] is the same of a
+//! JSON value that was read. The grammar of a command is `command_of` of `specs/Grammar`, a line a
+//! member; it goes from the data of a JSON value to a [`Command`], and names no program. A command is data: an enum with one variant a command and its members as
 //! fields.
 //!
 //! It stands on ray_json (readers of fields), ray_flags and ray_bytes (words and formats) and

@@ -32,10 +32,10 @@ use std::sync::ledger::Ledger;
 use std::thread::Threads;
 
 /// What a piece gives of the memory as it is, or the first data rule that what it reads breaks,
-/// with its place. The piece's action is ready there, and the command's script, where it is a trace,
-/// is one (V23). A piece of a trace takes a step for each primitive that it tests, no more than those
-/// of the leaves that its rays open, also where a ray is refused; every other piece takes none. (The
-/// operations of each device command of Vulkan.)
+/// with its place. The piece's action is ready there, and the command's script, where it is a
+/// trace, is one (V23). A piece of a trace takes a step for each primitive that it tests, no more
+/// than those of the leaves that its rays open, also where a ray is refused; every other piece
+/// takes none. (The operations of each device command of Vulkan.)
 pub fn fetch<R: Threads + Sync, L: Ledger>(
     rt: &R,
     alloc: Global,
