@@ -5,8 +5,8 @@
 //! `specs/Recordings` exactly which texts it reads and as what; its clauses `ok` and `bad_shape`
 //! say the same of each item, by the words of `specs/Recorded`. [`recording_of`] is the same of a
 //! JSON value that was read. The grammar of a command is `command_of` of `specs/Grammar`, a line a
-//! member; it goes from the data of a JSON value to a [`Command`], and names no program. A command is data: an enum with one variant a command and its members as
-//! fields.
+//! member; it goes from the data of a JSON value to a [`Command`], and names no program. A command
+//! is data: an enum with one variant a command and its members as fields.
 //!
 //! It stands on ray_json (readers of fields), ray_flags and ray_bytes (words and formats) and
 //! ray_script (the rules of a script).
