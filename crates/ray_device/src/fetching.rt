@@ -111,8 +111,8 @@ fn fetch_part<R: Threads + Sync, C: Client, L: Ledger>(
 ) -> Result<Output, FetchFault>
     requires within { part < piece_count command.now }
     requires can { CanFetch (memory_of state.now) command.now part }
-    ensures value { IsFetched (part_given (memory_of state.now) (C.meaning client.now) command.now part)
-        result }
+    ensures value { IsFetched
+        (part_given (memory_of state.now) (C.meaning client.now) command.now part) result }
     ensures bound { OnAnswered result (steps.new ≤ steps.old
         + most_tested state.now (C.meaning client.now) command.now part) }
     ensures rising { steps.old ≤ steps.new }

@@ -12,9 +12,9 @@ ghost use Rattle.ray_permitted.specs.Laws.{AtEachFetch, AtEachStore};
 use ray_cmd::Recording;
 
 /// A law: of accepted commands and an order that separates them, outcomes are told by what is read,
-/// conflicting actions are ordered, and the order goes forward. An order in which what is covered is
-/// ordered, and what stands before a `wait`, separates commands that break no rule; that of barriers
-/// and waits is such an order. It does nothing. Own.
+/// conflicting actions are ordered, and the order goes forward. An order in which what is covered
+/// is ordered, and what stands before a `wait`, separates commands that break no rule; that of
+/// barriers and waits is such an order. It does nothing. Own.
 pub fn rules_give_order()
     ensures ordered { RunnableAreOrderly }
     ensures separate { OrdersSeparate }

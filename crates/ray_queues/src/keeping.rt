@@ -50,8 +50,8 @@ impl Keeping {
         limits_of(&self.targets, n, self.waited, kind, queue)
     }
 
-    /// Below which numbers what the commands of each queue and stage did is ordered before what is done
-    /// at a stage of a queue, which is from 0 to 3.
+    /// Below which numbers what the commands of each queue and stage did is ordered before what is
+    /// done at a stage of a queue, which is from 0 to 3.
     pub fn ordered(&self, queue: u32, to: Stage) -> PerQueue
         ensures { queue < 4 → (q : QueueCommands) (n : ℕ) → IsKeeping q n self.now
             → ArePerQueue (number_at q queue n to) result }

@@ -10,8 +10,8 @@
 //! semaphores it is the order of barriers and waits ([`one_queue_has_barriers`]), and what is
 //! covered is ordered ([`queue_covered_is_ordered`]). The recording is that of ray_submits, whose
 //! calls are here too. Of what is refused the part on semaphores is decided, by
-//! [`check_semaphores`]; the part on hazards is decided in the crate above, by [`Keeping`], which is
-//! what is kept of the order from a command to the next.
+//! [`check_semaphores`]; the part on hazards is decided in the crate above, by [`Keeping`], which
+//! is what is kept of the order from a command to the next.
 //!
 //! It stands on ray_submits (the recording and its submissions), ray_sync (what barriers are to
 //! chains), ray_chains and ray_rules (the theory of chains, the order of one queue). What the

@@ -17,8 +17,8 @@ use ray_submits::SemaphorePoint;
 use std::alloc::{AllocError as NoMemory, Global};
 use std::collections::BTreeMap;
 
-/// What has been signalled: for each semaphore the signals that raise it, in order. What they say of
-/// a wait is `found_for` of them.
+/// What has been signalled: for each semaphore the signals that raise it, in order. What they say
+/// of a wait is `found_for` of them.
 #[derive(Drop)]
 pub(crate) struct Marks {
     pub(crate) alloc: Global,
@@ -104,7 +104,8 @@ impl Marks {
     fn taken(&mut self, semaphore: u32) -> Rising
         ensures list { result ≡ list_of (get nat_cmp self.old.raised semaphore) }
         ensures others { (other : ℕ) → get nat_cmp self.new.raised other
-            ≡ (if is_at (nat_cmp semaphore) other then None else get nat_cmp self.old.raised other) }
+            ≡ (if is_at (nat_cmp semaphore) other then None
+                else get nat_cmp self.old.raised other) }
     {
         match self.raised.remove(&semaphore) {
             Some(rising) => rising,

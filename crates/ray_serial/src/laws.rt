@@ -5,8 +5,9 @@ ghost use Rattle.ray_serial.specs.Replaced.{with_handles, IsReplaced};
 
 use crate::view::SerialView;
 
-/// The law of replaced handles: a form of a top structure whose handles are replaced by as many others is a form, of
-/// the same payload; each number of a handle then stands for the new one. (Own.)
+/// The law of replaced handles: a form of a top structure whose handles are replaced by as many
+/// others is a form, of the same payload; each number of a handle then stands for the new one.
+/// (Own.)
 pub fn replaced_law(_view: &SerialView<'_>, _handles: &[u64])
     requires { is_top_form _view.now ≡ true }
     ensures { length _handles.now ≡ handle_count_in _view.now →

@@ -8,8 +8,9 @@
 //! of the contents, which are forms that stand for them, and [`serialize_form_2`] gives
 //! `bottom_form_2`, which carries the stated tree besides.
 //!
-//! It stands on `ray_form` (which bytes are a form, and its parts), `ray_tree_part` and `ray_stated`
-//! (the tree of form 2), `ray_bottom` (the payload and back), `ray_top` (instances and how they are read), `ray_bytes` and `ray_flags`.
+//! It stands on `ray_form` (which bytes are a form, and its parts), `ray_tree_part` and
+//! `ray_stated` (the tree of form 2), `ray_bottom` (the payload and back), `ray_top` (instances and
+//! how they are read), `ray_bytes` and `ray_flags`.
 #![tactic(auto)]
 
 mod counting;

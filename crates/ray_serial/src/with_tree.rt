@@ -17,9 +17,9 @@ use std::alloc::{AllocError as NoMemory, Global};
 use std::marker::Brand;
 
 /// Form 2 of a bottom structure: the form of its contents with the stated tree over its primitives,
-/// which is a function of their boxes, whatever tree the structure has. It is a form that stands for
-/// the contents and carries that tree, where the flags of its build are flags that there are, which
-/// are below 32. (Own: the form; vkCmdCopyAccelerationStructureToMemoryKHR.)
+/// which is a function of their boxes, whatever tree the structure has. It is a form that stands
+/// for the contents and carries that tree, where the flags of its build are flags that there are,
+/// which are below 32. (Own: the form; vkCmdCopyAccelerationStructureToMemoryKHR.)
 pub fn serialize_form_2(alloc: Global, bottom: &Bottom) -> Result<Vec<u8>, NoMemory>
     ensures value { IfOk result (λ bytes. bytes.items ≡ bottom_form_2 (without_tree bottom.now)) }
     ensures form { bottom.now.flags.0 < 32 → IfOk result (λ bytes. IsForm bytes.items) }
@@ -48,7 +48,8 @@ fn bottom_form_2(alloc: Global, bottom: &Bottom) -> Result<Vec<u8>, NoMemory>
 
 // The tree part of the stated tree over its primitives.
 fn stated_part(alloc: Global, bottom: &Bottom) -> Result<Vec<u8>, NoMemory>
-    ensures value { IfOk result (λ part. part.items ≡ tree_bytes (stated_tree (items_of bottom.now.geometries))) }
+    ensures value { IfOk result (λ part. part.items
+        ≡ tree_bytes (stated_tree (items_of bottom.now.geometries))) }
     ensures again { IfOk result (λ _. IsReadAgain (stated_tree (items_of bottom.now.geometries))) }
 {
     let mut steps: Steps<Brand> = Steps::zero();

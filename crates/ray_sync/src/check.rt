@@ -27,10 +27,10 @@ use std::alloc::{AllocError as NoMemory, Global};
 // The greatest number of cells, 2^32.
 const MOST_CELLS: usize = 4_294_967_296;
 
-/// The refusal of the first command that an order is of which breaks a rule on hazards, V25, V26, V27
-/// or V32, by the least that it breaks, with the greatest earlier command that it is at odds with as
-/// the place. None exactly where none does. It takes n log n steps in the number n of commands and
-/// of what they read and write.
+/// The refusal of the first command that an order is of which breaks a rule on hazards, V25, V26,
+/// V27 or V32, by the least that it breaks, with the greatest earlier command that it is at odds
+/// with as the place. None exactly where none does. It takes n log n steps in the number n of
+/// commands and of what they read and write.
 ///
 /// # Errors
 ///
@@ -42,7 +42,8 @@ pub fn check_sync(
 ) -> Result<Option<Refusal>, NoMemory>
     requires until { length order.now ≤ length rec.now }
     requires go_on { GoOn rec.now (length order.now) }
-    ensures { IfOk result (λ hazard. hazard ≡ first_hazard (barriers rec.now) rec.now (length order.now)) }
+    ensures { IfOk result (λ hazard. hazard
+        ≡ first_hazard (barriers rec.now) rec.now (length order.now)) }
 {
     let count = rec.len();
     let until = order.until() as u32;
@@ -123,7 +124,8 @@ fn uncovered_at(
         → AreCarried (one_queue rec) 0 n coverage.now → AreTouched (status_at rec n) ts touches.now
         → ArePlaced rec cells.now n ts
         → HaveStarts rec cells.now n
-        → result ≡ option_map_or (λ to. greatest_with (wrote_uncovered (barriers rec) rec n to) ts n) stage None }
+        → result ≡ option_map_or
+            (λ to. greatest_with (wrote_uncovered (barriers rec) rec n to) ts n) stage None }
 {
     match stage {
         Some(to) => uncovered(to, touches, lanes, coverage, cells),
@@ -144,7 +146,8 @@ fn uncovered(
         → AreLanes (in_order rec) cells.now n lanes.now
         → AreCarried (one_queue rec) 0 n coverage.now → AreTouched (status_at rec n) ts touches.now
         → ArePlaced rec cells.now n ts
-        → HaveStarts rec cells.now n → result ≡ greatest_with (wrote_uncovered (barriers rec) rec n to) ts n }
+        → HaveStarts rec cells.now n → result
+            ≡ greatest_with (wrote_uncovered (barriers rec) rec n to) ts n }
 {
     sharing_is_meeting();
     earlier(last_uncovered(lanes, coverage, to, touches, cells))
@@ -165,7 +168,8 @@ fn unordered_at(
         → AreLanes (in_order rec) cells.now n lanes.now
         → AreFronts rec n fronts → AreTouched (status_at rec n) ts touches.now
         → ArePlaced rec cells.now n ts → HaveStarts rec cells.now n
-        → result ≡ option_map_or (λ to. greatest_with (read_unordered (barriers rec) rec n to) ts n) stage None }
+        → result ≡ option_map_or
+            (λ to. greatest_with (read_unordered (barriers rec) rec n to) ts n) stage None }
 {
     match stage {
         Some(to) => unordered(n, to, fronts, touches, lanes, cells),

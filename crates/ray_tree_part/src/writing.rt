@@ -29,7 +29,8 @@ pub fn append_tree(alloc: Global, bytes: &mut Vec<u8>, tree: &Tree) -> Result<()
 fn append_part(bytes: &mut Vec<u8>, nodes: &[StoredNode], order: &[u32]) -> Result<(), NoMemory>
     requires nodes { length nodes.now < 2 ^ 32 }
     requires order { length order.now < 2 ^ 32 }
-    ensures written { OnOk result (bytes.new.items ≡ bytes.old.items ++ part_of nodes.now order.now) }
+    ensures written { OnOk result (bytes.new.items
+        ≡ bytes.old.items ++ part_of nodes.now order.now) }
     ensures all { OnOk result (All IsWritable nodes.now) }
     ensures words { OnOk result (All (λ w. w < 2 ^ 32) order.now) }
 {
@@ -42,7 +43,8 @@ fn append_part(bytes: &mut Vec<u8>, nodes: &[StoredNode], order: &[u32]) -> Resu
 
 // Appends the 32 bytes of each node.
 fn append_nodes(bytes: &mut Vec<u8>, nodes: &[StoredNode]) -> Result<(), NoMemory>
-    ensures written { OnOk result (bytes.new.items ≡ bytes.old.items ++ flat_map node_bytes nodes.now) }
+    ensures written { OnOk result (bytes.new.items
+        ≡ bytes.old.items ++ flat_map node_bytes nodes.now) }
     ensures all { OnOk result (All IsWritable nodes.now) }
 {
     for node in nodes {
@@ -65,7 +67,8 @@ fn append_node(bytes: &mut Vec<u8>, node: StoredNode) -> Result<(), NoMemory>
 
 // Appends words of 32 bits.
 fn append_words(bytes: &mut Vec<u8>, words: &[u32]) -> Result<(), NoMemory>
-    ensures written { OnOk result (bytes.new.items ≡ bytes.old.items ++ flat_map (little_bytes 4) words.now) }
+    ensures written { OnOk result (bytes.new.items
+        ≡ bytes.old.items ++ flat_map (little_bytes 4) words.now) }
     ensures all { OnOk result (All (λ w. w < 2 ^ 32) words.now) }
 {
     for word in words {

@@ -10,7 +10,8 @@ use ray_infos::{
 };
 use ray_status::{Status, has_top, is_bottom_at, is_top, is_top_at, uses_wrongly};
 
-// The most entries of a list of infos, of uses, of structures or of buffers, and the most live structures.
+// The most entries of a list of infos, of uses, of structures or of buffers, and the most live
+// structures.
 const MOST_ENTRIES: usize = 4096;
 
 // V7: trace's `top` is a bottom; a `uses` entry is a top; `uses` isn't empty for a bottom; update's
@@ -111,7 +112,8 @@ pub(crate) fn v10(status: &Status, command: &Command) -> Option<Place>
 
 // The least info that has too much, and else number 4,096 where there are more infos.
 fn first_too_large_or_long(status: &Status, infos: &Listed<Info>) -> Option<Place>
-    ensures { result ≡ option_or (first_part (is_too_large status.now) infos.now) (part_at 4096 (nat_lt 4096 (length infos.now))) }
+    ensures { result ≡ option_or (first_part (is_too_large status.now) infos.now)
+        (part_at 4096 (nat_lt 4096 (length infos.now))) }
 {
     match first_too_large(status, infos) {
         Some(place) => Some(place),

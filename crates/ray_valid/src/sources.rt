@@ -49,8 +49,8 @@ pub(crate) fn v15(rec: &Recording, status: &Status, command: &Command) -> Option
     }
 }
 
-// V17: the source of a `copy_structure` or `serialize`, a structure of `property`, or a `uses` entry
-// of a build or `deserialize` isn't built.
+// V17: the source of a `copy_structure` or `serialize`, a structure of `property`, or a `uses`
+// entry of a build or `deserialize` isn't built.
 #[tactic(auto, unfolding(ray_rules::specs::Sources::v17))]
 pub(crate) fn v17(status: &Status, command: &Command) -> Option<Place>
     ensures { result ≡ v17 status.now command.now }

@@ -60,8 +60,8 @@ fn whole() -> Box3
 }
 
 /// The bits of the boxes that are left, of those that the window overlaps: where a ray has slabs,
-/// such as may be met by these, and what they tell is put into `eight`. Where it has none nothing is
-/// written, so that a way down by windows alone copies nothing.
+/// such as may be met by these, and what they tell is put into `eight`. Where it has none nothing
+/// is written, so that a way down by windows alone copies nothing.
 #[inline(always)]
 pub(crate) fn narrowed(
     _ray: &ObjectRay,

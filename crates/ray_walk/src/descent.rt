@@ -35,8 +35,8 @@ struct Left {
 /// The wide node to which one leads: as long as one child alone may be met within the limit, and
 /// that is a wide node, it is the child; the way ends, too, at a node whose middle child is a leaf.
 /// No turn is taken for those that are passed by, and no box is tested exactly. Slabs are made
-/// where they are worth it, and what they tell of the last node is put into `eight`, so that nothing
-/// is copied on the way where there are none.
+/// where they are worth it, and what they tell of the last node is put into `eight`, so that
+/// nothing is copied on the way where there are none.
 pub(crate) fn descend(
     trees: &Trees<'_, '_>,
     window: &Window,

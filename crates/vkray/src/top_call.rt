@@ -47,8 +47,8 @@ pub fn vkray<R: Threads + Sync, S: Source, K: Sink, G: Gate + Sync>(
         (writing K.taken K.faults K.zero_writes sink.old sink.new)
         result }
 
-    // A request that runs, and ends well, has written what is told along every order of its job that
-    // the barriers permit.
+    // A request that runs, and ends well, has written what is told along every order of its job
+    // that the barriers permit.
     ensures headline { (request : ARequest) (input : List ℕ) → runs request ≡ true
         → Requests words.now request → result ≡ Status.Done
         → input_of request (S.left source.old) ≡ Some input

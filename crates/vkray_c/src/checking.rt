@@ -28,8 +28,10 @@ pub(crate) fn check_bytes(alloc: Global, bytes: &[u8]) -> Result<Reply, NoMemory
 // The same of bytes that are not too many.
 #[tactic(auto, unfolding(vkray::specs::Answer::answer_of))]
 fn check_within(alloc: Global, bytes: &[u8]) -> Result<Reply, NoMemory>
-    ensures status { IfOk result (λ reply. reply.status ≡ status_of (answer_of (Input Check) bytes.now)) }
-    ensures text { IfOk result (λ reply. reply.text.items ≡ text_of (answer_of (Input Check) bytes.now)) }
+    ensures status { IfOk result (λ reply. reply.status
+        ≡ status_of (answer_of (Input Check) bytes.now)) }
+    ensures text { IfOk result (λ reply. reply.text.items
+        ≡ text_of (answer_of (Input Check) bytes.now)) }
 {
     match read_recording(alloc, bytes) {
         Ok(recording) => check_recording(alloc, &recording),
@@ -53,8 +55,10 @@ fn bad_shape_line(alloc: Global, command: u32) -> Result<String, NoMemory>
 
 // What the rules say of a recording: `ok`, or the line of its refusal.
 fn check_recording(alloc: Global, recording: &Recording) -> Result<Reply, NoMemory>
-    ensures status { IfOk result (λ reply. reply.status ≡ status_of (checked (recorded_task recording.now))) }
-    ensures text { IfOk result (λ reply. reply.text.items ≡ text_of (checked (recorded_task recording.now))) }
+    ensures status { IfOk result (λ reply. reply.status
+        ≡ status_of (checked (recorded_task recording.now))) }
+    ensures text { IfOk result (λ reply. reply.text.items
+        ≡ text_of (checked (recorded_task recording.now))) }
 {
     match check_rules(alloc, recording)? {
         Some(refusal) => {
