@@ -105,7 +105,7 @@ impl Marks {
         ensures list { result ≡ list_of (get nat_cmp self.old.raised semaphore) }
         ensures others { (other : ℕ) → get nat_cmp self.new.raised other
             ≡ (if is_at (nat_cmp semaphore) other then None
-                else get nat_cmp self.old.raised other) }
+            else get nat_cmp self.old.raised other) }
     {
         match self.raised.remove(&semaphore) {
             Some(rising) => rising,

@@ -125,7 +125,7 @@ fn uncovered_at(
         → ArePlaced rec cells.now n ts
         → HaveStarts rec cells.now n
         → result ≡ option_map_or
-            (λ to. greatest_with (wrote_uncovered (barriers rec) rec n to) ts n) stage None }
+        (λ to. greatest_with (wrote_uncovered (barriers rec) rec n to) ts n) stage None }
 {
     match stage {
         Some(to) => uncovered(to, touches, lanes, coverage, cells),
@@ -147,7 +147,7 @@ fn uncovered(
         → AreCarried (one_queue rec) 0 n coverage.now → AreTouched (status_at rec n) ts touches.now
         → ArePlaced rec cells.now n ts
         → HaveStarts rec cells.now n → result
-            ≡ greatest_with (wrote_uncovered (barriers rec) rec n to) ts n }
+        ≡ greatest_with (wrote_uncovered (barriers rec) rec n to) ts n }
 {
     sharing_is_meeting();
     earlier(last_uncovered(lanes, coverage, to, touches, cells))
@@ -169,7 +169,7 @@ fn unordered_at(
         → AreFronts rec n fronts → AreTouched (status_at rec n) ts touches.now
         → ArePlaced rec cells.now n ts → HaveStarts rec cells.now n
         → result ≡ option_map_or
-            (λ to. greatest_with (read_unordered (barriers rec) rec n to) ts n) stage None }
+        (λ to. greatest_with (read_unordered (barriers rec) rec n to) ts n) stage None }
 {
     match stage {
         Some(to) => unordered(n, to, fronts, touches, lanes, cells),
