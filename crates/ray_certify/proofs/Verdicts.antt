@@ -6,7 +6,7 @@ use Rattle.ray_certify.specs.declared.verdict.Verdict.TheVariants.{Certified, Un
 use Rattle.ray_certify.specs.declared.verifying.Checked.{Checked}
 use Rattle.ray_certify.specs.Rays.{TracedRay}
 use Rattle.ray_certify.specs.Scenes.{GoesOn, IsCheckedTo}
-use Rattle.ray_certify.specs.Verified.{IsCertified, IsVerdict}
+use Rattle.ray_certify.specs.Verified.{IsCertified, IsVerdict, NameAnswers, NamesAnswer}
 
 -- ---- one verdict
 
@@ -26,9 +26,6 @@ stays (r ∷ rays) more [] command ray h = h
 stays (r ∷ rays) more (line ∷ lines) command ray (inl h) = inl (h.0, stays rays more lines command ray h.1)
 stays (r ∷ rays) more (line ∷ lines) command ray (inr h) = inr h
 
-some_and : (line : List ℕ) (r : TracedRay) → IsSomeAnd (Some line) (IsCertified r) → IsCertified r line
-some_and line r h = h
-
 next_certified : (rays : List TracedRay) (lines : List (List ℕ)) (r : TracedRay) → IsVerdict rays lines Certified → IsSomeAnd (slice_get lines (length rays)) (IsCertified r)
     → IsVerdict (rays ++ r ∷ []) lines Certified
 next_certified [] [] r h there = absurd there
@@ -45,10 +42,16 @@ next_uncertified (q ∷ rays) [] r h not = absurd cc
 next_uncertified (q ∷ rays) (line ∷ lines) r (inl h) not = inl (h.0, next_uncertified rays lines r h.1 not)
 next_uncertified (q ∷ rays) (line ∷ lines) r (inr h) not = absurd (let never = h.1 in cc)
 
+next_names : (rays : List TracedRay) (lines : List (List ℕ)) (r : TracedRay) → NameAnswers rays lines → IsSomeAnd (slice_get lines (length rays)) (NamesAnswer r) → NameAnswers (rays ++ r ∷ []) lines
+next_names [] [] r h there = absurd there
+next_names [] (line ∷ lines) r h there = (there, tt)
+next_names (q ∷ rays) [] r h there = absurd h
+next_names (q ∷ rays) (line ∷ lines) r h there = (h.0, next_names rays lines r h.1 there)
+
 -- ---- as the program goes on
 
 pub none_checked : (lines : List (List ℕ)) → IsCheckedTo lines [] (record { next = 0; verdict = Certified })
-none_checked lines = record { verdict = refl; next = λ e. refl }
+none_checked lines = record { verdict = refl; next = λ e. refl; names = λ e. tt }
 
 -- no ray more
 pub goes_nowhere : (lines : List (List ℕ)) (c : Checked) → GoesOn lines [] c c
@@ -66,6 +69,7 @@ stopped lines more c command ray e rays h = record {
       subst (IsVerdict (rays ++ more) lines) (sym e)
       (stays rays more lines command ray (subst (IsVerdict rays lines) e h.verdict));
   next = λ certified. absurd (let same : Certified ≡ Uncertified command ray = sym certified ∙ e in cc);
+  names = λ certified. absurd (let same : Certified ≡ Uncertified command ray = sym certified ∙ e in cc);
 }
 
 length-more : (rays : List TracedRay) (r : TracedRay) → length (rays ++ r ∷ []) ≡ length rays + 1
@@ -74,12 +78,16 @@ length-more (q ∷ rays) r = let more = length-more rays r in omega (arith, more
 
 -- the next ray, by the line with its number
 module _ (lines : List (List ℕ)) (r : TracedRay) (c : Checked) (so_far : c.verdict ≡ Certified) where
-  pub goes_certified : IsSomeAnd (slice_get lines c.next) (IsCertified r) → GoesOn lines (r ∷ []) c (record { next = c.next + 1; verdict = Certified })
-  goes_certified there rays h = record {
+  pub goes_certified : IsSomeAnd (slice_get lines c.next) (IsCertified r) → IsSomeAnd (slice_get lines c.next) (NamesAnswer r)
+      → GoesOn lines (r ∷ []) c (record { next = c.next + 1; verdict = Certified })
+  goes_certified there named rays h = record {
     verdict =
         next_certified rays lines r (subst (IsVerdict rays lines) so_far h.verdict)
         (subst (λ n. IsSomeAnd (slice_get lines n) (IsCertified r)) (h.next so_far) there);
     next = λ e. ap (λ n. n + 1) (h.next so_far) ∙ sym (length-more rays r);
+    names = λ e.
+        next_names rays lines r (h.names so_far)
+        (subst (λ n. IsSomeAnd (slice_get lines n) (NamesAnswer r)) (h.next so_far) named);
   }
 
   pub goes_uncertified : (IsSomeAnd (slice_get lines c.next) (IsCertified r) → ⊥) → GoesOn lines (r ∷ []) c (record { next = c.next; verdict = Uncertified r.command r.number })
@@ -88,4 +96,5 @@ module _ (lines : List (List ℕ)) (r : TracedRay) (c : Checked) (so_far : c.ver
         next_uncertified rays lines r (subst (IsVerdict rays lines) so_far h.verdict)
         (subst (λ n. IsSomeAnd (slice_get lines n) (IsCertified r) → ⊥) (h.next so_far) not);
     next = λ e. absurd cc;
+    names = λ e. absurd cc;
   }

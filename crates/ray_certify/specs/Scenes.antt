@@ -15,7 +15,8 @@ use Rattle.ray_certify.specs.declared.scene.Scene.{Scene}
 use Rattle.ray_certify.specs.declared.way.Way.{Way}
 use Rattle.ray_certify.specs.declared.verdict.Verdict.TheVariants.{Certified}
 use Rattle.ray_certify.specs.declared.verifying.Checked.{Checked}
-use Rattle.ray_certify.specs.Verified.{IsVerdict}
+use Rattle.ray_certify.specs.Certified.{AreMade}
+use Rattle.ray_certify.specs.Verified.{IsVerdict, NameAnswers}
 use Rattle.ray_certify.specs.Rays.{SeenRay, TracedRay, first_rays, rays_of, traced_ray}
 
 -- the structures of active instances stand there, and the trees are their stated trees
@@ -53,12 +54,19 @@ abbrev pub IsSceneOf : Memory → ℕ → Command → Option Scene → Type 0
 IsSceneOf memory i c None = rays_in memory i c ≡ []
 IsSceneOf memory i c (Some scene) = IsScene memory i c scene
 
+-- ---- lines that are made one after the other
+
+-- whatever rays a text is of, it becomes that of these behind them
+abbrev pub Adds : List TracedRay → List ℕ → List ℕ → Type 0
+Adds more before after = (rays : List TracedRay) → AreMade rays before → AreMade (rays ++ more) after
+
 -- ---- lines that are looked at one after the other
 
 -- the lines of some rays were looked at: this is the verdict, and where all are certified the next line is that with their number
 pub record IsCheckedTo (lines : List (List ℕ)) (rays : List TracedRay) (checked : Checked) : Type 0 where
   pub verdict : IsVerdict rays lines checked.verdict
   pub next : checked.verdict ≡ Certified → checked.next ≡ length rays
+  pub names : checked.verdict ≡ Certified → NameAnswers rays lines
 
 -- whatever rays were looked at before, so were these behind them
 abbrev pub GoesOn : List (List ℕ) → List TracedRay → Checked → Checked → Type 0

@@ -1,5 +1,5 @@
 // The certificates of the rays of a run's traces.
-ghost use Rattle.std.specs.Prelude.{◌≡◌, ◌++◌, ◌<◌, IfSome, OnOk, Some, codes, length};
+ghost use Rattle.std.specs.Prelude.{◌≡◌, ◌++◌, ◌<◌, ◌∷◌, [], IfSome, OnOk, Some, codes, length};
 ghost use Rattle.ray_action.specs.Clients.{HasScript};
 ghost use Rattle.ray_action.specs.Pieces.{command_at};
 ghost use Rattle.ray_exec.specs.Laws.{CanBegin};
@@ -7,9 +7,9 @@ ghost use Rattle.ray_memory.specs.State.{memory_of};
 ghost use Rattle.ray_flags.specs.Admission.{AsksBoth};
 ghost use Rattle.ray_permitted.specs.Job.{recorded};
 ghost use Rattle.ray_ready.specs.Accepted.{KeepStaticRules};
-ghost use Rattle.ray_certify.specs.Certified.{RunsWith, certificates_of, line_in, lines_of};
-ghost use Rattle.ray_certify.specs.Rays.{traced_ray};
-ghost use Rattle.ray_certify.specs.Scenes.{IsWhole, rays_in, scene_rays, seen_in};
+ghost use Rattle.ray_certify.specs.Certified.{AreMade, RunsWith};
+ghost use Rattle.ray_certify.specs.Rays.{rays_below, traced_ray};
+ghost use Rattle.ray_certify.specs.Scenes.{Adds, IsWhole, rays_in, scene_rays, seen_in};
 
 use crate::scene::{Scene, scene_of};
 use crate::seen::{Seen, certificate_line};
@@ -39,8 +39,8 @@ pub fn certify<R: Threads + Sync, G: Gate + Sync>(
     gate: &G,
 ) -> Result<Vec<u8>, RunFault>
     requires rules { KeepStaticRules rec.now (length rec.now) }
-    ensures { RunsWith (recorded rec.now)
-        (λ lines. lines.items ≡ certificates_of (recorded rec.now)) result }
+    ensures { RunsWith (recorded rec.now) (λ lines.
+        AreMade (rays_below (recorded rec.now) (length rec.now)) lines.items) result }
 {
     traces_can_begin(rec);
     kept_are_accepted(rec);
@@ -71,8 +71,9 @@ fn certify_command(
     requires within { command < length rec.now }
     requires can { CanBegin (memory_of state.now) (command_at rec.now command) }
     requires script { HasScript (command_at rec.now command) }
-    ensures { OnOk result (lines.new.items ≡ lines.old.items
-        ++ lines_of (rays_in (memory_of state.now) command (command_at rec.now command))) }
+    ensures { OnOk result (Adds
+        (rays_in (memory_of state.now) command (command_at rec.now command))
+        lines.old.items lines.new.items) }
 {
     match scene_of(alloc, state, rec, command)? {
         None => Ok(()),
@@ -84,8 +85,8 @@ fn certify_command(
 fn certify_scene(alloc: Global, scene: &Scene<'_>, lines: &mut Vec<u8>) -> Result<(), NoMemory>
     requires whole { IfSome scene.now.seen IsWhole }
     requires flags_agree { ¬ AsksBoth scene.now.way.flags }
-    ensures { OnOk result (lines.new.items ≡ lines.old.items
-        ++ lines_of (scene_rays scene.now scene.now.count)) }
+    ensures { OnOk result (Adds (scene_rays scene.now scene.now.count)
+        lines.old.items lines.new.items) }
 {
     let Some(seen) = &scene.seen else {
         return Ok(());
@@ -109,8 +110,9 @@ fn certify_ray<C: Client>(
 ) -> Result<(), NoMemory>
     requires whole { IsWhole seen.now }
     requires flags_agree { ¬ AsksBoth way.flags }
-    ensures { let r = traced_ray way (C.meaning client.now) (seen_in (Some seen.now)) number
-        in OnOk result (lines.new.items ≡ lines.old.items ++ line_in r r.seen) }
+    ensures { OnOk result (Adds
+        (traced_ray way (C.meaning client.now) (seen_in (Some seen.now)) number ∷ [])
+        lines.old.items lines.new.items) }
 {
     match ray_at(&seen.inputs.rays, number) {
         None => Ok(()),

@@ -8,10 +8,12 @@ ghost use Rattle.ray_flags.specs.Admission.{AsksBoth};
 ghost use Rattle.ray_memory.specs.State.{memory_of};
 ghost use Rattle.ray_permitted.specs.Job.{recorded};
 ghost use Rattle.ray_ready.specs.Accepted.{KeepStaticRules};
+ghost use Rattle.ray_certify.specs.declared.verdict.Verdict.TheVariants.{Certified};
 ghost use Rattle.ray_certify.specs.Certified.{RunsWith};
 ghost use Rattle.ray_certify.specs.Rays.{rays_below, traced_ray};
 ghost use Rattle.ray_certify.specs.Scenes.{GoesOn, IsWhole, ray_seen, rays_in, scene_rays, seen_in};
-ghost use Rattle.ray_certify.specs.Verified.{IsCertified, IsCertifiedBy, IsVerdict};
+ghost use Rattle.ray_certify.specs.Verified.{IsCertified, IsCertifiedBy, IsVerdict, NameAnswers};
+ghost use Rattle.ray_certify.specs.Verified.{NamesAnswer, NamesAnswerBy};
 
 use crate::scene::{Scene, scene_of};
 use crate::seen::{Seen, supports};
@@ -46,8 +48,12 @@ pub fn verify<R: Threads + Sync, G: Gate + Sync>(
     gate: &G,
 ) -> Result<Verdict, RunFault>
     requires rules { KeepStaticRules rec.now (length rec.now) }
-    ensures { RunsWith (recorded rec.now)
+    ensures verdict { RunsWith (recorded rec.now)
         (IsVerdict (rays_below (recorded rec.now) (length rec.now)) lines.now) result }
+
+    // What is certified is what testing every primitive commits.
+    ensures law { IfOk result (λ verdict. verdict ≡ Certified
+        → NameAnswers (rays_below (recorded rec.now) (length rec.now)) lines.now) }
 {
     traces_can_begin(rec);
     kept_are_accepted(rec);
@@ -178,6 +184,8 @@ fn is_next_certified<C: Client>(
     requires flags_agree { ¬ AsksBoth way.flags }
     ensures value { IfOk result (λ is. IsTrue is ↔ IsSomeAnd (slice_get lines.now next)
         (IsCertified (traced_ray way (C.meaning client.now) (seen_in seen.now) number))) }
+    ensures law { IfOk result (λ is. IsTrue is → IsSomeAnd (slice_get lines.now next)
+        (NamesAnswer (traced_ray way (C.meaning client.now) (seen_in seen.now) number))) }
     ensures within { IfOk result (λ is. IsTrue is → next < length lines.now) }
 {
     if next < lines.len() {
@@ -198,7 +206,9 @@ fn is_certified<C: Client>(
 ) -> Result<bool, NoMemory>
     requires whole { IfSome seen.now IsWhole }
     requires flags_agree { ¬ AsksBoth way.flags }
-    ensures { IfOk result (λ is. IsTrue is ↔ IsCertified
+    ensures value { IfOk result (λ is. IsTrue is ↔ IsCertified
+        (traced_ray way (C.meaning client.now) (seen_in seen.now) number) line.now) }
+    ensures law { IfOk result (λ is. IsTrue is → NamesAnswer
         (traced_ray way (C.meaning client.now) (seen_in seen.now) number) line.now) }
 {
     match seen {
@@ -222,7 +232,10 @@ fn certifies<C: Client>(
 ) -> Result<bool, NoMemory>
     requires whole { IsWhole seen.now }
     requires flags_agree { ¬ AsksBoth way.flags }
-    ensures { IfOk result (λ is. IsTrue is ↔ IsCertifiedBy
+    ensures value { IfOk result (λ is. IsTrue is ↔ IsCertifiedBy
+        (traced_ray way (C.meaning client.now) (seen_in (Some seen.now)) number)
+        (ray_seen seen.now ray.now) line.now) }
+    ensures law { IfOk result (λ is. IsTrue is → NamesAnswerBy
         (traced_ray way (C.meaning client.now) (seen_in (Some seen.now)) number)
         (ray_seen seen.now ray.now) line.now) }
 {
