@@ -2,3 +2,4 @@ pub mod PartsSame
 pub mod Counting
 pub mod Verdicts
 pub mod Lines
+pub mod Themselves

@@ -29,7 +29,7 @@ unfolding kind_of
 a_device top rays count hits flags mask script = refl
 
 module _ (rec : List Command) (clients : Clients) (i : ℕ) (m : Memory) (text : List ℕ) (within : i < length rec) (accepted : IsAccepted rec (i + 1)) (done : IsRunTo (on_one_queue rec clients) i m text) where
-  job : Job
+  abbrev job : Job
   job = on_one_queue rec clients
 
   -- the first piece of a device command that has some

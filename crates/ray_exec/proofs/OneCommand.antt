@@ -31,46 +31,52 @@ run_behind clients [] vs m text e = by_empty text e
     by_empty : (t : List ℕ) → Text [] ≡ Text t → run_from clients m vs ≡ with_text t (run_from clients m vs)
     by_empty [] e = sym (no-text (run_from clients m vs))
     by_empty (b ∷ bs) e = absurd cc
-run_behind clients (u ∷ us) vs m text e = by_outcome (unit_outcome clients u m) refl e
+run_behind clients (u ∷ us) vs m text e = by_outcome (λ rest is. run_behind clients us vs (unit_after clients u m) rest is) (unit_outcome clients u m) refl e
   where
     later : Memory
     later = unit_after clients u m
 
-    by_text : (t : List ℕ) (r : Run) → run_from clients later us ≡ r → with_text t r ≡ Text text
+    Later : Type 0
+    Later = (rest : List ℕ) → run_from clients later us ≡ Text rest → run_from clients later (us ++ vs) ≡ with_text rest (run_from clients (memory_after clients later us) vs)
+
+    by_text : Later → (t : List ℕ) (r : Run) → run_from clients later us ≡ r → with_text t r ≡ Text text
         → with_text t (run_from clients later (us ++ vs)) ≡ with_text text (run_from clients (memory_after clients later us) vs)
-    by_text t (Text rest) is whole =
+    by_text next t (Text rest) is whole =
         let same : t ++ rest ≡ text = cc in
-        ap (with_text t) (run_behind clients us vs later rest is)
+        ap (with_text t) (next rest is)
         ∙ (more-text t rest (run_from clients (memory_after clients later us) vs)
         ∙ ap (λ x. with_text x (run_from clients (memory_after clients later us) vs)) same)
-    by_text t (action.Refused r) is whole = absurd cc
-    by_text t Unknown is whole = absurd cc
+    by_text next t (action.Refused r) is whole = absurd cc
+    by_text next t Unknown is whole = absurd cc
 
-    by_outcome : (o : Outcome) → unit_outcome clients u m ≡ o → then_run u o (run_from clients later us) ≡ Text text
+    by_outcome : Later → (o : Outcome) → unit_outcome clients u m ≡ o → then_run u o (run_from clients later us) ≡ Text text
         → then_run u o (run_from clients later (us ++ vs)) ≡ with_text text (run_from clients (memory_after clients later us) vs)
-    by_outcome (Gives output) is whole = by_text _ (run_from clients later us) refl whole
-    by_outcome (Breaks fault) is whole = absurd cc
-    by_outcome Undefined is whole = absurd cc
+    by_outcome next (Gives output) is whole = by_text next _ (run_from clients later us) refl whole
+    by_outcome next (Breaks fault) is whole = absurd cc
+    by_outcome next Undefined is whole = absurd cc
 
 -- a run that is refused stays so, whatever comes behind
 refused_behind : (clients : Clients) (us vs : List Numbered) (m : Memory) (r : Refusal) → run_from clients m us ≡ action.Refused r
     → run_from clients m (us ++ vs) ≡ action.Refused r
 refused_behind clients [] vs m r e = absurd cc
-refused_behind clients (u ∷ us) vs m r e = by_outcome (unit_outcome clients u m) e
+refused_behind clients (u ∷ us) vs m r e = by_outcome (λ q is. refused_behind clients us vs (unit_after clients u m) q is) (unit_outcome clients u m) e
   where
     later : Memory
     later = unit_after clients u m
 
-    by_text : (t : List ℕ) (run : Run) → run_from clients later us ≡ run → with_text t run ≡ action.Refused r
-        → with_text t (run_from clients later (us ++ vs)) ≡ action.Refused r
-    by_text t (Text rest) is whole = absurd cc
-    by_text t (action.Refused q) is whole = ap (with_text t) (refused_behind clients us vs later q is) ∙ whole
-    by_text t Unknown is whole = absurd cc
+    Later : Type 0
+    Later = (q : Refusal) → run_from clients later us ≡ action.Refused q → run_from clients later (us ++ vs) ≡ action.Refused q
 
-    by_outcome : (o : Outcome) → then_run u o (run_from clients later us) ≡ action.Refused r → then_run u o (run_from clients later (us ++ vs)) ≡ action.Refused r
-    by_outcome (Gives output) whole = by_text _ (run_from clients later us) refl whole
-    by_outcome (Breaks fault) whole = whole
-    by_outcome Undefined whole = absurd cc
+    by_text : Later → (t : List ℕ) (run : Run) → run_from clients later us ≡ run → with_text t run ≡ action.Refused r
+        → with_text t (run_from clients later (us ++ vs)) ≡ action.Refused r
+    by_text next t (Text rest) is whole = absurd cc
+    by_text next t (action.Refused q) is whole = ap (with_text t) (next q is) ∙ whole
+    by_text next t Unknown is whole = absurd cc
+
+    by_outcome : Later → (o : Outcome) → then_run u o (run_from clients later us) ≡ action.Refused r → then_run u o (run_from clients later (us ++ vs)) ≡ action.Refused r
+    by_outcome next (Gives output) whole = by_text next _ (run_from clients later us) refl whole
+    by_outcome next (Breaks fault) whole = whole
+    by_outcome next Undefined whole = absurd cc
 
 -- the memory behind them
 memory_behind : (clients : Clients) (us vs : List Numbered) (m : Memory) → memory_after clients m (us ++ vs) ≡ memory_after clients (memory_after clients m us) vs
@@ -81,25 +87,28 @@ memory_behind clients (u ∷ us) vs m = memory_behind clients us vs (unit_after 
 ready_behind : (clients : Clients) (n : ℕ) (us vs : List Numbered) (m : Memory) (text : List ℕ) → run_from clients m us ≡ Text text
     → AreReadyBelow n (us ++ vs) m → AreReadyBelow n vs (memory_after clients m us)
 ready_behind clients n [] vs m text e ready = ready
-ready_behind clients n (u ∷ us) vs m text e ready = by_outcome (unit_outcome clients u m) refl e
+ready_behind clients n (u ∷ us) vs m text e ready = by_outcome (λ rest is next. ready_behind clients n us vs (unit_after clients u m) rest is next) (unit_outcome clients u m) refl e
   where
     later : Memory
     later = unit_after clients u m
 
-    by_text : (t : List ℕ) (r : Run) → run_from clients later us ≡ r → with_text t r ≡ Text text
-        → AreReadyBelow n (us ++ vs) later → AreReadyBelow n vs (memory_after clients later us)
-    by_text t (Text rest) is whole next = ready_behind clients n us vs later rest is next
-    by_text t (action.Refused r) is whole next = absurd cc
-    by_text t Unknown is whole next = absurd cc
+    Later : Type 0
+    Later = (rest : List ℕ) → run_from clients later us ≡ Text rest → AreReadyBelow n (us ++ vs) later → AreReadyBelow n vs (memory_after clients later us)
 
-    by_outcome : (o : Outcome) → unit_outcome clients u m ≡ o → then_run u o (run_from clients later us) ≡ Text text
+    by_text : Later → (t : List ℕ) (r : Run) → run_from clients later us ≡ r → with_text t r ≡ Text text
+        → AreReadyBelow n (us ++ vs) later → AreReadyBelow n vs (memory_after clients later us)
+    by_text then_ t (Text rest) is whole next = then_ rest is next
+    by_text then_ t (action.Refused r) is whole next = absurd cc
+    by_text then_ t Unknown is whole next = absurd cc
+
+    by_outcome : Later → (o : Outcome) → unit_outcome clients u m ≡ o → then_run u o (run_from clients later us) ≡ Text text
         → AreReadyBelow n vs (memory_after clients later us)
-    by_outcome (Gives output) is whole =
-        by_text _ (run_from clients later us) refl whole
+    by_outcome then_ (Gives output) is whole =
+        by_text then_ _ (run_from clients later us) refl whole
         (subst (AreReadyBelow n (us ++ vs)) (sym (ap (λ x. put u.action x m) is))
         (ready.1 output (λ below. gives_may (clients u.command) u.action m output is)))
-    by_outcome (Breaks fault) is whole = absurd cc
-    by_outcome Undefined is whole = absurd cc
+    by_outcome then_ (Breaks fault) is whole = absurd cc
+    by_outcome then_ Undefined is whole = absurd cc
 
 -- ---- one command more
 

@@ -1,6 +1,8 @@
 -- A call that ends well has written what is told along every order that is permitted, and a good call ends well.
 use Rattle.std.proofs.Common.{◌≡◌, [], ℕ, ◌+◌, ◌<◌, ◌≤◌, List, length, drop, Option, Some, Ok, Err, true, ap, sym, subst, ◌∙◌, inl, inr, arith, Global}
 use Rattle.std.specs.Prelude.{String, IfSome, codes}
+use Rattle.ray_cmd.specs.declared.command.Command.{Command}
+use Rattle.ray_cmd.specs.Recordings.{recording_in}
 use Rattle.vkray.specs.declared.asked.Asked.{Asked}
 use Rattle.vkray.specs.declared.asked.Asked.TheVariants as asked
 use Rattle.vkray.specs.declared.input_fault.InputFault.{InputFault}
@@ -14,11 +16,12 @@ use Rattle.vkray.specs.declared.stop.Stop.TheVariants as stops
 use Rattle.vkray.specs.Answer.{Ending, answer_of, checked, input_of, made_up, ran, refused_or, run_with, runs, task_of, with_task}
 use Rattle.vkray.specs.Call.{Reading, Writing, Answers, GivesInput, IsAnswer, IsCompleted, IsEnding, IsFrom, IsGoodCall, IsRead, IsSent, IsTooLong, IsValid, IsWritten, RunsTo, most_bytes}
 use Rattle.vkray.specs.Headline.{IsWrittenOfEveryOrder}
-use Rattle.vkray.specs.Judged.{IsAnswerTo}
+use Rattle.vkray.specs.Judged.{CertifyRays, IsAnswerTo, IsVerifiable}
+use Rattle.vkray.specs.Tasks.{task_of_recording}
 use Rattle.vkray.specs.Words.{Requests}
 use Rattle.vkray.specs.Written.{status_of, status_of_fault, text_of}
 use Rattle.vkray.proofs.Jobs.{answered, every_order, task_runs}
-use Rattle.vkray.proofs.Judging.{as_told, one_answer}
+use Rattle.vkray.proofs.Judging.{as_told, one_verified, verifiable}
 use Rattle.vkray.proofs.OneRequest.{one_request}
 
 -- ---- the input of a call
@@ -94,6 +97,17 @@ headline words reading writing result answers request input run asks done told =
       written = is.written;
     }
 
+-- what it has certified is verified
+pub verified : (words : List (String Global)) (reading : Reading) (writing : Writing) (result : Status) → Answers words reading writing result
+    → (input : List ℕ) (rec : List Command) → Requests words (Input asked.Certify) → result ≡ statuses.Done → input_of (Input asked.Certify) reading.before ≡ Some input
+    → recording_in input ≡ Ok rec → IsVerifiable rec
+unfolding answer_of
+verified words reading writing result answers input rec asks done told read =
+    let is = is_done words reading writing result answers done in
+    let certifying = answer_is words reading (Input asked.Certify) input (Ok is.text) asks told is.cause in
+    verifiable rec is.text (sym (ap (λ x. with_task (ran (Input asked.Certify)) (task_of_recording x)) read) ∙ certifying.is)
+    (subst (λ x. CertifyRays x (Ok is.text)) read certifying.certify)
+
 -- ---- a good call
 
 ran_so : (request : Request) (input text : List ℕ) → RunsTo request input text → with_task (ran request) (task_of request input) ≡ Ok text
@@ -101,17 +115,18 @@ ran_so request input text so =
     ap (with_task (ran request)) so.kept.is_it ∙ (ap (run_with request so.kept.task.job) so.kept.rules ∙ so.told)
 
 -- the answer of a valid input is its text
-answer_is_text : (request : Request) (input text : List ℕ) → IsValid request input text → IsAnswerTo request input (Ok text)
+answer_is_text : (request : Request) (input text : List ℕ) (ending : Ending) → IsValid request input text → IsAnswerTo request input ending → ending ≡ Ok text
 unfolding answer_of
-answer_is_text (Input (asked.Run workers)) input text valid = ran_so (Input (asked.Run workers)) input text valid
-answer_is_text (Input asked.Check) input text valid =
-    ap (with_task checked) valid.0.is_it ∙ (ap (λ refusal. refused_or refusal (Ok (codes "ok\n"))) valid.0.rules ∙ ap Ok (sym valid.1))
-answer_is_text (Input (asked.Queues workers)) input text valid = ran_so (Input (asked.Queues workers)) input text valid
-answer_is_text (Input asked.Groups) input text valid = ran_so (Input asked.Groups) input text valid
-answer_is_text (Input asked.Certify) input text valid = ran_so (Input asked.Certify) input text valid
-answer_is_text (Input asked.Verify) input text valid = valid
-answer_is_text (Generate scene) input text valid = ap Ok (sym valid)
-answer_is_text (RunSelf by) input text valid = ran_so (RunSelf by) input text valid
+answer_is_text (Input (asked.Run workers)) input text ending valid h = sym h ∙ ran_so (Input (asked.Run workers)) input text valid
+answer_is_text (Input asked.Check) input text ending valid h =
+    sym h
+    ∙ (ap (with_task checked) valid.0.is_it ∙ (ap (λ refusal. refused_or refusal (Ok (codes "ok\n"))) valid.0.rules ∙ ap Ok (sym valid.1)))
+answer_is_text (Input (asked.Queues workers)) input text ending valid h = sym h ∙ ran_so (Input (asked.Queues workers)) input text valid
+answer_is_text (Input asked.Groups) input text ending valid h = sym h ∙ ran_so (Input asked.Groups) input text valid
+answer_is_text (Input asked.Certify) input text ending valid h = sym h.is ∙ ran_so (Input asked.Certify) input text valid
+answer_is_text (Input asked.Verify) input text ending valid h = one_verified input ending (Ok text) h valid
+answer_is_text (Generate scene) input text ending valid h = sym h ∙ ap Ok (sym valid)
+answer_is_text (RunSelf by) input text ending valid h = sym h ∙ ran_so (RunSelf by) input text valid
 
 good_input : (request : Request) (reading : Reading) (input : List ℕ) → GivesInput request reading input → input_of request reading.before ≡ Some input
 good_input (Input what) reading input given = given.told
@@ -130,8 +145,7 @@ module _ (words : List (String Global)) (reading : Reading) (writing : Writing) 
   -- an answer to what the words ask for is the text
   same_answer : (ending : Ending) → IsAnswer words reading ending → ending ≡ Ok text
   same_answer ending h =
-      one_answer request input ending (Ok text) (answer_is words reading request input ending good.asks (good_input request reading input good.given) h)
-      (answer_is_text request input text valid)
+      answer_is_text request input text ending valid (answer_is words reading request input ending good.asks (good_input request reading input good.given) h)
 
   -- where the words ask an input, that is the request, and its source gives it
   asks_input : (what : Asked) → Requests words (Input what) → GivesInput (Input what) reading input

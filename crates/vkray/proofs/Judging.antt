@@ -1,11 +1,16 @@
 -- What an input ends with whose lines are judged, and that each input has one answer.
-use Rattle.std.proofs.Common.{ℕ, ◌≡◌, ◌==◌, Bool, true, false, List, length, None, Some, Result, Ok, Err, Vec, Global, refl, ap, sym, subst, ◌∙◌}
+use Rattle.std.proofs.Common.{ℕ, ◌≡◌, ◌==◌, Bool, true, false, List, length, Option, None, Some, Result, Ok, Err, Vec, Global, refl, ap, sym, subst, ◌∙◌}
+use Rattle.std.proofs.lemmas.Nat.{eqb-refl}
 use Rattle.ray_cmd.specs.declared.command.Command.{Command}
 use Rattle.ray_cmd.specs.declared.refusal.Refusal.{Refusal}
+use Rattle.ray_cmd.specs.declared.fault.RecordingFault.{RecordingFault}
+use Rattle.ray_cmd.specs.declared.fault.RecordingFault.TheVariants as recorded_faults
+use Rattle.ray_cmd.specs.Recordings as recordings
+use Rattle.ray_cmd.specs.Recordings.{recording_in}
 use Rattle.ray_rules.specs.Order.{barriers}
 use Rattle.ray_rules.specs.Verdict.{rule_refusal}
 use Rattle.ray_action.specs.Running as action
-use Rattle.ray_action.specs.Running.{Run, Text}
+use Rattle.ray_action.specs.Running.{Run, Text, Unknown}
 use Rattle.ray_inputs.specs.declared.fault.BadInput.{BadInput}
 use Rattle.ray_inputs.specs.declared.fault.BadInput.TheVariants as inputs
 use Rattle.ray_inputs.specs.Inputs.{Answers, CertifiedCommands, certified_in}
@@ -15,9 +20,11 @@ use Rattle.ray_exec.specs.declared.run_fault.RunFault.{RunFault}
 use Rattle.ray_exec.specs.declared.run_fault.RunFault.TheVariants as faults
 use Rattle.ray_exec.specs.Runs.{IsRun}
 use Rattle.ray_certify.specs.declared.verdict.Verdict.{Verdict}
-use Rattle.ray_certify.specs.Certified.{IsRunWith, certificates_of}
-use Rattle.ray_certify.specs.Rays.{ray_count, rays_below}
-use Rattle.ray_certify.specs.Verified.{IsVerdict}
+use Rattle.ray_certify.specs.declared.verdict.Verdict.TheVariants.{Certified}
+use Rattle.ray_certify.specs.Certified.{AreMade, CertifyThemselves, IsRunWith, certificates_of}
+use Rattle.ray_certify.specs.Rays.{TracedRay, ray_count, rays_below}
+use Rattle.ray_certify.specs.Verified.{IsVerdict, NameAnswers}
+use Rattle.ray_certify.proofs.Themselves.{all_seen, themselves_certified}
 use Rattle.ray_certify.proofs.Verdicts.{one_verdict}
 use Rattle.vkray.specs.declared.asked.Asked.{Asked}
 use Rattle.vkray.specs.declared.asked.Asked.TheVariants as asked
@@ -27,10 +34,10 @@ use Rattle.vkray.specs.declared.request.Request.TheVariants.{Input, Generate, Ru
 use Rattle.vkray.specs.declared.stop.Stop.{Stop}
 use Rattle.vkray.specs.declared.stop.Stop.TheVariants as stops
 use Rattle.vkray.specs.Answer.{Ending, answer_of, ending_of_run, in_place_of_text, ran, refused, refused_before, run_with, runs, with_task}
-use Rattle.vkray.specs.Endings.{Ends, EndsBy, EndsTo, IsCounted, IsVerifiedTo, StopsBy, StopsSo, is_judged, stop_of_input, stop_of_run}
-use Rattle.vkray.specs.Judged.{InPlaceOfText, IsAnswerTo, IsJudged, IsJudgedBy, IsJudgedOf}
+use Rattle.vkray.specs.Endings.{Ends, EndsBy, EndsTo, IsCertifiedTo, IsCertifyingOf, IsCounted, IsVerifiedTo, StopsBy, StopsSo, is_of_certificates, stop_of_input, stop_of_recording, stop_of_run}
+use Rattle.vkray.specs.Judged.{CertifyRays, InPlaceOfText, IsAnswerTo, IsJudgedBy, IsJudgedOf, IsVerifiable}
 use Rattle.vkray.specs.Lines.{verdict_line}
-use Rattle.vkray.specs.Tasks.{Task, certified_task, recorded_task, task_of_read}
+use Rattle.vkray.specs.Tasks.{Task, certified_task, recorded_task, task_of_read, task_of_recording}
 use Rattle.vkray.proofs.Jobs.{no_text}
 
 -- ---- one answer
@@ -50,15 +57,9 @@ one_in_place : (read : Result CertifiedCommands BadInput) (run a b : Ending) →
 one_in_place read (Ok text) a b x y = one_judged_of read a b x y
 one_in_place read (Err stop) a b x y = x ∙ sym y
 
-pub one_answer : (request : Request) (input : List ℕ) (a b : Ending) → IsAnswerTo request input a → IsAnswerTo request input b → a ≡ b
-one_answer (Input (asked.Run workers)) input a b x y = sym x ∙ y
-one_answer (Input asked.Check) input a b x y = sym x ∙ y
-one_answer (Input (asked.Queues workers)) input a b x y = sym x ∙ y
-one_answer (Input asked.Groups) input a b x y = sym x ∙ y
-one_answer (Input asked.Certify) input a b x y = sym x ∙ y
-one_answer (Input asked.Verify) input a b x y = one_in_place (certified_in input) (answer_of (Input asked.Verify) input) a b x y
-one_answer (Generate scene) input a b x y = sym x ∙ y
-one_answer (RunSelf by) input a b x y = sym x ∙ y
+-- of `verify`
+pub one_verified : (input : List ℕ) (a b : Ending) → IsAnswerTo (Input asked.Verify) input a → IsAnswerTo (Input asked.Verify) input b → a ≡ b
+one_verified input a b x y = one_in_place (certified_in input) (answer_of (Input asked.Verify) input) a b x y
 
 -- of a request that runs it is what its run tells
 pub as_told : (request : Request) (input : List ℕ) (ending : Ending) → runs request ≡ true → IsAnswerTo request input ending → answer_of request input ≡ ending
@@ -66,7 +67,7 @@ as_told (Input (asked.Run workers)) input ending run h = h
 as_told (Input asked.Check) input ending run h = h
 as_told (Input (asked.Queues workers)) input ending run h = h
 as_told (Input asked.Groups) input ending run h = h
-as_told (Input asked.Certify) input ending run h = h
+as_told (Input asked.Certify) input ending run h = h.is
 as_told (Input asked.Verify) input ending run h = absurd cc
 as_told (Generate scene) input ending run h = h
 as_told (RunSelf by) input ending run h = h
@@ -85,22 +86,13 @@ by_ending ending (Ok text) h = h
 by_ending ending (Err stop) h = by_stop ending stop h
 
 -- of what isn't judged
-pub told_ends : (what : Asked) (input : List ℕ) (r : Result (Vec ℕ Global) Stop) → is_judged what ≡ false → Ends (answer_of (Input what) input) r → EndsTo (Input what) input r
+pub told_ends : (what : Asked) (input : List ℕ) (r : Result (Vec ℕ Global) Stop) → is_of_certificates what ≡ false → Ends (answer_of (Input what) input) r → EndsTo (Input what) input r
 told_ends (asked.Run workers) input r no h = by_ending (answer_of (Input (asked.Run workers)) input) r h
 told_ends asked.Check input r no h = by_ending (answer_of (Input asked.Check) input) r h
 told_ends (asked.Queues workers) input r no h = by_ending (answer_of (Input (asked.Queues workers)) input) r h
 told_ends asked.Groups input r no h = by_ending (answer_of (Input asked.Groups) input) r h
-told_ends asked.Certify input r no h = by_ending (answer_of (Input asked.Certify) input) r h
+told_ends asked.Certify input r no h = absurd cc
 told_ends asked.Verify input r no h = absurd cc
-
--- of what is
-pub judged_ends : (what : Asked) (input : List ℕ) (r : Result (Vec ℕ Global) Stop) → is_judged what ≡ true → EndsTo (Input asked.Verify) input r → EndsTo (Input what) input r
-judged_ends (asked.Run workers) input r yes_ h = absurd cc
-judged_ends asked.Check input r yes_ h = absurd cc
-judged_ends (asked.Queues workers) input r yes_ h = absurd cc
-judged_ends asked.Groups input r yes_ h = absurd cc
-judged_ends asked.Certify input r yes_ h = absurd cc
-judged_ends asked.Verify input r yes_ h = h
 
 -- of the other requests
 pub generated_ends : (request : Request) (input : List ℕ) (r : Result (Vec ℕ Global) Stop) → ((e : Ending) → answer_of request input ≡ e → IsAnswerTo request input e)
@@ -111,6 +103,41 @@ generated_ends request input (Err stops.ReadFault) is h = h
 generated_ends request input (Err stops.TooLong) is h = h
 generated_ends request input (Err (stops.Input fault)) is h = is (Err (stops.Input fault)) h
 generated_ends request input (Err stops.NoMemory) is h = tt
+
+-- ---- a recording whose rays are certified
+
+certifying_stop : (rec : List Command) (input : List ℕ) (stop : Stop) → recording_in input ≡ Ok rec → StopsBy (IsCertifyingOf rec) stop → StopsBy (IsAnswerTo (Input asked.Certify) input) stop
+unfolding answer_of
+certifying_stop rec input stops.BadWords read h = h
+certifying_stop rec input stops.ReadFault read h = h
+certifying_stop rec input stops.TooLong read h = h
+certifying_stop rec input (stops.Input fault) read h = record {
+  is = ap (λ x. with_task (ran (Input asked.Certify)) (task_of_recording x)) read ∙ h.is;
+  certify = subst (λ x. CertifyRays x (Err (stops.Input fault))) (sym read) tt;
+}
+certifying_stop rec input stops.NoMemory read h = tt
+
+pub recording_certified : (rec : List Command) (input : List ℕ) (r : Result (Vec ℕ Global) Stop) → recording_in input ≡ Ok rec → IsCertifiedTo rec r → EndsTo (Input asked.Certify) input r
+unfolding answer_of
+recording_certified rec input (Ok text) read h = record {
+  is = ap (λ x. with_task (ran (Input asked.Certify)) (task_of_recording x)) read ∙ h.is;
+  certify = subst (λ x. CertifyRays x (Ok text.items)) (sym read) h.certify;
+}
+recording_certified rec input (Err stop) read h = certifying_stop rec input stop read h
+
+-- one that wasn't read
+unread_recording : (input : List ℕ) (fault : RecordingFault) (stop : Stop) → recording_in input ≡ Err fault → task_of_recording (Err fault) ≡ Err stop
+    → IsAnswerTo (Input asked.Certify) input (Err stop)
+unfolding answer_of
+unread_recording input fault stop read is = record {
+  is = ap (λ x. with_task (ran (Input asked.Certify)) (task_of_recording x)) read ∙ ap (with_task (ran (Input asked.Certify))) is;
+  certify = subst (λ x. CertifyRays x (Err stop)) (sym read) tt;
+}
+
+pub uncertified_ends : (input : List ℕ) (fault : RecordingFault) → recordings.Answers (Err fault) (recording_in input) → EndsTo (Input asked.Certify) input (Err (stop_of_recording fault))
+uncertified_ends input recorded_faults.NotJson read = unread_recording input recorded_faults.NotJson (stops.Input NotJson) read refl
+uncertified_ends input (recorded_faults.BadShape command) read = unread_recording input (recorded_faults.BadShape command) (stops.Input (BadShape command)) read refl
+uncertified_ends input recorded_faults.NoMemory read = tt
 
 -- ---- an input with certificates
 
@@ -147,12 +174,12 @@ module _ (rec : List Command) (none : rule_refusal (barriers rec) rec ≡ None) 
       ap (run_with (Input asked.Certify) (recorded rec)) none
       ∙ ap (λ r. in_place_of_text (certificates_of (recorded rec)) (ending_of_run r)) is
 
-  pub certified_ends : (lines : Vec ℕ Global) → IsRunWith (recorded rec) (λ (v : Vec ℕ Global). v.items ≡ certificates_of (recorded rec)) lines
-      → Ends (ran (Input asked.Certify) (recorded_task rec)) (Ok lines)
-  certified_ends lines h = certify_told (Text h.text) h.run ∙ ap Ok (sym h.is)
+  pub certified_ends : (lines : Vec ℕ Global) → IsRunWith (recorded rec) (λ (v : Vec ℕ Global). AreMade (rays_below (recorded rec) (length rec)) v.items) lines
+      → IsCertifiedTo rec (Ok lines)
+  certified_ends lines h = record { is = certify_told (Text h.text) h.run ∙ ap Ok (sym h.is.lines); certify = h.is.certify }
 
-  pub certify_stops : (fault : RunFault) → IsRun (run_below (recorded rec) (length rec)) (Err fault) → StopsSo (ran (Input asked.Certify) (recorded_task rec)) (stop_of_run fault)
-  certify_stops (faults.Refused refusal) is = certify_told (action.Refused refusal) is
+  pub certify_stops : (fault : RunFault) → IsRun (run_below (recorded rec) (length rec)) (Err fault) → IsCertifiedTo rec (Err (stop_of_run fault))
+  certify_stops (faults.Refused refusal) is = record { is = certify_told (action.Refused refusal) is; certify = tt }
   certify_stops faults.NoMemory is = tt
 
 module _ (c : CertifiedCommands) (none : rule_refusal (barriers c.commands) c.commands ≡ None) where
@@ -169,10 +196,11 @@ module _ (c : CertifiedCommands) (none : rule_refusal (barriers c.commands) c.co
 
   pub verdict_told : (verdict : Verdict) → (length c.certificates == ray_count c.commands (length c.commands)) ≡ true
       → IsRunWith (recorded c.commands) (IsVerdict (rays_below (recorded c.commands) (length c.commands)) c.certificates) verdict
+      → (verdict ≡ Certified → NameAnswers (rays_below (recorded c.commands) (length c.commands)) c.certificates)
       → (r : Result (Vec ℕ Global) Stop) → IsCounted (verdict_line (length c.certificates) verdict) r → IsVerifiedTo c r
-  verdict_told verdict test h (Ok text) counted =
-      verdict_by true verdict test h (Ok text.items) (record { verdict = verdict; is_it = h.is; told = ap Ok counted })
-  verdict_told verdict test h (Err stop) counted =
+  verdict_told verdict test h names (Ok text) counted =
+      verdict_by true verdict test h (Ok text.items) (record { verdict = verdict; is_it = h.is; names = names; told = ap Ok counted })
+  verdict_told verdict test h names (Err stop) counted =
       subst (StopsBy (InPlaceOfText (Ok c) (ran (Input asked.Verify) (certified_task c)))) (sym counted) tt
 
   pub lines_bad : (verdict : Verdict) → (length c.certificates == ray_count c.commands (length c.commands)) ≡ false
@@ -201,3 +229,62 @@ refused_ends c refusal r some h =
     let run : ran (Input asked.Verify) (certified_task c) ≡ refused_before (recorded c.commands) refusal = ap (run_with (Input asked.Verify) (recorded c.commands)) some in
     subst (λ (e : Ending). EndsBy (InPlaceOfText (Ok c) e) r) (sym run)
     (in_place_refused c (refused_before (recorded c.commands) refusal) r (no_text (run_below (recorded c.commands) refusal.command) refusal) h)
+
+certifying_refused : (rec : List Command) (run : Ending) (r : Result (Vec ℕ Global) Stop) → ran (Input asked.Certify) (recorded_task rec) ≡ run → ((text : List ℕ) → run ≡ Ok text → ⊥)
+    → Ends run r → IsCertifiedTo rec r
+certifying_refused rec run (Ok text) is never h = absurd (never text.items h)
+certifying_refused rec run (Err stops.BadWords) is never h = h
+certifying_refused rec run (Err stops.ReadFault) is never h = h
+certifying_refused rec run (Err stops.TooLong) is never h = h
+certifying_refused rec run (Err (stops.Input fault)) is never h = record { is = is ∙ h; certify = tt }
+certifying_refused rec run (Err stops.NoMemory) is never h = tt
+
+pub certify_refused : (rec : List Command) (refusal : Refusal) (r : Result (Vec ℕ Global) Stop) → rule_refusal (barriers rec) rec ≡ Some refusal
+    → Ends (refused_before (recorded rec) refusal) r → IsCertifiedTo rec r
+certify_refused rec refusal r some h =
+    certifying_refused rec (refused_before (recorded rec) refusal) r (ap (run_with (Input asked.Certify) (recorded rec)) some)
+    (no_text (run_below (recorded rec) refusal.command) refusal) h
+
+-- ---- what is certified is verified
+
+-- a job none of whose commands is refused came to a text
+record ComesToText (rec : List Command) : Type 0 where
+  none : rule_refusal (barriers rec) rec ≡ None
+  text : List ℕ
+  run : run_below (recorded rec) (length rec) ≡ Text text
+
+a_text : (rec : List Command) (line : List ℕ) (run : Run) (text : List ℕ) → in_place_of_text line (ending_of_run run) ≡ Ok text → (t : List ℕ) × (run ≡ Text t)
+a_text rec line (Text t) text e = (t, refl)
+a_text rec line (action.Refused refusal) text e = absurd cc
+a_text rec line Unknown text e = absurd cc
+
+comes_to_text : (rec : List Command) (text : List ℕ) → run_with (Input asked.Certify) (recorded rec) (rule_refusal (barriers rec) rec) ≡ Ok text → ComesToText rec
+comes_to_text rec text e = by_refusal (rule_refusal (barriers rec) rec) refl e
+  where
+    by_refusal : (refusal : Option Refusal) → rule_refusal (barriers rec) rec ≡ refusal → run_with (Input asked.Certify) (recorded rec) refusal ≡ Ok text → ComesToText rec
+    by_refusal None is e =
+        let run = a_text rec (certificates_of (recorded rec)) (run_below (recorded rec) (length rec)) text e in
+        record { none = is; text = run.0; run = run.1 }
+    by_refusal (Some refusal) is e = absurd (no_text (run_below (recorded rec) refusal.command) refusal text e)
+
+pub verifiable : (rec : List Command) (text : List ℕ) → run_with (Input asked.Certify) (recorded rec) (rule_refusal (barriers rec) rec) ≡ Ok text
+    → CertifyThemselves (rays_below (recorded rec) (length rec)) → IsVerifiable rec
+verifiable rec text told certify other lines are many read =
+    let c : CertifiedCommands = record { commands = rec; certificates = lines } in
+    let rays : List TracedRay = rays_below (recorded rec) (length rec) in
+    let made = themselves_certified rays certify (all_seen (recorded rec) (length rec) (ap length (sym are) ∙ many)) in
+    let verdict : IsVerdict rays lines Certified = subst (λ ls. IsVerdict rays ls Certified) (sym are) made.0 in
+    let names : NameAnswers rays lines = subst (NameAnswers rays) (sym are) made.1 in
+    let run = comes_to_text rec text told in
+    subst (λ (x : Result CertifiedCommands BadInput). InPlaceOfText x (answer_of (Input asked.Verify) other) (Ok (verdict_line (length lines) Certified))) (sym read)
+    (subst (λ (e : Ending). InPlaceOfText (Ok c) e (Ok (verdict_line (length lines) Certified))) (sym (of_input_read other c read))
+    (verdict_by c run.none true Certified (same_test (length lines) (ray_count rec (length rec)) many)
+    (record { text = run.text; run = run.run; is = verdict }) (Ok (verdict_line (length lines) Certified))
+    (record { verdict = Certified; is_it = verdict; names = λ e. names; told = refl })))
+  where
+    same_test : (a b : ℕ) → a ≡ b → (a == b) ≡ true
+    same_test a b e = subst (λ x. (a == x) ≡ true) e (eqb-refl a)
+
+    of_input_read : (other : List ℕ) (c : CertifiedCommands) → certified_in other ≡ Ok c → answer_of (Input asked.Verify) other ≡ ran (Input asked.Verify) (certified_task c)
+    unfolding answer_of
+    of_input_read other c read = ap (λ x. with_task (ran (Input asked.Verify)) (task_of_read certified_task x)) read

@@ -7,6 +7,7 @@ use Rattle.ray_inputs.specs.declared.fault.BadInput.{BadInput}
 use Rattle.ray_inputs.specs.declared.fault.BadInput.TheVariants as inputs
 use Rattle.ray_io.specs.declared.read_error.ReadError.{ReadError}
 use Rattle.ray_io.specs.declared.read_error.ReadError.TheVariants as reads
+use Rattle.ray_cmd.specs.declared.command.Command.{Command}
 use Rattle.ray_cmd.specs.declared.refusal.Refusal.{Refusal}
 use Rattle.ray_exec.specs.declared.run_fault.RunFault.{RunFault}
 use Rattle.ray_exec.specs.declared.run_fault.RunFault.TheVariants as runs
@@ -22,8 +23,8 @@ use Rattle.ray_inputs.specs.Inputs.{CertifiedCommands}
 use Rattle.vkray.specs.declared.request.Request.{Request}
 use Rattle.vkray.specs.declared.request.Request.TheVariants.{Input}
 use Rattle.vkray.specs.Answer.{Ending, ending_before, ending_of_run, ran, refused}
-use Rattle.vkray.specs.Judged.{InPlaceOfText, IsAnswerTo}
-use Rattle.vkray.specs.Tasks.{certified_task}
+use Rattle.vkray.specs.Judged.{CertifyRays, InPlaceOfText, IsAnswerTo}
+use Rattle.vkray.specs.Tasks.{certified_task, recorded_task}
 use Rattle.vkray.specs.Call.{Reading, IsEnding}
 
 -- the stop of each fault
@@ -79,6 +80,14 @@ EndsBy is (Err stop) = StopsBy is stop
 abbrev pub EndsTo : Request → List ℕ → Result (Vec ℕ Global) Stop → Type 0
 EndsTo request input result = EndsBy (IsAnswerTo request input) result
 
+-- a result is what a recording that was read is certified with
+pub record IsCertifyingOf (rec : List Command) (ending : Ending) : Type 0 where
+  pub is : ran (Input Certify) (recorded_task rec) ≡ ending
+  pub certify : CertifyRays (Ok rec) ending
+
+abbrev pub IsCertifiedTo : List Command → Result (Vec ℕ Global) Stop → Type 0
+IsCertifiedTo rec result = EndsBy (IsCertifyingOf rec) result
+
 -- a result is what lines that were read end with
 abbrev pub IsVerifiedTo : CertifiedCommands → Result (Vec ℕ Global) Stop → Type 0
 IsVerifiedTo c result = EndsBy (InPlaceOfText (Ok c) (ran (Input Verify) (certified_task c))) result
@@ -123,14 +132,14 @@ IsWithinLimits Groups = Unit {0}
 IsWithinLimits Certify = Unit {0}
 IsWithinLimits Verify = Unit {0}
 
--- whether what is asked is a verdict on an input
-abbrev pub is_judged : Asked → Bool
-is_judged (Run workers) = false
-is_judged Check = false
-is_judged (Queues workers) = false
-is_judged Groups = false
-is_judged Certify = false
-is_judged Verify = true
+-- whether what is asked is of certificates
+abbrev pub is_of_certificates : Asked → Bool
+is_of_certificates (Run workers) = false
+is_of_certificates Check = false
+is_of_certificates (Queues workers) = false
+is_of_certificates Groups = false
+is_of_certificates Certify = true
+is_of_certificates Verify = true
 
 -- what the run of the commands below a refused one ends with, and where none is refused that of all
 abbrev pub ending_with : ARun → Option Refusal → Ending

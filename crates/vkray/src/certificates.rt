@@ -3,12 +3,8 @@ ghost use Rattle.std.specs.Prelude.{◌≡◌, ◌==◌, None, length};
 ghost use Rattle.ray_rules.specs.Order.{barriers};
 ghost use Rattle.ray_rules.specs.Verdict.{rule_refusal};
 ghost use Rattle.ray_certify.specs.Rays.{ray_count};
-ghost use Rattle.vkray.specs.declared.asked.Asked.TheVariants.{Certify};
-ghost use Rattle.vkray.specs.declared.request.Request.TheVariants.{Input};
-ghost use Rattle.vkray.specs.Answer.{ran};
-ghost use Rattle.vkray.specs.Endings.{Ends, IsCounted, IsVerifiedTo};
+ghost use Rattle.vkray.specs.Endings.{IsCertifiedTo, IsCounted, IsVerifiedTo};
 ghost use Rattle.vkray.specs.Lines.{verdict_line};
-ghost use Rattle.vkray.specs.Tasks.{recorded_task};
 
 use crate::input_fault::InputFault;
 use crate::line::verdict_line;
@@ -31,7 +27,7 @@ pub(crate) fn certify_recording<R: Threads + Sync, G: Gate + Sync>(
     recording: &Recording,
     gate: &G,
 ) -> Result<Vec<u8>, Stop>
-    ensures { Ends (ran (Input Certify) (recorded_task recording.now)) result }
+    ensures { IsCertifiedTo recording.now result }
 {
     match check_rules(alloc, recording) {
         Ok(Some(refusal)) => {
@@ -53,7 +49,7 @@ fn certify_all<R: Threads + Sync, G: Gate + Sync>(
     gate: &G,
 ) -> Result<Vec<u8>, Stop>
     requires { rule_refusal (barriers recording.now) recording.now ≡ None }
-    ensures { Ends (ran (Input Certify) (recorded_task recording.now)) result }
+    ensures { IsCertifiedTo recording.now result }
 {
     unrefused_break_no_rule(recording);
     match certify(rt, alloc, recording, gate) {

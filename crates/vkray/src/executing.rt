@@ -2,9 +2,9 @@ ghost use Rattle.std.specs.Prelude.{◌≡◌, false};
 ghost use Rattle.ray_cmd.specs.Recordings.{recording_in, Answers};
 ghost use Rattle.ray_inputs.specs.Inputs as inputs;
 ghost use Rattle.vkray.specs.declared.request.Request.TheVariants.{Input};
-ghost use Rattle.vkray.specs.declared.asked.Asked.TheVariants.{Verify};
+ghost use Rattle.vkray.specs.declared.asked.Asked.TheVariants.{Certify, Verify};
 ghost use Rattle.vkray.specs.Answer.{answer_of, checked};
-ghost use Rattle.vkray.specs.Endings.{Ends, EndsTo, IsWithinLimits, is_judged};
+ghost use Rattle.vkray.specs.Endings.{Ends, EndsTo, IsWithinLimits, is_of_certificates};
 ghost use Rattle.vkray.specs.Tasks.{recorded_task};
 
 use crate::asked::Asked;
@@ -33,10 +33,10 @@ pub(crate) fn execute<R: Threads + Sync, G: Gate + Sync>(
     requires { IsWithinLimits asked }
     ensures { EndsTo (Input asked) bytes.items result }
 {
-    if is_judged(asked) {
-        verify_bytes(rt, alloc, bytes, gate)
-    } else {
-        tell(rt, alloc, asked, bytes, gate)
+    match asked {
+        Asked::Certify => certify_bytes(rt, alloc, bytes, gate),
+        Asked::Verify => verify_bytes(rt, alloc, bytes, gate),
+        _ => tell(rt, alloc, asked, bytes, gate),
     }
 }
 
@@ -50,7 +50,7 @@ fn tell<R: Threads + Sync, G: Gate + Sync>(
     gate: &G,
 ) -> Result<Vec<u8>, Stop>
     requires limits { IsWithinLimits asked }
-    requires told { is_judged asked ≡ false }
+    requires told { is_of_certificates asked ≡ false }
     ensures { Ends (answer_of (Input asked) bytes.items) result }
 {
     match asked {
@@ -70,19 +70,8 @@ fn tell<R: Threads + Sync, G: Gate + Sync>(
             Ok(tabled) => run_tabled(rt, alloc, &tabled, gate),
             Err(fault) => Err(Stop::from(fault)),
         },
-        Asked::Certify => match read_whole(alloc, bytes) {
-            Ok(recording) => certify_recording(rt, alloc, &recording, gate),
-            Err(fault) => Err(Stop::from(fault)),
-        },
-        Asked::Verify => unreachable!("it is none that is judged"),
+        Asked::Certify | Asked::Verify => unreachable!("it is none of certificates"),
     }
-}
-
-// Whether what is asked is a verdict on an input.
-fn is_judged(asked: Asked) -> bool
-    ensures { result ≡ is_judged asked }
-{
-    matches!(asked, Asked::Verify)
 }
 
 // Reads the bytes as a recording. They are dropped before anything is done with it.
@@ -111,6 +100,21 @@ fn read_whole_certified(alloc: Global, bytes: Vec<u8>) -> Result<CertifiedRecord
     ensures { inputs.Answers result (inputs.certified_in bytes.items) }
 {
     read_certified(alloc, bytes.as_slice())
+}
+
+// Gives the certificates of the rays of an input's traces.
+fn certify_bytes<R: Threads + Sync, G: Gate + Sync>(
+    rt: &R,
+    alloc: Global,
+    bytes: Vec<u8>,
+    gate: &G,
+) -> Result<Vec<u8>, Stop>
+    ensures { EndsTo (Input Certify) bytes.items result }
+{
+    match read_whole(alloc, bytes) {
+        Ok(recording) => certify_recording(rt, alloc, &recording, gate),
+        Err(fault) => Err(Stop::from(fault)),
+    }
 }
 
 // Tells whether the lines of an input certify its rays.

@@ -1,12 +1,16 @@
-ghost use Rattle.std.specs.Prelude.{◌≡◌, ℕ, List, [], IfOk, Some, true};
+ghost use Rattle.std.specs.Prelude.{◌≡◌, ℕ, List, [], IfOk, Ok, Some, true};
+ghost use Rattle.ray_cmd.specs.declared.command.Command.{Command as ACommand};
+ghost use Rattle.ray_cmd.specs.Recordings.{recording_in};
 ghost use Rattle.ray_scene.specs.Grid.{IsScene};
 ghost use Rattle.vkray.specs.declared.request.Request.{Request as ARequest};
-ghost use Rattle.vkray.specs.declared.request.Request.TheVariants.{Generate};
+ghost use Rattle.vkray.specs.declared.asked.Asked.TheVariants.{Certify};
+ghost use Rattle.vkray.specs.declared.request.Request.TheVariants.{Generate, Input};
 ghost use Rattle.vkray.specs.Answer.{answer_of, input_of, runs, Ending};
 ghost use Rattle.vkray.specs.Call.{reading, writing, Answers, IsCompleted, IsEnding, IsGoodCall};
 ghost use Rattle.vkray.specs.Call.{IsSent, IsValid, TakesPrefix};
 ghost use Rattle.vkray.specs.Endings.{Ends, EndsCall};
 ghost use Rattle.vkray.specs.Headline.{IsWrittenOfEveryOrder};
+ghost use Rattle.vkray.specs.Judged.{IsVerifiable};
 ghost use Rattle.vkray.specs.Words.{AskInput, Requests};
 ghost use Rattle.vkray.specs.Written.{status_of, text_of};
 
@@ -29,7 +33,8 @@ pub const MOST_BYTES: u32 = 1 << 26;
 /// recording from the source, run it and write its text to the sink, and `check` writes `ok` where
 /// it breaks no rule V1 to V32; `queues`, also with `--workers N`, and `groups` run what an object
 /// of the source says, a recording that is submitted to several queues or whose candidates are
-/// decided by hit groups; `gen SIDE LAYERS RAYS` reads nothing and writes the recording of a
+/// decided by hit groups; `certify` writes a certificate for each ray of a recording's traces, and
+/// `verify` whether lines are certificates of the rays of an object's commands; `gen SIDE LAYERS RAYS` reads nothing and writes the recording of a
 /// made-up scene, and `selfrun SIDE LAYERS RAYS`, also with `--workers N`, runs that recording and
 /// writes the counts of what its rays commit; all others are bad. Whatever ends the call before its
 /// text, one line says why. The whole text is made before the first write. After a read fault, or
@@ -54,6 +59,12 @@ pub fn vkray<R: Threads + Sync, S: Source, K: Sink, G: Gate + Sync>(
         → input_of request (S.left source.old) ≡ Some input
         → IsWrittenOfEveryOrder request input
         (writing K.taken K.faults K.zero_writes sink.old sink.new) }
+
+    // What was certified is verified: on the recording's commands and these lines the answer to
+    // `verify` is `yes` and their number.
+    ensures verified { (input : List ℕ) (rec : List ACommand) → Requests words.now (Input Certify)
+        → result ≡ Status.Done → input_of (Input Certify) (S.left source.old) ≡ Some input
+        → recording_in input ≡ Ok rec → IsVerifiable rec }
 
     // A good call with a valid input is answered: the whole text is written.
     ensures complete { (request : ARequest) (input text : List ℕ)

@@ -22,11 +22,11 @@ act-requires-clause-ready g c =
     (next_command job (i + 1) i (memory_of c.args.state.now) c.args.text.now.items (omega arith) (let w = c.requires.within in omega arith) (c.kept_are_accepted.ensures (i + 1) c.requires.rules) c.requires.before)
 
 pub run_pieces-requires-clause-device : goal.run_pieces-requires-clause-device
-run_pieces-requires-clause-device g c =
+run_pieces-requires-clause-device g c κs within =
     ap (λ x. not (is_device x)) (command_is c.args.rec.now c.args.command c.command.result.now c.command.ensures) ∙ (sym c.is_host.ensures ∙ c.if-is_host.false)
 
 pub run_pieces-requires-clause-accepted : goal.run_pieces-requires-clause-accepted
-run_pieces-requires-clause-accepted g c = c.kept_are_accepted.ensures (c.args.command + 1) c.requires.rules
+run_pieces-requires-clause-accepted g c κs within = c.kept_are_accepted.ensures (c.args.command + 1) c.requires.rules
 
 pub returns-in-Ok-clause-ok : goal.returns-in-Ok-clause-ok
 returns-in-Ok-clause-ok g c =

@@ -10,7 +10,7 @@ loop-command-init g c =
     none_run (on_one_queue c.args.rec.now (g.F.Fetcher.clients c.args.fetcher.now c.args.rec.now)) (memory_of c.args.state.now) c.new-text.result.items c.requires.new c.new-text.ensures.items
 
 pub run_command-requires-clause-rules : goal.run_command-requires-clause-rules
-run_command-requires-clause-rules g c = record { each = λ i command less is. c.requires.rules.each i command (let t = c.loop-command-test.true in omega (arith, less)) is }
+run_command-requires-clause-rules g c κs within = record { each = λ i command less is. c.requires.rules.each i command (let t = c.loop-command-test.true in omega (arith, less)) is }
 
 pub returns-in-Err-clause-run : goal.returns-in-Err-clause-run
 returns-in-Err-clause-run g c =

@@ -42,7 +42,7 @@ loop-part-preserved g c =
     let i = c.args.command in
     let k = c.loop-part.part in
     let below : k < piece_count (command_at rec i) = (let t = c.loop-part-test.true in let e = c.pieces-part-end.ensures in omega arith) in
-    part_done clients rec (i + 1) i k (course_below (on_one_queue rec clients) (i + 1)) (memory_of c.loop-part.state) (memory_of c.run_piece.new.state) c.args.text.now c.requires.device below c.loop-part.invariant c.in_default-run_piece.ensures.ok
+    part_done clients rec (i + 1) i k (course_below (on_one_queue rec clients) (i + 1)) (memory_of c.loop-part.state) (memory_of c.run_piece.new.state) c.args.text.now c.requires.device below c.loop-part.invariant c.in_default.ensures.ok
 
 pub returns-clause-ok : goal.returns-clause-ok
 returns-clause-ok g c =

@@ -1,3 +1,4 @@
+use Rattle.std.proofs.Common.{◌+◌}
 use Rattle.ray_exec.proofs.CanTrace.{can_begin}
 use Rattle.ray_exec.proofs.laws.traces_can_begin.Goals as goal
 
