@@ -1,5 +1,7 @@
 pub mod PartsSame
-pub mod Counting
+pub mod RayCounts
 pub mod Verdicts
 pub mod Lines
+pub mod Traces
+pub mod Commands
 pub mod Themselves

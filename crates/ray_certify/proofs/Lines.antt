@@ -1,15 +1,24 @@
 -- The lines of rays, one after the other.
 use Rattle.std.proofs.Common.{ℕ, zero, suc, ◌≡◌, ◌+◌, ◌++◌, List, [], ◌∷◌, Option, Some, None, refl, ap, sym, subst, ◌∙◌, arith, append_assoc, append-nil}
-use Rattle.std.specs.Prelude.{IfSome, codes}
+use Rattle.std.specs.Prelude.{IfSome, OnOk, Result, Ok, Err, codes}
 use Rattle.ray_candidates.specs.Candidates.{joined}
 use Rattle.ray_action.specs.Clients.{Meaning}
 use Rattle.ray_memory.specs.Tracing.{TraceSeen}
 use Rattle.ray_certify.specs.declared.way.Way.{Way}
-use Rattle.ray_certify.specs.declared.verdict.Verdict.TheVariants.{Certified}
 use Rattle.ray_certify.specs.Certified.{AreMade, CertifyThemselves, certificate_lines, line_for, lines_with, text_of_lines}
 use Rattle.ray_certify.specs.Rays.{SeenRay, TracedRay, first_rays, traced_ray}
 use Rattle.ray_certify.specs.Scenes.{Adds}
-use Rattle.ray_certify.specs.Verified.{IsCertifiedBy, IsVerdict}
+use Rattle.ray_certify.specs.Verified.{IsCertifiedBy}
+
+-- ---- results
+
+pub on_ok : {X E P : Type 0} (r : Result X E) → P → OnOk r P
+on_ok (Ok x) p = p
+on_ok (Err e) p = tt
+
+pub on_ok_to : {X E P Q : Type 0} (r : Result X E) → (P → Q) → OnOk r P → OnOk r Q
+on_ok_to (Ok x) next p = next p
+on_ok_to (Err e) next p = tt
 
 -- ---- lists that are joined
 

@@ -22,7 +22,7 @@ use Rattle.ray_candidates.specs.Candidates.{active_instance, is_seen, trace_answ
 use Rattle.ray_candidates.specs.Placements.{entry_in, found_by}
 use Rattle.ray_candidates.specs.Standing.{structures_in}
 use Rattle.ray_cert.specs.Certificates.{CertValue, Supports, SupportsOver, cert_of}
-use Rattle.ray_cert.specs.Laws.{IsMadeOf}
+use Rattle.ray_cert.specs.Laws.{IsMadeOf, SupportsAnswer}
 use Rattle.ray_cert.specs.Parts as kept
 use Rattle.ray_cert.specs.Parts.{Part, parts_by, parts_of_ray, placement_of, tree_of}
 use Rattle.ray_certify.specs.Parts.{found_there, part_of, parts_at, parts_in, parts_with}
@@ -73,3 +73,14 @@ pub supports_same : (top : TopContents) (slots : Slots) (ray : RayValue) (flags 
     → IfOk r (λ is. IsTrue is ↔ SupportsOver meaning number flags (parts_of ray.tmax) (parts_in top (structures_in slots) ray flags mask) cert)
 supports_same top slots ray flags mask number meaning cert r exact =
     subst (λ (parts : List Part). IfOk r (λ is. IsTrue is ↔ SupportsOver meaning number flags (parts_of ray.tmax) parts cert)) (parts_same slots ray flags mask top) exact
+
+-- a certificate that was made of an answer supports it
+pub made_supports : (top : TopContents) (slots : Slots) (ray : RayValue) (flags : RayFlags) (mask number : ℕ) (meaning : Candidate → Decision) (commit : Option Commit) (cert : CertValue)
+    → commit ≡ trace_answer meaning top (structures_in slots) ray number flags mask → IsMadeOf top slots ray mask commit cert → SupportsAnswer top slots ray mask commit cert
+    → SupportsOver meaning number flags (parts_of ray.tmax) (parts_in top (structures_in slots) ray flags mask)
+    (cert_of (parts_of ray.tmax) (parts_in top (structures_in slots) ray flags mask) (trace_answer meaning top (structures_in slots) ray number flags mask))
+made_supports top slots ray flags mask number meaning commit cert answer made supports =
+    subst (SupportsOver meaning number flags (parts_of ray.tmax) (parts_in top (structures_in slots) ray flags mask))
+    (made_same top slots ray flags mask number meaning commit cert answer made)
+    (subst (λ (parts : List Part). SupportsOver meaning number flags (parts_of ray.tmax) parts cert) (parts_same slots ray flags mask top)
+    (supports meaning number flags answer))

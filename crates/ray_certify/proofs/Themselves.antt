@@ -1,5 +1,5 @@
 -- Lines that certify their rays are certified, where there is one for each ray.
-use Rattle.std.proofs.Common.{ℕ, zero, suc, ◌≡◌, ◌+◌, ◌≤◌, ◌++◌, List, [], ◌∷◌, length, map, Option, Some, None, refl, ap, sym, subst, ◌∙◌, inl, arith, append-nil}
+use Rattle.std.proofs.Common.{ℕ, zero, suc, ◌≡◌, ◌+◌, ◌≤◌, ◌++◌, List, [], ◌∷◌, length, map, Option, Some, None, refl, ap, sym, subst, ◌∙◌, inl, arith, rules}
 use Rattle.std.specs.Prelude.{IfSome, IsSome}
 use Rattle.ray_cmd.specs.declared.command.Command.{Command}
 use Rattle.ray_cmd.specs.declared.command.Command.TheVariants as commands
@@ -22,14 +22,13 @@ AllSeen (r ∷ rays) = IsSome r.seen × AllSeen rays
 -- the verdict on their lines, and what these name
 pub themselves_certified : (rays : List TracedRay) → CertifyThemselves rays → AllSeen rays → IsVerdict rays (certificate_lines rays) Certified × NameAnswers rays (certificate_lines rays)
 themselves_certified [] certify seen = (refl, tt)
-themselves_certified (r ∷ rays) certify seen = by_seen r.seen refl
+themselves_certified (r ∷ rays) certify seen = by_seen certify.0 seen.0 (themselves_certified rays certify.1 seen.1) r.seen refl
   where
-    by_seen : (o : Option SeenRay) → r.seen ≡ o → IsVerdict (r ∷ rays) (certificate_lines (r ∷ rays)) Certified × NameAnswers (r ∷ rays) (certificate_lines (r ∷ rays))
-    by_seen None is = absurd (let some : IsSome None = subst (λ (o : Option SeenRay). IsSome o) is seen.0 in cc)
-    by_seen (Some s) is =
-        let rest = themselves_certified rays certify.1 seen.1 in
+    by_seen : IfSome r.seen (λ s. IsCertifiedBy r s (line_for r s)) → IsSome r.seen → IsVerdict rays (certificate_lines rays) Certified × NameAnswers rays (certificate_lines rays) → (o : Option SeenRay) → r.seen ≡ o → IsVerdict (r ∷ rays) (certificate_lines (r ∷ rays)) Certified × NameAnswers (r ∷ rays) (certificate_lines (r ∷ rays))
+    by_seen certified there rest None is = absurd (let some : IsSome {T = SeenRay} None = subst (λ (o : Option SeenRay). IsSome o) is there in cc)
+    by_seen certified there rest (Some s) is =
         let lines : certificate_lines (r ∷ rays) ≡ line_for r s ∷ certificate_lines rays = ap (λ o. lines_with r o ++ certificate_lines rays) is in
-        let one : IsCertifiedBy r s (line_for r s) = subst (λ o. IfSome o (λ x. IsCertifiedBy r x (line_for r x))) is certify.0 in (
+        let one : IsCertifiedBy r s (line_for r s) = subst (λ o. IfSome o (λ x. IsCertifiedBy r x (line_for r x))) is certified in (
           subst (λ ls. IsVerdict (r ∷ rays) ls Certified) (sym lines) (inl (subst (λ o. IsCertifiedIn r o (line_for r s)) (sym is) one, rest.0)),
           subst (NameAnswers (r ∷ rays)) (sym lines)
           (subst (λ o. NamesAnswerIn r o (line_for r s)) (sym is) (record { cert = certificate_of r s; spelled = refl; names = refl }), rest.1),
@@ -37,8 +36,11 @@ themselves_certified (r ∷ rays) certify seen = by_seen r.seen refl
 
 -- ---- how many
 
+some_there : (s : SeenRay) → IsSome (Some s)
+some_there s = search rules
+
 length-both : {X : Type 0} (a b : List X) → length (a ++ b) ≡ length a + length b
-length-both [] b = refl
+length-both [] b = omega arith
 length-both (x ∷ a) b = let more = length-both a b in omega (arith, more)
 
 few_with : (r : TracedRay) (o : Option SeenRay) → length (lines_with r o) ≤ 1
@@ -56,16 +58,16 @@ few_lines (r ∷ rays) =
 -- where there are as many lines as rays each is there
 as_many : (rays : List TracedRay) → length (certificate_lines rays) ≡ length rays → AllSeen rays
 as_many [] same = tt
-as_many (r ∷ rays) same = by_seen r.seen refl
+as_many (r ∷ rays) same = by_seen (λ more. as_many rays more) r.seen refl
   where
-    by_seen : (o : Option SeenRay) → r.seen ≡ o → AllSeen (r ∷ rays)
-    by_seen None is =
+    by_seen : (length (certificate_lines rays) ≡ length rays → AllSeen rays) → (o : Option SeenRay) → r.seen ≡ o → AllSeen (r ∷ rays)
+    by_seen rest None is =
         let none : length (certificate_lines rays) ≡ suc (length rays) = sym (ap (λ o. length (lines_with r o ++ certificate_lines rays)) is) ∙ same in
         let few = few_lines rays in
         absurd (omega (arith, none, few))
-    by_seen (Some s) is =
+    by_seen rest (Some s) is =
         let some : suc (length (certificate_lines rays)) ≡ suc (length rays) = sym (ap (λ o. length (lines_with r o ++ certificate_lines rays)) is) ∙ same in
-        (subst (λ (o : Option SeenRay). IsSome o) (sym is) tt, as_many rays (omega (arith, some)))
+        (subst (λ (o : Option SeenRay). IsSome o) (sym is) (some_there s), rest (omega (arith, some)))
 
 first_count : (way : Way) (meaning : Meaning) (seen : Option TraceSeen) (n : ℕ) → length (first_rays way meaning seen n) ≡ n
 unfolding joined

@@ -1,10 +1,14 @@
 -- The verdict on lines, one after the other.
-use Rattle.std.proofs.Common.{ℕ, zero, suc, ◌≡◌, ◌+◌, ◌++◌, List, [], ◌∷◌, length, Some, None, refl, ap, sym, subst, ◌∙◌, arith, append_assoc, append-nil}
+use Rattle.std.proofs.Common.{ℕ, zero, suc, ◌≡◌, ◌+◌, ◌++◌, List, [], ◌∷◌, length, Option, Some, None, refl, ap, sym, subst, ◌∙◌, inl, inr, arith, append_assoc, append-nil}
 use Rattle.std.specs.Prelude.{◌⊎◌, IsSomeAnd, slice_get}
 use Rattle.ray_certify.specs.declared.verdict.Verdict.{Verdict}
 use Rattle.ray_certify.specs.declared.verdict.Verdict.TheVariants.{Certified, Uncertified}
 use Rattle.ray_certify.specs.declared.verifying.Checked.{Checked}
-use Rattle.ray_certify.specs.Rays.{TracedRay}
+use Rattle.ray_action.specs.Clients.{Meaning}
+use Rattle.ray_memory.specs.Tracing.{TraceSeen}
+use Rattle.ray_certify.specs.declared.way.Way.{Way}
+use Rattle.ray_certify.specs.Rays.{TracedRay, first_rays, traced_ray}
+use Rattle.ray_certify.proofs.Lines.{joined_more, joined_none}
 use Rattle.ray_certify.specs.Scenes.{GoesOn, IsCheckedTo}
 use Rattle.ray_certify.specs.Verified.{IsCertified, IsVerdict, NameAnswers, NamesAnswer}
 
@@ -98,3 +102,14 @@ module _ (lines : List (List ℕ)) (r : TracedRay) (c : Checked) (so_far : c.ver
     next = λ e. absurd cc;
     names = λ e. absurd cc;
   }
+
+-- one of the first rays of a trace more
+pub goes_first : (lines : List (List ℕ)) (way : Way) (meaning : Meaning) (seen : Option TraceSeen) (c : Checked) → GoesOn lines (first_rays way meaning seen 0) c c
+goes_first lines way meaning seen c =
+    subst (λ (rs : List TracedRay). GoesOn lines rs c c) (sym (joined_none (λ k. traced_ray way meaning seen k ∷ []))) (goes_nowhere lines c)
+
+pub goes_next : (lines : List (List ℕ)) (way : Way) (meaning : Meaning) (seen : Option TraceSeen) (n : ℕ) (x y z : Checked) → GoesOn lines (first_rays way meaning seen n) x y
+    → GoesOn lines (traced_ray way meaning seen n ∷ []) y z → GoesOn lines (first_rays way meaning seen (n + 1)) x z
+goes_next lines way meaning seen n x y z one two =
+    subst (λ (rs : List TracedRay). GoesOn lines rs x z) (sym (joined_more (λ k. traced_ray way meaning seen k ∷ []) n))
+    (goes_both lines (first_rays way meaning seen n) (traced_ray way meaning seen n ∷ []) x y z one two)

@@ -32,9 +32,9 @@ seen_in seen = option_map (λ (s : Seen). lent s.inputs) seen
 abbrev pub ray_seen : Seen → RayValue → SeenRay
 ray_seen seen ray = let s = lent seen.inputs in record { top = s.top.contents; bottoms = s.bottoms; ray = ray }
 
--- a ray of a trace, of which nothing is seen yet
-abbrev pub ray_way : Way → ℕ → Meaning → TracedRay
-ray_way way number meaning = traced_ray way meaning None number
+-- a ray of a trace through what is seen, by its number
+abbrev pub ray_through : Way → ℕ → Meaning → Seen → TracedRay
+ray_through way number meaning seen = traced_ray way meaning (Some (lent seen.inputs)) number
 
 -- the first rays of a scene, by its script
 abbrev pub scene_rays : Scene → ℕ → List TracedRay

@@ -8,7 +8,7 @@ ghost use Rattle.ray_flags.specs.Admission.{AsksBoth};
 ghost use Rattle.ray_permitted.specs.Job.{recorded};
 ghost use Rattle.ray_ready.specs.Accepted.{KeepStaticRules};
 ghost use Rattle.ray_certify.specs.Certified.{AreMade, RunsWith};
-ghost use Rattle.ray_certify.specs.Rays.{rays_below, traced_ray};
+ghost use Rattle.ray_certify.specs.Rays.{first_rays, rays_below, traced_ray};
 ghost use Rattle.ray_certify.specs.Scenes.{Adds, IsWhole, rays_in, scene_rays, seen_in};
 
 use crate::scene::{Scene, scene_of};
@@ -88,12 +88,29 @@ fn certify_scene(alloc: Global, scene: &Scene<'_>, lines: &mut Vec<u8>) -> Resul
     ensures { OnOk result (Adds (scene_rays scene.now scene.now.count)
         lines.old.items lines.new.items) }
 {
-    let Some(seen) = &scene.seen else {
-        return Ok(());
-    };
+    match &scene.seen {
+        None => Ok(()),
+        Some(seen) => certify_rays(alloc, seen, scene.way, scene.count, &scene.script, lines),
+    }
+}
+
+// Adds the lines of so many rays.
+fn certify_rays<C: Client>(
+    alloc: Global,
+    seen: &Seen<'_>,
+    way: Way,
+    count: u32,
+    client: &C,
+    lines: &mut Vec<u8>,
+) -> Result<(), NoMemory>
+    requires whole { IsWhole seen.now }
+    requires flags_agree { ¬ AsksBoth way.flags }
+    ensures { OnOk result (Adds (first_rays way (C.meaning client.now) (seen_in (Some seen.now))
+        count) lines.old.items lines.new.items) }
+{
     let mut turns = Turns::new(alloc);
-    for number in 0..scene.count {
-        certify_ray(alloc, seen, scene.way, number, &scene.script, &mut turns, lines)?;
+    for number in 0..count {
+        certify_ray(alloc, seen, way, number, client, &mut turns, lines)?;
     }
     Ok(())
 }

@@ -4,7 +4,7 @@ ghost use Rattle.ray_certify.specs.Rays.{count_of, ray_count};
 use ray_cmd::{Command, Recording};
 
 /// How many rays the traces of a recording have together. (Own.)
-#[tactic(auto, using(crate::proofs::Counting::no_rays, crate::proofs::Counting::more_rays))]
+#[tactic(auto, using(crate::proofs::RayCounts::no_rays, crate::proofs::RayCounts::more_rays))]
 pub fn ray_count(rec: &Recording) -> u64
     ensures { result ≡ ray_count rec.now (length rec.now) }
 {

@@ -43,7 +43,24 @@ pub(crate) fn scene_of<'s>(
     ensures { IfOk result
         (IsSceneOf (memory_of state.now) command (command_at rec.now command)) }
 {
-    match rec.command(command) {
+    let inputs = state.trace_inputs(rec, command);
+    scene_with(alloc, state, rec.command(command), command, inputs)
+}
+
+// The same of a command with a number, and what it reads where it is a trace.
+fn scene_with<'s>(
+    alloc: Global,
+    _state: &'s State,
+    command: &Command,
+    number: u32,
+    inputs: Option<TraceInputs<'s>>,
+) -> Result<Option<Scene<'s>>, NoMemory>
+    requires can { CanBegin (memory_of _state.now) command.now }
+    requires script { HasScript command.now }
+    requires inputs { option_map lent inputs ≡ seen_of (memory_of _state.now) command.now }
+    ensures { IfOk result (IsSceneOf (memory_of _state.now) number command.now) }
+{
+    match command {
         Command::Trace {
             count,
             flags,
@@ -55,12 +72,12 @@ pub(crate) fn scene_of<'s>(
                 return Ok(None);
             }
             let way = Way {
-                command,
+                command: number,
                 flags: *flags,
                 mask: (*mask % 256) as u8,
             };
             let script = script_of_rules(alloc, script.as_slice())?;
-            let seen = seen_of(alloc, state.trace_inputs(rec, command))?;
+            let seen = seen_of(alloc, inputs)?;
             Ok(Some(Scene {
                 way,
                 count: *count,
@@ -91,7 +108,7 @@ fn seen_of(
 ) -> Result<Option<Seen<'_>>, NoMemory>
     requires { IfSome inputs (λ t. AreStanding (without_tree t.top.now)
         (structures_in t.bottoms.now)) }
-    ensures same { IfOk result (λ seen. seen_in seen ≡ option_map lent inputs) }
+    ensures same { IfOk result (λ seen. seen_in seen ≡ option_map lent inputs.entry) }
     ensures whole { IfOk result (λ seen. IfSome seen IsWhole) }
 {
     match inputs {
@@ -103,7 +120,7 @@ fn seen_of(
 // The same of what is there.
 fn with_trees<'s>(alloc: Global, inputs: TraceInputs<'s>) -> Result<Seen<'s>, NoMemory>
     requires { AreStanding (without_tree inputs.top.now) (structures_in inputs.bottoms.now) }
-    ensures same { IfOk result (λ seen. seen.inputs ≡ inputs) }
+    ensures same { IfOk result (λ seen. seen.inputs ≡ inputs.entry) }
     ensures whole { IfOk result IsWhole }
 {
     let mut steps = Steps::<Brand>::zero();

@@ -8,7 +8,7 @@ ghost use Rattle.ray_geom.specs.Ratio.{parts_of};
 ghost use Rattle.ray_memory.specs.Tracing.{lent};
 ghost use Rattle.ray_certify.specs.Certified.{line_for};
 ghost use Rattle.ray_certify.specs.Parts.{parts_in};
-ghost use Rattle.ray_certify.specs.Scenes.{IsWhole, ray_seen, ray_way};
+ghost use Rattle.ray_certify.specs.Scenes.{IsWhole, ray_seen, ray_through};
 ghost use Rattle.ray_certify.specs.Verified.{IsCertifiedBy};
 
 use crate::way::Way;
@@ -40,8 +40,9 @@ pub(crate) fn certificate_line<C: Client>(
     requires whole { IsWhole seen.now }
     requires flags_agree { ¬ AsksBoth way.flags }
     ensures line { IfOk result (λ line. line.items
-        ≡ line_for (ray_way way number (C.meaning client.now)) (ray_seen seen.now ray.now)) }
-    ensures certifies { let r = ray_way way number (C.meaning client.now) in
+        ≡ line_for (ray_through way number (C.meaning client.now) seen.now)
+        (ray_seen seen.now ray.now)) }
+    ensures certifies { let r = ray_through way number (C.meaning client.now) seen.now in
         let s = ray_seen seen.now ray.now in OnOk result (IsCertifiedBy r s (line_for r s)) }
 {
     let mut steps = Steps::<Brand>::zero();
@@ -53,6 +54,7 @@ pub(crate) fn certificate_line<C: Client>(
     let cert = make_cert(
         alloc, top, bottoms, &seen.trees, ray, mask, commit, &mut steps,
     )?;
+    has_small_number(way);
     has_small_numbers(cert.named());
     write_cert(alloc, &cert, way.command, number)
 }
@@ -65,6 +67,11 @@ fn has_small_numbers(named: Option<Named>)
         are_small(named);
     }
 }
+
+// The number of a command is of 32 bits.
+fn has_small_number(_way: Way)
+    ensures { _way.command < 2 ^ 32 }
+{}
 
 // The same of a hit.
 fn are_small(_named: Named)

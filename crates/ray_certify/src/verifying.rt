@@ -1,6 +1,6 @@
 // Whether lines certify the rays of a run's traces.
 ghost use Rattle.std.specs.Prelude.{◌≡◌, ◌<◌, ◌↔◌, ◌∷◌, [], IfOk, IfSome, IsSomeAnd, IsTrue, Some};
-ghost use Rattle.std.specs.Prelude.{length, slice_get};
+ghost use Rattle.std.specs.Prelude.{length, option_copied, slice_get};
 ghost use Rattle.ray_action.specs.Clients.{HasScript};
 ghost use Rattle.ray_action.specs.Pieces.{command_at};
 ghost use Rattle.ray_exec.specs.Laws.{CanBegin};
@@ -188,11 +188,18 @@ fn is_next_certified<C: Client>(
         (NamesAnswer (traced_ray way (C.meaning client.now) (seen_in seen.now) number))) }
     ensures within { IfOk result (λ is. IsTrue is → next < length lines.now) }
 {
-    if next < lines.len() {
-        is_certified(alloc, seen, way, number, client, &lines[next])
-    } else {
-        Ok(false)
+    match line_at(lines, next) {
+        Some(line) => is_certified(alloc, seen, way, number, client, line),
+        None => Ok(false),
     }
+}
+
+// The line of a number.
+fn line_at(lines: &[Line], number: usize) -> Option<&Line>
+    ensures value { option_copied result ≡ slice_get lines.now number }
+    ensures within { IfSome (option_copied result) (λ line. number < length lines.now) }
+{
+    lines.get(number)
 }
 
 // Whether a line certifies a ray, if that is there.
