@@ -67,6 +67,7 @@ pages:
 	checks/rules.py --write
 	checks/index.py --write
 	checks/headline.py --write
+	checks/layers.py --write
 
 test:
 	rt ci
