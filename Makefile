@@ -7,6 +7,7 @@
 #   make examples            asks it each recording of examples/ by its word, and compares text and status
 #   make conformance         runs all conformance cases through the library's one call
 #   make tools               tests the tools of tools/ with the linked program
+#   make hostile             refuses each allocation of runs of each word in turn, and lets reads and writes fail
 #   make c                   proves the check for programs in C, and builds and runs examples/c
 #   make pages               makes anew what pages say of sources, which the side checks compare
 #   make test                the whole gate: every proof from nothing, the wrong bodies, the tests, the cases, the
@@ -15,7 +16,7 @@
 WORDS = run
 SOURCES = crates.txt HANDLES $(shell find crates -path '*/out' -prune -o \( -name '*.rt' -o -name '*.antt' \) -print)
 
-.PHONY: all demo try quick examples conformance tools c pages test
+.PHONY: all demo try quick examples conformance tools hostile c pages test
 
 all: vkray
 
@@ -56,6 +57,15 @@ conformance:
 tools: vkray
 	tools/test
 
+hostile: vkray
+	@cases=0; failed=0; for asked in "run triangle" "run update-after-a-barrier" "run serialized-copy" "check hazard" \
+	  "queues two-queues" "groups hit-groups" "selfrun 1 1 4"; do \
+	  set -- $$asked; if [ "$$1" = selfrun ]; then input=/dev/null; else input="examples/$$2.json"; set -- "$$1"; fi; \
+	  cases=$$((cases + 1)); echo "$$asked:"; bench/refusals "$$@" < "$$input" || failed=$$((failed + 1)); \
+	done; echo "conformance cases with calls that fail:"; \
+	cases=$$((cases + 1)); bench/failures || failed=$$((failed + 1)); \
+	echo "$$cases cases, $$failed failures"; [ "$$failed" = 0 ]
+
 c:
 	cd crates/vkray_c && rt lib > /dev/null
 	$(CC) -std=c99 -O2 -Iinclude -o crates/vkray_c/out/check examples/c/check.c \
@@ -67,6 +77,7 @@ pages:
 	checks/rules.py --write
 	checks/index.py --write
 	checks/headline.py --write
+	checks/layers.py --write
 
 test:
 	rt ci

@@ -7,7 +7,7 @@ import re
 import sys
 
 TOP = pathlib.Path(__file__).resolve().parent.parent
-PAGES = [TOP / "README.md", TOP / "conformance/README.md", TOP / "examples/c/README.md"]
+PAGES = [TOP / "README.md", TOP / "conformance/README.md", TOP / "examples/c/README.md", *TOP.glob("crates/*/*.md")]
 LINK = re.compile(r"\]\(([^)\s]+)\)")
 
 

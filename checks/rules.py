@@ -1,6 +1,7 @@
 #!/usr/bin/env python3
-"""Makes docs/RULES.md: for each rule its sentence, its definition, the function that decides it, its cases and its
-wrong bodies, read off docs/RECORDING.md, the sources and the corpus. Without --write it compares the page with that.
+"""Makes docs/RULES.md: for each rule and each status its sentence, its definition, the function that decides it, its
+cases and its wrong bodies, read off docs/RECORDING.md, README.md, the sources and the corpus. Without --write it
+compares the page with that.
 """
 import collections
 import json
@@ -16,6 +17,22 @@ DECIDING = ["ray_primitives", "ray_top", "ray_device"]
 HAZARDS = {"V25", "V26", "V27", "V32"}
 # And those on timeline semaphores.
 SEMAPHORES = {"V33", "V34"}
+# Of each status the words that say when it comes, and the functions that find it so: crate, file, name.
+STATUSES = {
+    "0": [("vkray", "specs/Answer.antt", "answer_of")], "1": [("vkray", "specs/Answer.antt", "refused_before")],
+    "2": [("ray_cmd", "specs/Recordings.antt", "recording_in"), ("ray_inputs", "specs/Inputs.antt", "queued_in")],
+    "3": [("vkray", "specs/Words.antt", "AreWords")], "4": [("vkray", "specs/Call.antt", "IsEnding")],
+    "5": [("vkray", "specs/Call.antt", "IsSent")], "6": [("vkray", "specs/Call.antt", "IsTooLong")],
+    "7": [("vkray", "specs/Call.antt", "IsOutOfMemory")],
+}
+FINDING = {
+    "0": [("vkray", "src/executing.rt", "execute")],
+    "1": [("ray_check", "src/verdict.rt", "check_rules"), ("ray_exec", "src/running.rt", "run_waves")],
+    "2": [("ray_cmd", "src/reading.rt", "read_recording"), ("ray_inputs", "src/queued.rt", "read_queued")],
+    "3": [("vkray", "src/request.rt", "of_words")], "4": [("ray_io", "src/reading.rt", "read_all")],
+    "5": [("ray_io", "src/writing.rt", "write_all")], "6": [("ray_io", "src/reading.rt", "read_all")],
+    "7": [("vkray", "src/top_call.rt", "vkray")],
+}
 WORD = re.compile(r"^(?:abbrev |unfoldable |record |data )?(?:pub )?(?:record |data )?(\w[\w-]*)(?: |$)", re.MULTILINE)
 FUNCTION = re.compile(r"\bfn (\w+)")
 
@@ -26,15 +43,22 @@ def sentences():
     return {it[1]: it[2].strip() for it in re.finditer(r"^\| ([VX]\d+) \| (.*?) \| ", text, re.MULTILINE)}
 
 
+def causes():
+    """Returns when each status comes, from the table of README."""
+    return dict(re.findall(r"^\| (\d) \| (.*?) \| ", (TOP / "README.md").read_text(), re.MULTILINE))
+
+
 def files(crates, part, ending):
     """Returns the files of a part of some crates, in the crates' order."""
     return [it for crate in crates for it in sorted((TOP / "crates" / crate / part).rglob(f"*{ending}"))]
 
 
 def said(file, name):
-    """Returns a link to a file of the repository, with the name of what stands in it."""
+    """Returns a link to the line of a file of the repository that defines a name."""
     inside = file.relative_to(TOP)
-    return f"[`{name}`](../{inside}) of {inside.parts[1]}"
+    start = re.compile(rf"^\s*(?:[\w()]+ )*{re.escape(name)}(?![\w-])")
+    lines = [number for number, line in enumerate(file.read_text().splitlines(), 1) if start.match(line)]
+    return f"[`{name}`](../{inside}#L{lines[0]}) of {inside.parts[1]}"
 
 
 def after_comment(rule, found, mark, named):
@@ -125,8 +149,20 @@ def page():
             ", ".join(f"`{it}`" for it in wrong_bodies(decided)),
         ]
         rows.append("| " + " | ".join(cells) + " |")
-    rows += ["", "| Status | Cases |", "|---|---|"]
-    rows += [f"| {status} | {counted(statuses[status])} |" for status in sorted(statuses)]
+    rows += ["", "| Status | Comes | Defined | Decided | Cases | Wrong bodies of that crate |", "|---|---|---|---|---|---|"]
+    for status, comes in causes().items():
+        defined, decided = ([(TOP / "crates" / crate / file, name) for crate, file, name in table[status]]
+                            for table in (STATUSES, FINDING))
+        cells = [
+            status,
+            comes,
+            ", ".join(said(*it) for it in defined),
+            ", ".join(said(*it) for it in decided),
+            counted(statuses[status]),
+            ", ".join(f"`{it}`" for it in wrong_bodies(decided)),
+        ]
+        rows.append("| " + " | ".join(cells) + " |")
+    rows += ["", "Statuses 4, 5 and 7 want streams or memory that fail: tests of vkray_rows, and `make hostile`."]
     return "\n".join(rows) + "\n"
 
 
