@@ -12,7 +12,7 @@
 #   make pages               makes anew what pages say of sources, which the side checks compare
 #   make test                the whole gate: every proof from nothing, the wrong bodies, the tests, the cases, the
 #                            programs, and then the side checks, which compare pages with sources
-# WORDS are what `make try` asks the program for: run, check, queues or groups.
+# WORDS are what `make try` asks the program for: run, check, queues, groups, certify or verify.
 WORDS = run
 SOURCES = crates.txt HANDLES $(shell find crates -path '*/out' -prune -o \( -name '*.rt' -o -name '*.antt' \) -print)
 
@@ -43,7 +43,8 @@ quick:
 examples: vkray
 	@failed=0; for recording in examples/*.json; do \
 	  text="$${recording%.json}.txt"; \
-	  case "$$recording" in */two-queues.json) word=queues;; */hit-groups.json) word=groups;; *) word=run;; esac; \
+	  case "$$recording" in */two-queues.json) word=queues;; */hit-groups.json) word=groups;; \
+	    */certificate.json) word=verify;; *) word=run;; esac; \
 	  status=0; if grep -q '^refused ' "$$text"; then status=1; fi; \
 	  told="$$(./vkray $$word < "$$recording"; echo "status $$?")"; \
 	  wanted="$$(cat "$$text"; echo "status $$status")"; \
