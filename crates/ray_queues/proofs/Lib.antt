@@ -9,3 +9,7 @@ pub mod Passing
 pub mod Raised
 pub mod Longest
 pub mod Covering
+pub mod Hosts
+pub mod Going
+pub mod Above
+pub mod Rounding

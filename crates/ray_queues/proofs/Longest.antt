@@ -29,7 +29,7 @@ lt-true a b h = grind (arith, nat_tests)
 below-true : (a b : ℕ) → nat_lt a b ≡ true → a < b
 below-true a b h = grind (arith, nat_tests)
 
-none-is : (k : WaveKind) → number_of no_limits k ≡ 0
+pub none-is : (k : WaveKind) → number_of no_limits k ≡ 0
 none-is (Work queue stage) = all-queue 0 queue stage
 none-is Barrier = refl
 none-is Host = refl

@@ -8,4 +8,5 @@ pub mod Marks
 pub mod Kinds
 pub mod Keeping
 pub mod Rows
+pub mod Rounds
 pub mod Covering

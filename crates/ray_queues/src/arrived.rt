@@ -10,7 +10,7 @@ use crate::sources::Sources;
 use ray_chains::{MemoryBarrier, Stage};
 
 /// How far what the commands of each queue did has been handed on to the stages of a queue.
-#[derive(Clone, Copy, Debug, PartialEq, Eq)]
+#[derive(Clone, Copy)]
 pub(crate) struct Arrived {
     pub(crate) zero: Sources,
     pub(crate) one: Sources,
@@ -19,7 +19,7 @@ pub(crate) struct Arrived {
 }
 
 /// What a command is to the order.
-#[derive(Clone, Copy, Debug, PartialEq, Eq)]
+#[derive(Clone, Copy)]
 pub(crate) enum QueueEvent {
     // A barrier of a queue.
     Barrier(u32, MemoryBarrier),

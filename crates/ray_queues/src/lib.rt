@@ -6,12 +6,14 @@
 //! nodes and steps of ray_chains; what a command is to them stands in `specs/Events`, and what is
 //! refused by it and by the rules on semaphores in `specs/Refusals`. The layers above use
 //! [`queue_waves`], whose clause says that what it gives is that order, and with it
-//! [`QueueOrder::before`] and [`QueueOrder::waves`] (`waves_law`). Two laws: with one queue and no
-//! semaphores it is the order of barriers and waits ([`one_queue_has_barriers`]), and what is
-//! covered is ordered ([`queue_covered_is_ordered`]). The recording is that of ray_submits, whose
-//! calls are here too. Of what is refused the part on semaphores is decided, by
-//! [`check_semaphores`]; the part on hazards is decided in the crate above, by [`Keeping`], which
-//! is what is kept of the order from a command to the next.
+//! [`QueueOrder::before`] and [`QueueOrder::waves`] (`waves_law`). Workers go by the rounds of
+//! `specs/Rounds`, longest chains where the host goes ahead of the device up to each `wait`, so
+//! that pieces of several submissions are done beside each other ([`QueueOrder::rounds`]). Two
+//! laws: with one queue and no semaphores it is the order of barriers and waits
+//! ([`one_queue_has_barriers`]), and what is covered is ordered ([`queue_covered_is_ordered`]). The
+//! recording is that of ray_submits, whose calls are here too. Of what is refused the part on
+//! semaphores is decided, by [`check_semaphores`]; the part on hazards is decided in the crate
+//! above, by [`Keeping`], which is what is kept of the order from a command to the next.
 //!
 //! It stands on ray_submits (the recording and its submissions), ray_sync (what barriers are to
 //! chains), ray_chains and ray_rules (the theory of chains, the order of one queue). What the
@@ -28,6 +30,7 @@ mod marks;
 mod order;
 mod per_queue;
 mod rising;
+mod rounds;
 mod sources;
 mod targets;
 mod wave_kind;

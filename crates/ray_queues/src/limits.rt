@@ -13,7 +13,7 @@ use ray_rules::Kind;
 use ray_sync::chain_stage;
 
 /// A number for each kind of commands.
-#[derive(Clone, Copy, Debug, PartialEq, Eq)]
+#[derive(Clone, Copy)]
 pub(crate) struct Limits {
     pub(crate) queues: PerQueue,
     pub(crate) barrier: u32,

@@ -4,12 +4,14 @@ ghost use Rattle.ray_rules.specs.Order.{IsLongest, before};
 ghost use Rattle.ray_queues.specs.declared.order.Row.{Row as ARow};
 ghost use Rattle.ray_queues.specs.Kinds.{all_kinds};
 ghost use Rattle.ray_queues.specs.QueueOrder.{queue_order};
+ghost use Rattle.ray_queues.specs.Rounds.{AreRounds, RoundsRise};
 ghost use Rattle.ray_queues.specs.Rows.{HaveBests, IsQueueOrderOf, best_in, wave_in};
 ghost use Rattle.ray_submits.specs.Submits.{QueueCommands};
 
 use crate::keeping::Keeping;
 use crate::limits::Limits;
 use crate::per_queue::greater;
+use crate::rounds::rounds_of;
 use crate::wave_kind::{DeviceStage, Queue, WaveKind, kind_named};
 use ray_rules::kind_of;
 use ray_submits::QueueRecording;
@@ -17,7 +19,7 @@ use std::alloc::{AllocError as NoMemory, Global};
 use std::marker::Model;
 
 /// What the order over queues says of one command.
-#[derive(Clone, Copy, Debug, PartialEq, Eq)]
+#[derive(Clone, Copy)]
 pub struct Row {
     /// Its kind.
     pub(crate) kind: WaveKind,
@@ -74,6 +76,31 @@ impl QueueOrder {
         self.waves.as_slice()
     }
 
+    /// The round of each command below `until`, where the commands are those of this recording and
+    /// the host goes ahead of the device up to each `wait`: how many commands at most are done
+    /// before it, one after the other. The host does its commands in turn, and those up to its next
+    /// `wait` before any of the device that only this `wait` waits for; so commands of several
+    /// submissions that nothing orders may have one round. Rounds rise along the order, and take
+    /// a number of steps that is linear in theirs.
+    ///
+    /// # Errors
+    ///
+    /// For want of memory alone.
+    pub fn rounds(
+        &self,
+        alloc: Global,
+        rec: &QueueRecording,
+        until: u32,
+    ) -> Result<Vec<u32>, NoMemory>
+        requires order { IsQueueOrderOf rec.now self.now }
+        requires rows { until ≤ length self.now }
+        requires until { until ≤ length rec.now.commands }
+        ensures are { IfOk result (λ rounds. AreRounds rec.now until rounds.items) }
+        ensures rise { IfOk result (λ rounds. RoundsRise rec.now until rounds.items) }
+    {
+        rounds_of(alloc, rec, self.rows.as_slice(), until)
+    }
+
     /// A law: the wave of a command is the length of the longest chain that ends there. It does
     /// nothing.
     pub fn waves_law(&self)
@@ -122,7 +149,7 @@ pub fn queue_waves(alloc: Global, rec: &QueueRecording, until: u32) -> Result<Qu
 
 // The wave of a command, where these are the numbers below which commands are ordered before it:
 // the greatest of what the commands of each kind below its number make it.
-fn wave_of(bests: &[Limits], limits: &Limits) -> u32
+pub(crate) fn wave_of(bests: &[Limits], limits: &Limits) -> u32
     requires { HaveBests bests.now limits.now }
     ensures { result ≡ greatest_of (best_in bests.now limits.now) all_kinds }
 {

@@ -8,7 +8,7 @@ use std::alloc::{AllocError as NoMemory, Global};
 use std::marker::Model;
 
 /// What a submission signalled, and below which numbers what was done is carried by it.
-#[derive(Clone, Copy, Debug, PartialEq, Eq)]
+#[derive(Clone, Copy)]
 pub(crate) struct Mark {
     pub(crate) semaphore: u32,
     pub(crate) value: u64,

@@ -11,7 +11,7 @@ use ray_chains::{Front, MemoryBarrier, Stage};
 
 /// How far what the commands of a queue did, at each stage, has been handed on to the stages of a
 /// queue.
-#[derive(Clone, Copy, Debug, PartialEq, Eq)]
+#[derive(Clone, Copy)]
 pub(crate) struct Sources {
     pub(crate) transfer: Front,
     pub(crate) build: Front,

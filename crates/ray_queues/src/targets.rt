@@ -5,7 +5,7 @@ ghost use Rattle.ray_submits.specs.Submits.{QueueCommands};
 use crate::arrived::{Arrived, QueueEvent};
 
 /// How far what the commands of each queue did has been handed on to the stages of each queue.
-#[derive(Clone, Copy, Debug, PartialEq, Eq)]
+#[derive(Clone, Copy)]
 pub(crate) struct Targets {
     pub(crate) zero: Arrived,
     pub(crate) one: Arrived,

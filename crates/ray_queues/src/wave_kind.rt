@@ -4,7 +4,7 @@ ghost use Rattle.ray_queues.specs.Kinds.{kind_named, queue_named, stage_named};
 use ray_rules::{Kind, Stage};
 
 /// One of the four queues.
-#[derive(Clone, Copy, Debug, PartialEq, Eq)]
+#[derive(Clone, Copy)]
 pub enum Queue {
     /// Queue 0.
     Zero,
@@ -17,7 +17,7 @@ pub enum Queue {
 }
 
 /// A stage of the device.
-#[derive(Clone, Copy, Debug, PartialEq, Eq)]
+#[derive(Clone, Copy)]
 pub enum DeviceStage {
     /// Updates, fills and copies of buffers.
     Transfer,
@@ -30,7 +30,7 @@ pub enum DeviceStage {
 }
 
 /// A kind of commands, of which those below one number are ordered before a command.
-#[derive(Clone, Copy, Debug, PartialEq, Eq)]
+#[derive(Clone, Copy)]
 pub enum WaveKind {
     /// Device commands of a queue at a stage.
     Work(Queue, DeviceStage),

@@ -4,12 +4,13 @@ use Rattle.std.specs.Prelude.{slice_get, if◌then◌else◌}
 use Rattle.ray_cmd.specs.declared.command.Command.{Command}
 use Rattle.ray_cmd.specs.declared.refusal.Refusal.{Refusal}
 use Rattle.ray_cmd.specs.Sources.{AreSourced}
-use Rattle.ray_rules.specs.Order.{IsLongest, before, is_wait, last_wait}
+use Rattle.ray_rules.specs.Order.{is_wait, last_wait}
 use Rattle.ray_rules.specs.Refusals.{least_broken, or_after}
 use Rattle.ray_rules.specs.Status.{Status, after, at_first}
 use Rattle.ray_rules.specs.Verdict.{rule_refusal, rule_refusal_from, rule_refusal_of, rule_table}
 use Rattle.ray_submits.specs.Submits.{QueueCommands}
 use Rattle.ray_queues.specs.QueueOrder.{queue_order}
+use Rattle.ray_queues.specs.Rounds.{RoundsRise}
 use Rattle.ray_queues.proofs.Covering.{queue-covered-is-ordered, queue-waits-order}
 use Rattle.ray_check.specs.Queues.{queue_rule_refusal, queue_rule_refusal_from, queue_rule_refusal_of, semaphore_rows}
 use Rattle.ray_check.proofs.Going.{rule-among}
@@ -18,13 +19,13 @@ use Rattle.ray_check.proofs.Whole.{in-order, several-queues}
 use Rattle.ray_action.specs.Clients.{Clients, HasScript, scripts}
 use Rattle.ray_ready.specs.Accepted.{KeepStaticRules, refused_from}
 use Rattle.ray_ready.proofs.Scripts.{have_scripts}
-use Rattle.ray_permitted.specs.Job.{Job, in_order}
+use Rattle.ray_permitted.specs.Job.{Job, comes_before, in_order}
 use Rattle.ray_permitted.specs.Laws.{UnrefusedBreakNoRule}
 use Rattle.ray_permitted.specs.Rules.{BreakNoRule, IsRunnable}
 use Rattle.ray_permitted.specs.Separates.{CarriesOrder, NumbersSeparate}
-use Rattle.ray_permitted.proofs.Fetching.{chains_separate}
 use Rattle.ray_permitted.proofs.Refused.{break_no_rule}
 use Rattle.ray_permitted.proofs.Separating.{orders_separate}
+use Rattle.ray_permitted.proofs.Waits.{wait_below}
 use Rattle.ray_exec.specs.Steps.{CanEach}
 use Rattle.ray_exec.specs.Waves.{wave_at}
 
@@ -133,12 +134,25 @@ held_have_scripts rec q same law n upto =
     let kept = held_break_no_rule rec q same law (scripts q.commands) n upto in
     subst (λ (r : List Command). CanEach HasScript r n) (sym same) (λ i less. have_scripts q.commands n i kept.accepted less)
 
--- and the lengths of the longest chains separate them
+-- numbers that rise along the order of a job separate its commands
+rising_separate : (job : Job) (n : ℕ) (number : ℕ → ℕ) → IsRunnable job n
+    → ((i j : ℕ) → i < n → j < n → comes_before job i j ≡ true → number i < number j) → NumbersSeparate job.commands n number
+rising_separate job n number runnable rise =
+    let separates = runnable.separates in record {
+      host = λ i j less within here. rise i j (omega (arith, less, within)) within (separates.host i j less within here);
+      host_waits = λ i j s waited within here there.
+          let below : last_wait job.commands j ≤ j = wait_below job.commands j in
+          rise i j (omega (arith, waited, below, within)) within (separates.host_waits i j s waited within here there);
+      conflicts = λ i j s t less within here there conflict.
+          rise i j (omega (arith, less, within)) within (separates.conflicts i j s t less within here there conflict);
+    }
+
+-- and so do the rounds of the commands that are held
 pub held_separate : (rec : List Command) (q : QueueCommands) → rec ≡ q.commands → UnrefusedBreakNoRule rec → (n : ℕ)
-    → n ≤ refused_from (length q.commands) (queue_rule_refusal q) → (waves : List ℕ)
-    → ((i : ℕ) → i < n → IsLongest (before (queue_order q) q.commands) i (wave_at waves i)) → NumbersSeparate rec n (wave_at waves)
-held_separate rec q same law n upto waves are =
+    → n ≤ refused_from (length q.commands) (queue_rule_refusal q) → (rounds : List ℕ) → RoundsRise q n rounds
+    → NumbersSeparate rec n (wave_at rounds)
+held_separate rec q same law n upto rounds rise =
     let kept = held_break_no_rule rec q same law (scripts q.commands) n upto in
     let job : Job = in_order q.commands (scripts q.commands) (queue_order q) in
-    subst (λ (r : List Command). NumbersSeparate r n (wave_at waves)) (sym same)
-    (chains_separate job n (wave_at waves) (orders_separate job n (queues_carry q) kept) are)
+    subst (λ (r : List Command). NumbersSeparate r n (wave_at rounds)) (sym same)
+    (rising_separate job n (wave_at rounds) (orders_separate job n (queues_carry q) kept) rise)

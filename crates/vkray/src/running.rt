@@ -1,5 +1,5 @@
 // The run of a task, up to the command that the rules on commands alone refuse.
-ghost use Rattle.std.specs.Prelude.{◌≡◌, ◌≤◌, OnOk, length};
+ghost use Rattle.std.specs.Prelude.{◌≡◌, ◌≤◌, IfOk, OnOk, length};
 ghost use Rattle.ray_action.specs.Memory.{Location, nothing_live};
 ghost use Rattle.ray_action.specs.Running.{Run as ARun};
 ghost use Rattle.ray_memory.specs.State.{memory_of};
@@ -10,6 +10,7 @@ ghost use Rattle.ray_ready.specs.Accepted.{refused_from};
 ghost use Rattle.ray_rules.specs.Order.{barriers};
 ghost use Rattle.ray_rules.specs.Verdict.{rule_refusal};
 ghost use Rattle.ray_check.specs.Queues.{queue_rule_refusal};
+ghost use Rattle.ray_queues.specs.Rounds.{AreRounds, RoundsRise};
 ghost use Rattle.vkray.specs.declared.asked.Asked.TheVariants.{Groups, Queues, Run};
 ghost use Rattle.vkray.specs.declared.request.Request.TheVariants.{Input};
 ghost use Rattle.vkray.specs.Answer.{ran};
@@ -28,7 +29,7 @@ use ray_permitted::unrefused_break_no_rule;
 use ray_queues::queue_waves;
 use ray_submits::QueueRecording;
 use ray_sync::order_of;
-use std::alloc::Global;
+use std::alloc::{AllocError as NoMemory, Global};
 use std::thread::Threads;
 
 // Runs a recording.
@@ -180,12 +181,23 @@ fn run_queued_until<R: Threads + Sync, G: Gate + Sync>(
     if workers == 1 {
         return run_in_order(rt, alloc, state, recording, until, &scripts);
     }
-    match queue_waves(alloc, queued, until) {
-        Ok(order) => {
-            order.waves_law();
-            let waves = order.waves();
-            run_numbered(rt, alloc, state, recording, waves, until, workers, &scripts)
+    match rounds_of(alloc, queued, until) {
+        Ok(rounds) => {
+            let numbers = rounds.as_slice();
+            run_numbered(
+                rt, alloc, state, recording, numbers, until, workers, &scripts,
+            )
         }
         Err(_) => Err(RunFault::NoMemory),
     }
+}
+
+// The rounds of its commands below a number, in the order over queues.
+fn rounds_of(alloc: Global, queued: &QueueRecording, until: u32) -> Result<Vec<u32>, NoMemory>
+    requires { until ≤ length queued.now.commands }
+    ensures are { IfOk result (λ rounds. AreRounds queued.now until rounds.items) }
+    ensures rise { IfOk result (λ rounds. RoundsRise queued.now until rounds.items) }
+{
+    let order = queue_waves(alloc, queued, until)?;
+    order.rounds(alloc, queued, until)
 }

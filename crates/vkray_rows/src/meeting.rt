@@ -110,3 +110,28 @@ fn one_worker_draws_what_the_other_leaves(rt: HostRuntime) -> Result<(), Fail> {
     assert_eq!(rt; gate.met.load(Ordering::SeqCst), 1);
     Ok(())
 }
+
+// Two builds that are submitted to two queues, with no semaphore between them.
+const BUILDS: &str = concat!(
+    r#"{"commands":[{"op":"buffer","id":0,"size":1024,"usage":["structure"]},"#,
+    r#"{"op":"buffer","id":1,"size":1024,"usage":["scratch"]},"#,
+    r#"{"op":"structure","id":0,"kind":"bottom","buffer":0,"offset":0,"size":512},"#,
+    r#"{"op":"structure","id":1,"kind":"bottom","buffer":0,"offset":512,"size":512},"#,
+    r#"{"op":"begin"},{"op":"build","infos":[{"mode":"build","dst":0,"flags":[],"#,
+    r#""scratch":{"buffer":1,"offset":0},"geometries":[]}]},{"op":"end"},{"op":"submit"},"#,
+    r#"{"op":"begin"},{"op":"build","infos":[{"mode":"build","dst":1,"flags":[],"#,
+    r#""scratch":{"buffer":1,"offset":512},"geometries":[]}]},{"op":"end"},{"op":"submit"},"#,
+    r#"{"op":"wait"}],"submits":[{"queue":0,"waits":[],"signals":[]},"#,
+    r#"{"queue":1,"waits":[],"signals":[]}]}"#,
+);
+
+#[test]
+fn builds_of_two_queues_begin_together(rt: HostRuntime) -> Result<(), Fail> {
+    let gate = gate_of(5, 9, 1);
+    let words = "queues --workers 2";
+    let (status, sink) = answer(&rt, rt.alloc(), words, BUILDS, &gate)?;
+    assert_eq!(rt; status, Status::Done);
+    assert_eq!(rt; sink.bytes(), b"".as_slice());
+    assert_eq!(rt; gate.met.load(Ordering::SeqCst), 1);
+    Ok(())
+}
