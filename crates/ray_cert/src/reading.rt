@@ -1,11 +1,12 @@
-ghost use Rattle.std.specs.Prelude.{◌≡◌, ◌↔◌, Err, IfOk, IsTrue, ℕ};
+ghost use Rattle.std.specs.Prelude.{◌≡◌, ◌↔◌, ◌<◌, ◌^◌, Err, IfOk, IsTrue, ℕ};
 ghost use Rattle.ray_cert.specs.declared.fault.CertFault.TheVariants.{BadLine};
 ghost use Rattle.ray_cert.specs.Certificates.{CertValue};
-ghost use Rattle.ray_cert.specs.Spelling.{IsSpelledSmall, line_of};
+ghost use Rattle.ray_cert.specs.Spelling.{IsHitSmall, IsSpelledSmall, line_of};
 ghost use Rattle.ray_cert.specs.Words.{line_words, texts};
 
 use crate::cert::Cert;
 use crate::fault::CertFault;
+use crate::named::Named;
 use crate::words::{
     hit_size, read_hit, read_number, read_strings, split_words, word_at, words_from,
 };
@@ -72,6 +73,9 @@ fn is_spelling(alloc: Global, line: &str, read: &ReadCert) -> Result<bool, NoMem
 pub fn read_cert(alloc: Global, line: &str) -> Result<ReadCert, CertFault>
     ensures read { IfOk result (λ r. line.now ≡ line_of r.command r.ray r.cert) }
 
+    // Its numbers are of 32 bits.
+    ensures small { IfOk result (λ r. IsSpelledSmall r.command r.ray r.cert) }
+
     // The line is the spelling of nothing else.
     ensures only { IfOk result (λ r. (command ray : ℕ) (cert : CertValue)
         → IsSpelledSmall command ray cert → line.now ≡ line_of command ray cert
@@ -83,7 +87,26 @@ pub fn read_cert(alloc: Global, line: &str) -> Result<ReadCert, CertFault>
 {
     let read = read_line(alloc, line)?;
     if is_spelling(alloc, line, &read)? {
+        has_small_numbers(read.command, read.ray, read.cert.named());
         return Ok(read);
     }
     Err(CertFault::BadLine)
 }
+
+// These numbers are of 32 bits.
+fn has_small_numbers(_command: u32, _ray: u32, named: Option<Named>)
+    ensures command { _command < 2 ^ 32 }
+    ensures ray { _ray < 2 ^ 32 }
+    ensures hit { IsHitSmall named }
+{
+    if let Some(named) = named {
+        are_small(named);
+    }
+}
+
+// And so are those of a hit.
+fn are_small(_named: Named)
+    ensures instance { _named.instance < 2 ^ 32 }
+    ensures geometry { _named.geometry < 2 ^ 32 }
+    ensures primitive { _named.primitive < 2 ^ 32 }
+{}

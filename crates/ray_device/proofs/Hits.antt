@@ -1,33 +1,19 @@
 -- The hits of rays, one after the other.
 use Rattle.std.proofs.Common.{arith, ℕ, zero, suc, ◌-◌, ◌≡◌, ◌+◌, ◌≤◌, ◌<◌, ◌++◌, List, [], Option, Some, None, Result, Ok, Err, refl, ap, sym, ◌∙◌}
-use Rattle.std.specs.Prelude.{SomeIff}
 use Rattle.std.specs.List.{flat_map}
 use Rattle.std.proofs.lemmas.List.{flat_map_more}
-use Rattle.ray_geom.specs.Decided.{where_so, ray_decided}
 use Rattle.ray_flags.specs.declared.ray_flags.RayFlags.{RayFlags}
-use Rattle.ray_bytes.specs.declared.ray_record.RayRecord.{RayRecord}
 use Rattle.ray_contents.specs.Gathering.{gathered}
 use Rattle.ray_contents.proofs.Gathered.{gathered_none, gathered_more, gathered_fault}
 use Rattle.ray_top.specs.Contents.{TopValue}
 use Rattle.ray_candidates.specs.Candidates.{Structures}
 use Rattle.ray_action.specs.Clients.{Meaning}
-use Rattle.ray_action.specs.Outcomes.{Fault, Gives, Breaks, Bytes, hits_outcome, recorded_ray, ray_within}
+use Rattle.ray_action.specs.Outcomes.{Fault, Gives, Breaks, Bytes, hits_outcome}
 use Rattle.ray_device.specs.declared.fetch_fault.FetchFault.{FetchFault}
 use Rattle.ray_device.specs.declared.fetch_fault.FetchFault.TheVariants.{Data, NoMemory}
 use Rattle.ray_device.specs.Bounds.{summed}
 use Rattle.ray_device.specs.Fetching.{IsFetched, OnAnswered}
 use Rattle.ray_device.specs.Tracing.{hit_in, rays_outcome, IsHit}
-
--- an option that is Some exactly where the fact holds, and then of x
-pub where_so-SomeIff : {P X : Type 0} (d : Dec P) (o : Option X) (x : X) → SomeIff o P x → o ≡ where_so d x
-where_so-SomeIff (yes p) None x h = absurd (h p)
-where_so-SomeIff (yes p) (Some y) x h = ap Some h.1
-where_so-SomeIff (no n) None x h = refl
-where_so-SomeIff (no n) (Some y) x h = absurd (n h.0)
-
-pub within_is : (r : RayRecord) → where_so (ray_decided (recorded_ray r)) (recorded_ray r) ≡ ray_within r
-unfolding ray_within
-within_is r = refl
 
 bytes-of : (hits : List (List ℕ)) (bytes : List ℕ) → hits_outcome (Ok hits) ≡ Gives (Bytes bytes) → flat_map (λ hit. hit) hits ≡ bytes
 bytes-of hits bytes e = cc

@@ -3,7 +3,7 @@ ghost use Rattle.ray_bytes.specs.Hits.{hit_bytes};
 ghost use Rattle.ray_flags.specs.Admission.{AsksBoth};
 ghost use Rattle.ray_top.specs.Trees.{without_tree};
 ghost use Rattle.ray_candidates.specs.Standing.{AreStanding, structures_in};
-ghost use Rattle.ray_action.specs.Outcomes.{hit_by, ray_in, ray_within};
+ghost use Rattle.ray_action.specs.Outcomes.{hit_by, ray_in};
 ghost use Rattle.ray_device.specs.Bounds.{most_by, most_of_rays, most_traced};
 ghost use Rattle.ray_device.specs.Fetching.{IsFetched, OnAnswered};
 ghost use Rattle.ray_memory.specs.State.{memory_of};
@@ -13,11 +13,11 @@ ghost use Rattle.ray_device.specs.Tracing.{rays_outcome, IsHit, traced};
 use crate::fetch_fault::FetchFault;
 use crate::output::Output;
 use ray_bottom::Bottoms;
-use ray_bytes::{DataRule, HitRecord, RayRecord, RayView};
+use ray_bytes::{DataRule, HitRecord, RayView};
 use ray_cmd::Place;
 use ray_flags::RayFlags;
-use ray_geom::{Ray, Steps, Vec3};
-use ray_memory::State;
+use ray_geom::{Ray, Steps};
+use ray_memory::{State, ray_at};
 use ray_query::{Client, record_of};
 use ray_rules::ByteRange;
 use ray_top::Top;
@@ -141,19 +141,7 @@ fn hit<C: Client, L: Ledger>(
 fn ray(rays: &[u8], k: u32) -> Option<Ray>
     ensures { result ≡ ray_in rays.now k }
 {
-    within(RayView::new(rays, 0).get(k)?)
-}
-
-// The ray of a record. None where it breaks the limits.
-fn within(read: RayRecord) -> Option<Ray>
-    ensures { result ≡ ray_within read }
-{
-    Ray::new(
-        Vec3::from_words(read.origin),
-        Vec3::from_words(read.dir),
-        read.tmin,
-        read.tmax,
-    )
+    ray_at(&RayView::new(rays, 0), k)
 }
 
 // Appends the bytes of a hit.

@@ -1,3 +1,4 @@
+pub mod CanTrace
 pub mod Cutting
 pub mod Ends
 pub mod Filling
@@ -6,6 +7,7 @@ pub mod Hosting
 pub mod Lists
 pub mod Longest
 pub mod Numbering
+pub mod OneCommand
 pub mod OneWave
 pub mod Places
 pub mod Progress

@@ -40,7 +40,7 @@ all-from : (clients : Clients) (us : List Numbered) (m : Memory) → memory_from
 all-from clients [] m = refl
 all-from clients (u ∷ us) m = one_later clients m u us (length us) ∙ all-from clients us (unit_after clients u m)
 
-memory-below : (job : Job) (n : ℕ) → memory_below job n ≡ memory_after job.clients nothing_live (first_actions job.commands n)
+pub memory-below : (job : Job) (n : ℕ) → memory_below job n ≡ memory_after job.clients nothing_live (first_actions job.commands n)
 memory-below job n =
     let us : List Numbered = first_actions job.commands n in
     sym (from_nothing job.clients us (length us)) ∙ all-from job.clients us nothing_live
@@ -71,19 +71,19 @@ parts_left rec n i k =
 
 -- ---- texts
 
-no-text : (run : Run) → with_text [] run ≡ run
+pub no-text : (run : Run) → with_text [] run ≡ run
 no-text (Text t) = refl
 no-text (Refused r) = refl
 no-text Unknown = refl
 
-more-text : (a b : List ℕ) (run : Run) → with_text a (with_text b run) ≡ with_text (a ++ b) run
+pub more-text : (a b : List ℕ) (run : Run) → with_text a (with_text b run) ≡ with_text (a ++ b) run
 more-text a b (Text t) = ap Text (sym (append_assoc a b t))
 more-text a b (Refused r) = refl
 more-text a b Unknown = refl
 
 -- ---- one action more
 
-same-memory : (m n : Memory) → ((l : Location) → m l ≡ n l) → m ≡ n
+pub same-memory : (m n : Memory) → ((l : Location) → m l ≡ n l) → m ≡ n
 same-memory m n h = λ i l. h l i
 
 -- the first that is left is ready

@@ -1,4 +1,5 @@
 pub mod Runs
+pub mod Laws
 pub mod Steps
 pub mod Waves
 pub mod Ranks

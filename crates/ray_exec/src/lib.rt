@@ -27,6 +27,7 @@ mod given;
 mod host;
 mod in_order;
 mod in_waves;
+mod laws;
 mod ranks;
 mod run_fault;
 mod running;
@@ -36,7 +37,8 @@ mod wave;
 
 pub use crate::fetcher::Fetcher;
 pub use crate::gate::{Gate, NoGate};
-pub use crate::in_order::run_in_order;
+pub use crate::in_order::{run_command, run_in_order};
+pub use crate::laws::traces_can_begin;
 pub use crate::run_fault::RunFault;
 pub use crate::running::{run_numbered, run_waves};
 pub use crate::scripts::Scripts;

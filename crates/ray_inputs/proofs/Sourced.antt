@@ -15,7 +15,7 @@ use Rattle.ray_submits.specs.Reading.{queues_of}
 use Rattle.ray_submits.specs.Submits.{QueueCommands}
 use Rattle.ray_inputs.specs.declared.fault.BadInput.{BadInput}
 use Rattle.ray_inputs.proofs.Submitted.{queues_sourced, spelled}
-use Rattle.ray_inputs.specs.Inputs.{TabledCommands, ◌>>=◌, commands_in, or_no_json, or_no_object, queues_in, tabled_of, tables_in}
+use Rattle.ray_inputs.specs.Inputs.{CertifiedCommands, TabledCommands, ◌>>=◌, certified_of, commands_in, lines_in, or_no_json, or_no_object, queues_in, tabled_of, tables_in}
 
 -- what is read after something else was read after it
 first : {A B : Type 0} (read : Result A BadInput) (next : A → Result B BadInput) (b : B) → (read >>= next) ≡ Ok b → (a : A) × (read ≡ Ok a) × (next a ≡ Ok b)
@@ -64,3 +64,24 @@ queues_are (Err queues.NoMemory) q e = absurd cc
 pub queued_sourced : (found : Option Data) (q : QueueCommands) → (or_no_json found >>= λ d. queues_in (queues_of d)) ≡ Ok q → AreSourced q.commands
 queued_sourced None q e = absurd cc
 queued_sourced (Some d) q e = queues_sourced d q (queues_are (queues_of d) q e)
+
+-- and those of one with certificates
+certified_by : (commands certificates : Data) (c : CertifiedCommands)
+    → (commands_in (recording_of commands) >>= λ cs. lines_in certificates >>= λ lines. Ok (record { commands = cs; certificates = lines })) ≡ Ok c
+    → AreSourced c.commands
+certified_by commands certificates c e =
+    let one = first (commands_in (recording_of commands)) _ c e in
+    let two = first (lines_in certificates) _ c one.2 in
+    let same : record { commands = one.0; certificates = two.0 } ≡ c = cc in
+    subst (λ (c : CertifiedCommands). AreSourced c.commands) same (spelled commands one.0 (are_commands (recording_of commands) one.0 one.1))
+
+certified_from : (d : Data) (c : CertifiedCommands) → certified_of d ≡ Ok c → AreSourced c.commands
+certified_from d c e =
+    let one = first (or_no_object (only (codes "certificates" ∷ codes "commands" ∷ []) d)) _ c e in
+    let two = first (or_no_object (get (codes "commands") d)) _ c one.2 in
+    let three = first (or_no_object (get (codes "certificates") d)) _ c two.2 in
+    certified_by two.0 three.0 c three.2
+
+pub certified_sourced : (found : Option Data) (c : CertifiedCommands) → (or_no_json found >>= certified_of) ≡ Ok c → AreSourced c.commands
+certified_sourced None c e = absurd cc
+certified_sourced (Some d) c e = certified_from d c e

@@ -7,7 +7,7 @@ use Rattle.ray_cmd.specs.declared.command.Command.{Command}
 use Rattle.ray_cmd.specs.declared.fault.RecordingFault.TheVariants as recordings
 use Rattle.ray_cmd.specs.Json.{json_of}
 use Rattle.ray_cmd.specs.Recordings.{Reading, recording_of}
-use Rattle.ray_json.specs.Fields.{only}
+use Rattle.ray_json.specs.Fields.{list_of, only, text_of}
 use Rattle.ray_pipe.specs.declared.fault.TableFault.{TableFault}
 use Rattle.ray_pipe.specs.declared.fault.TableFault.TheVariants as tables
 use Rattle.ray_pipe.specs.Reading.{tables_of}
@@ -17,7 +17,7 @@ use Rattle.ray_submits.specs.declared.fault.QueueFault.TheVariants as queues
 use Rattle.ray_submits.specs.Reading.{queues_of}
 use Rattle.ray_submits.specs.Submits.{QueueCommands}
 use Rattle.ray_inputs.specs.declared.fault.BadInput.{BadInput}
-use Rattle.ray_inputs.specs.declared.fault.BadInput.TheVariants.{NotJson, BadObject, BadShape, BadTable, BadSubmits, NoMemory}
+use Rattle.ray_inputs.specs.declared.fault.BadInput.TheVariants.{NotJson, BadObject, BadShape, BadTable, BadSubmits, BadCertificates, NoMemory}
 
 infixl 10 ◌>>=◌
 -- what is read after the first, or why the first is none
@@ -58,6 +58,14 @@ queues_in (Err (queues.BadShape i)) = Err (BadShape i)
 queues_in (Err (queues.BadSubmits k)) = Err (BadSubmits k)
 queues_in (Err queues.NoMemory) = Err NoMemory
 
+-- lines of text, where the value is a list of strings
+abbrev pub or_no_lines : Option (List (List ℕ)) → Result (List (List ℕ)) BadInput
+or_no_lines None = Err BadCertificates
+or_no_lines (Some lines) = Ok lines
+
+abbrev pub lines_in : Data → Result (List (List ℕ)) BadInput
+lines_in d = or_no_lines (list_of text_of d)
+
 -- ---- inputs
 
 -- commands, and the tables of hit groups of their traces
@@ -83,6 +91,25 @@ tabled_in bytes = or_no_json (json_of bytes) >>= tabled_of
 abbrev pub queued_in : List ℕ → Result QueueCommands BadInput
 queued_in bytes = or_no_json (json_of bytes) >>= λ d. queues_in (queues_of d)
 
+-- commands, and lines that are to be certificates of the rays of their traces
+pub record CertifiedCommands : Type 0 where
+  pub commands : List Command
+  pub certificates : List (List ℕ)
+
+-- the ones that a value spells: an object of `commands` and `certificates`, and of nothing else
+abbrev pub certified_of : Data → Result CertifiedCommands BadInput
+certified_of d =
+    or_no_object (only (codes "certificates" ∷ codes "commands" ∷ []) d) >>= λ u.
+    or_no_object (get (codes "commands") d) >>= λ commands.
+    or_no_object (get (codes "certificates") d) >>= λ certificates.
+    commands_in (recording_of commands) >>= λ cs.
+    lines_in certificates >>= λ lines.
+    Ok (record { commands = cs; certificates = lines })
+
+-- and those that bytes spell
+abbrev pub certified_in : List ℕ → Result CertifiedCommands BadInput
+certified_in bytes = or_no_json (json_of bytes) >>= certified_of
+
 -- ---- answers
 
 -- the answer is what is spelled; want of memory is free
@@ -93,6 +120,7 @@ Answers (Err BadObject) spelled = spelled ≡ Err BadObject
 Answers (Err (BadShape i)) spelled = spelled ≡ Err (BadShape i)
 Answers (Err (BadTable k)) spelled = spelled ≡ Err (BadTable k)
 Answers (Err (BadSubmits k)) spelled = spelled ≡ Err (BadSubmits k)
+Answers (Err BadCertificates) spelled = spelled ≡ Err BadCertificates
 Answers (Err NoMemory) spelled = Unit {0}
 
 -- the same of an answer that is seen by a function
@@ -103,4 +131,5 @@ AnswersBy f (Err BadObject) spelled = spelled ≡ Err BadObject
 AnswersBy f (Err (BadShape i)) spelled = spelled ≡ Err (BadShape i)
 AnswersBy f (Err (BadTable k)) spelled = spelled ≡ Err (BadTable k)
 AnswersBy f (Err (BadSubmits k)) spelled = spelled ≡ Err (BadSubmits k)
+AnswersBy f (Err BadCertificates) spelled = spelled ≡ Err BadCertificates
 AnswersBy f (Err NoMemory) spelled = Unit {0}

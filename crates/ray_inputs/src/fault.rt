@@ -11,6 +11,8 @@ pub enum BadInput {
     BadTable(u32),
     /// This entry of `submits` is the first that is bad, as `read_queues` of ray_submits says it.
     BadSubmits(u32),
+    /// `certificates` is no list of strings.
+    BadCertificates,
     /// There was no memory to read them.
     NoMemory,
 }

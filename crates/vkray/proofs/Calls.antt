@@ -4,7 +4,7 @@ use Rattle.std.specs.Prelude.{String, IfSome, codes}
 use Rattle.vkray.specs.declared.asked.Asked.{Asked}
 use Rattle.vkray.specs.declared.asked.Asked.TheVariants as asked
 use Rattle.vkray.specs.declared.input_fault.InputFault.{InputFault}
-use Rattle.vkray.specs.declared.input_fault.InputFault.TheVariants.{NotJson, BadObject, BadShape, BadTable, BadSubmits, Refused}
+use Rattle.vkray.specs.declared.input_fault.InputFault.TheVariants.{NotJson, BadObject, BadShape, BadTable, BadSubmits, BadCertificates, Refused}
 use Rattle.vkray.specs.declared.request.Request.{Request}
 use Rattle.vkray.specs.declared.request.Request.TheVariants.{Input, Generate, RunSelf}
 use Rattle.vkray.specs.declared.status.Status.{Status}
@@ -14,9 +14,11 @@ use Rattle.vkray.specs.declared.stop.Stop.TheVariants as stops
 use Rattle.vkray.specs.Answer.{Ending, answer_of, checked, input_of, made_up, ran, refused_or, run_with, runs, task_of, with_task}
 use Rattle.vkray.specs.Call.{Reading, Writing, Answers, GivesInput, IsAnswer, IsCompleted, IsEnding, IsFrom, IsGoodCall, IsRead, IsSent, IsTooLong, IsValid, IsWritten, RunsTo, most_bytes}
 use Rattle.vkray.specs.Headline.{IsWrittenOfEveryOrder}
+use Rattle.vkray.specs.Judged.{IsAnswerTo}
 use Rattle.vkray.specs.Words.{Requests}
 use Rattle.vkray.specs.Written.{status_of, status_of_fault, text_of}
 use Rattle.vkray.proofs.Jobs.{answered, every_order, task_runs}
+use Rattle.vkray.proofs.Judging.{as_told, one_answer}
 use Rattle.vkray.proofs.OneRequest.{one_request}
 
 -- ---- the input of a call
@@ -35,11 +37,12 @@ its_input (RunSelf by) reading read input from told = let made : made_up (RunSel
 
 -- an answer to what the words ask for is that of the input
 answer_is : (words : List (String Global)) (reading : Reading) (request : Request) (input : List ℕ) (ending : Ending) → Requests words request
-    → input_of request reading.before ≡ Some input → IsAnswer words reading ending → answer_of request input ≡ ending
+    → input_of request reading.before ≡ Some input → IsAnswer words reading ending → IsAnswerTo request input ending
 answer_is words reading request input ending asks told h =
     let same : h.request ≡ request = one_request words h.request request h.asks asks in
     let from : IsFrom request reading h.input = subst (λ r. IsFrom r reading h.input) same h.from in
-    sym (λ i. answer_of (same i) (its_input request reading h.input input from told i)) ∙ h.is
+    subst (λ (text : List ℕ). IsAnswerTo request text ending) (its_input request reading h.input input from told)
+    (subst (λ (r : Request). IsAnswerTo r h.input ending) same h.is)
 
 -- ---- a call that ends well
 
@@ -55,6 +58,7 @@ not_done BadObject e = cc
 not_done (BadShape command) e = cc
 not_done (BadTable entry) e = cc
 not_done (BadSubmits entry) e = cc
+not_done BadCertificates e = cc
 not_done (Refused refusal) e = cc
 
 done_by : (words : List (String Global)) (reading : Reading) (writing : Writing) (ending : Ending) → IsEnding words reading ending → status_of ending ≡ statuses.Done
@@ -80,7 +84,7 @@ pub headline : (words : List (String Global)) (reading : Reading) (writing : Wri
     → IsWrittenOfEveryOrder request input writing
 headline words reading writing result answers request input run asks done told =
     let is = is_done words reading writing result answers done in
-    let has = answered request input is.text run (answer_is words reading request input (Ok is.text) asks told is.cause) in
+    let has = answered request input is.text run (as_told request input (Ok is.text) run (answer_is words reading request input (Ok is.text) asks told is.cause)) in
     record {
       task = has.task;
       is_it = has.is_it;
@@ -97,13 +101,15 @@ ran_so request input text so =
     ap (with_task (ran request)) so.kept.is_it ∙ (ap (run_with request so.kept.task.job) so.kept.rules ∙ so.told)
 
 -- the answer of a valid input is its text
-answer_is_text : (request : Request) (input text : List ℕ) → IsValid request input text → answer_of request input ≡ Ok text
+answer_is_text : (request : Request) (input text : List ℕ) → IsValid request input text → IsAnswerTo request input (Ok text)
 unfolding answer_of
 answer_is_text (Input (asked.Run workers)) input text valid = ran_so (Input (asked.Run workers)) input text valid
 answer_is_text (Input asked.Check) input text valid =
     ap (with_task checked) valid.0.is_it ∙ (ap (λ refusal. refused_or refusal (Ok (codes "ok\n"))) valid.0.rules ∙ ap Ok (sym valid.1))
 answer_is_text (Input (asked.Queues workers)) input text valid = ran_so (Input (asked.Queues workers)) input text valid
 answer_is_text (Input asked.Groups) input text valid = ran_so (Input asked.Groups) input text valid
+answer_is_text (Input asked.Certify) input text valid = ran_so (Input asked.Certify) input text valid
+answer_is_text (Input asked.Verify) input text valid = valid
 answer_is_text (Generate scene) input text valid = ap Ok (sym valid)
 answer_is_text (RunSelf by) input text valid = ran_so (RunSelf by) input text valid
 
@@ -124,7 +130,8 @@ module _ (words : List (String Global)) (reading : Reading) (writing : Writing) 
   -- an answer to what the words ask for is the text
   same_answer : (ending : Ending) → IsAnswer words reading ending → ending ≡ Ok text
   same_answer ending h =
-      sym (answer_is words reading request input ending good.asks (good_input request reading input good.given) h) ∙ answer_is_text request input text valid
+      one_answer request input ending (Ok text) (answer_is words reading request input ending good.asks (good_input request reading input good.given) h)
+      (answer_is_text request input text valid)
 
   -- where the words ask an input, that is the request, and its source gives it
   asks_input : (what : Asked) → Requests words (Input what) → GivesInput (Input what) reading input

@@ -74,6 +74,7 @@ of_input task (Err inputs.BadObject) t e = absurd cc
 of_input task (Err (inputs.BadShape command)) t e = absurd cc
 of_input task (Err (inputs.BadTable entry)) t e = absurd cc
 of_input task (Err (inputs.BadSubmits entry)) t e = absurd cc
+of_input task (Err inputs.BadCertificates) t e = absurd cc
 of_input task (Err inputs.NoMemory) t e = absurd cc
 
 -- with tables
@@ -99,6 +100,8 @@ task_runs (Input (asked.Run workers)) input task run e none = recorded_runs inpu
 task_runs (Input asked.Check) input task run e none = absurd cc
 task_runs (Input (asked.Queues workers)) input task run e none = queued_runs input task e none
 task_runs (Input asked.Groups) input task run e none = tabled_runs input task e none
+task_runs (Input asked.Certify) input task run e none = recorded_runs input task e none
+task_runs (Input asked.Verify) input task run e none = absurd cc
 task_runs (Generate scene) input task run e none = absurd cc
 task_runs (RunSelf by) input task run e none = recorded_runs input task e none
 
@@ -121,7 +124,7 @@ every_order request job text may told es permitted = along_is request job es may
 
 -- ---- the task behind a text
 
-no_text : (run : action.Run) (refusal : Refusal) (text : List ℕ) → ending_before run (refused refusal) ≡ Ok text → ⊥
+pub no_text : (run : action.Run) (refusal : Refusal) (text : List ℕ) → ending_before run (refused refusal) ≡ Ok text → ⊥
 no_text (Text t) refusal text e = cc
 no_text (action.Refused r) refusal text e = cc
 no_text Unknown refusal text e = cc
@@ -151,5 +154,7 @@ answered (Input (asked.Run workers)) input text run e = has_run (Input (asked.Ru
 answered (Input asked.Check) input text run e = absurd cc
 answered (Input (asked.Queues workers)) input text run e = has_run (Input (asked.Queues workers)) (task_of (Input (asked.Queues workers)) input) text e
 answered (Input asked.Groups) input text run e = has_run (Input asked.Groups) (task_of (Input asked.Groups) input) text e
+answered (Input asked.Certify) input text run e = has_run (Input asked.Certify) (task_of (Input asked.Certify) input) text e
+answered (Input asked.Verify) input text run e = absurd cc
 answered (Generate scene) input text run e = absurd cc
 answered (RunSelf by) input text run e = has_run (RunSelf by) (task_of (RunSelf by) input) text e

@@ -2,6 +2,7 @@ pub mod OneRequest
 pub mod QueueJobs
 pub mod LastRead
 pub mod Jobs
+pub mod Judging
 pub mod Calls
 pub mod Ended
 pub mod Telling

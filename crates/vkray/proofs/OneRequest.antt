@@ -3,7 +3,7 @@ use Rattle.std.proofs.Common.{◌≡◌, ◌⊎◌, [], ◌∷◌, refl, ℕ, �
 use Rattle.std.specs.Prelude.{String, codes, decimal, string_bytes}
 use Rattle.std.proofs.lemmas.Fmt.{decimal_injective}
 use Rattle.ray_scene.specs.Grid.{IsScene}
-use Rattle.vkray.specs.declared.asked.Asked.TheVariants.{Run, Check, Queues, Groups}
+use Rattle.vkray.specs.declared.asked.Asked.TheVariants.{Run, Check, Queues, Groups, Certify, Verify}
 use Rattle.vkray.specs.declared.request.Request.{Request}
 use Rattle.vkray.specs.declared.request.Request.TheVariants.{Input, Generate, RunSelf}
 use Rattle.vkray.specs.declared.request.Scene.{Scene}
@@ -19,7 +19,7 @@ abbrev second : List (List ℕ) → ℕ
 second words = get_or (get_or words 0 []) 1 0
 
 -- a number for each request: its first letter and three times its second one, added, of `run`, `check`, `queues`,
--- `groups`, `gen` and `selfrun`
+-- `groups`, `certify`, `verify`, `gen` and `selfrun`
 abbrev letters : List (List ℕ) → ℕ
 letters words = first words + (second words + (second words + second words))
 
@@ -28,6 +28,8 @@ number_of (Input (Run workers)) = 465
 number_of (Input Check) = 411
 number_of (Input (Queues workers)) = 464
 number_of (Input Groups) = 445
+number_of (Input Certify) = 402
+number_of (Input Verify) = 421
 number_of (Generate scene) = 406
 number_of (RunSelf by) = 418
 
@@ -45,6 +47,8 @@ number_is words (Input (Run workers)) asks = of_workers words (codes "run") work
 number_is words (Input Check) asks = ap letters asks
 number_is words (Input (Queues workers)) asks = of_workers words (codes "queues") workers asks 464 refl
 number_is words (Input Groups) asks = ap letters asks
+number_is words (Input Certify) asks = ap letters asks
+number_is words (Input Verify) asks = ap letters asks
 number_is words (Generate scene) asks = ap letters asks.are
 number_is words (RunSelf by) asks = of_self words by asks.are
 
@@ -104,6 +108,8 @@ one_request words a b x y = by_both a b x y (sym (number_is words a x) ∙ numbe
     by_both (Input Check) (Input Check) x y same = refl
     by_both (Input (Queues n)) (Input (Queues m)) x y same = ap (λ w. Input (Queues w)) (same_workers (codes "queues") n m x y)
     by_both (Input Groups) (Input Groups) x y same = refl
+    by_both (Input Certify) (Input Certify) x y same = refl
+    by_both (Input Verify) (Input Verify) x y same = refl
     by_both (Generate s) (Generate t) x y same = ap Generate (one_scene s t x.limits y.limits (ap three (sym x.are ∙ y.are)))
     by_both (RunSelf s) (RunSelf t) x y same =
         let scene = one_scene s.scene t.scene x.limits y.limits (sym (scene_of_self words s x.are) ∙ scene_of_self words t y.are) in
@@ -112,30 +118,56 @@ one_request words a b x y = by_both a b x y (sym (number_is words a x) ∙ numbe
     by_both (Input (Run n)) (Input Check) x y same = absurd (omega (arith, same))
     by_both (Input (Run n)) (Input (Queues m)) x y same = absurd (omega (arith, same))
     by_both (Input (Run n)) (Input Groups) x y same = absurd (omega (arith, same))
+    by_both (Input (Run n)) (Input Certify) x y same = absurd (omega (arith, same))
+    by_both (Input (Run n)) (Input Verify) x y same = absurd (omega (arith, same))
     by_both (Input (Run n)) (Generate m) x y same = absurd (omega (arith, same))
     by_both (Input (Run n)) (RunSelf m) x y same = absurd (omega (arith, same))
     by_both (Input Check) (Input (Run m)) x y same = absurd (omega (arith, same))
     by_both (Input Check) (Input (Queues m)) x y same = absurd (omega (arith, same))
     by_both (Input Check) (Input Groups) x y same = absurd (omega (arith, same))
+    by_both (Input Check) (Input Certify) x y same = absurd (omega (arith, same))
+    by_both (Input Check) (Input Verify) x y same = absurd (omega (arith, same))
     by_both (Input Check) (Generate m) x y same = absurd (omega (arith, same))
     by_both (Input Check) (RunSelf m) x y same = absurd (omega (arith, same))
     by_both (Input (Queues n)) (Input (Run m)) x y same = absurd (omega (arith, same))
     by_both (Input (Queues n)) (Input Check) x y same = absurd (omega (arith, same))
     by_both (Input (Queues n)) (Input Groups) x y same = absurd (omega (arith, same))
+    by_both (Input (Queues n)) (Input Certify) x y same = absurd (omega (arith, same))
+    by_both (Input (Queues n)) (Input Verify) x y same = absurd (omega (arith, same))
     by_both (Input (Queues n)) (Generate m) x y same = absurd (omega (arith, same))
     by_both (Input (Queues n)) (RunSelf m) x y same = absurd (omega (arith, same))
     by_both (Input Groups) (Input (Run m)) x y same = absurd (omega (arith, same))
     by_both (Input Groups) (Input Check) x y same = absurd (omega (arith, same))
     by_both (Input Groups) (Input (Queues m)) x y same = absurd (omega (arith, same))
+    by_both (Input Groups) (Input Certify) x y same = absurd (omega (arith, same))
+    by_both (Input Groups) (Input Verify) x y same = absurd (omega (arith, same))
     by_both (Input Groups) (Generate m) x y same = absurd (omega (arith, same))
     by_both (Input Groups) (RunSelf m) x y same = absurd (omega (arith, same))
+    by_both (Input Certify) (Input (Run m)) x y same = absurd (omega (arith, same))
+    by_both (Input Certify) (Input Check) x y same = absurd (omega (arith, same))
+    by_both (Input Certify) (Input (Queues m)) x y same = absurd (omega (arith, same))
+    by_both (Input Certify) (Input Groups) x y same = absurd (omega (arith, same))
+    by_both (Input Certify) (Input Verify) x y same = absurd (omega (arith, same))
+    by_both (Input Certify) (Generate m) x y same = absurd (omega (arith, same))
+    by_both (Input Certify) (RunSelf m) x y same = absurd (omega (arith, same))
+    by_both (Input Verify) (Input (Run m)) x y same = absurd (omega (arith, same))
+    by_both (Input Verify) (Input Check) x y same = absurd (omega (arith, same))
+    by_both (Input Verify) (Input (Queues m)) x y same = absurd (omega (arith, same))
+    by_both (Input Verify) (Input Groups) x y same = absurd (omega (arith, same))
+    by_both (Input Verify) (Input Certify) x y same = absurd (omega (arith, same))
+    by_both (Input Verify) (Generate m) x y same = absurd (omega (arith, same))
+    by_both (Input Verify) (RunSelf m) x y same = absurd (omega (arith, same))
     by_both (Generate n) (Input (Run m)) x y same = absurd (omega (arith, same))
     by_both (Generate n) (Input Check) x y same = absurd (omega (arith, same))
     by_both (Generate n) (Input (Queues m)) x y same = absurd (omega (arith, same))
     by_both (Generate n) (Input Groups) x y same = absurd (omega (arith, same))
+    by_both (Generate n) (Input Certify) x y same = absurd (omega (arith, same))
+    by_both (Generate n) (Input Verify) x y same = absurd (omega (arith, same))
     by_both (Generate n) (RunSelf m) x y same = absurd (omega (arith, same))
     by_both (RunSelf n) (Input (Run m)) x y same = absurd (omega (arith, same))
     by_both (RunSelf n) (Input Check) x y same = absurd (omega (arith, same))
     by_both (RunSelf n) (Input (Queues m)) x y same = absurd (omega (arith, same))
     by_both (RunSelf n) (Input Groups) x y same = absurd (omega (arith, same))
+    by_both (RunSelf n) (Input Certify) x y same = absurd (omega (arith, same))
+    by_both (RunSelf n) (Input Verify) x y same = absurd (omega (arith, same))
     by_both (RunSelf n) (Generate m) x y same = absurd (omega (arith, same))

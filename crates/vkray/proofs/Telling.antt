@@ -8,9 +8,10 @@ use Rattle.vkray.specs.declared.status.Status.{Status}
 use Rattle.vkray.specs.declared.stop.Stop.{Stop}
 use Rattle.vkray.specs.declared.stop.Stop.TheVariants.{BadWords, ReadFault, TooLong, NoMemory}
 use Rattle.vkray.specs.declared.stop.Stop.TheVariants as stops
-use Rattle.vkray.specs.Answer.{Ending, answer_of}
+use Rattle.vkray.specs.Answer.{Ending}
+use Rattle.vkray.specs.Judged.{IsAnswerTo}
 use Rattle.vkray.specs.Call.{Reading, Writing, IsAnswer, IsEnding, IsFrom, IsSent, IsTold}
-use Rattle.vkray.specs.Endings.{Ends, EndsCall, StopsCall, is_told}
+use Rattle.vkray.specs.Endings.{EndsCall, EndsTo, StopsCall, is_told}
 use Rattle.vkray.specs.Words.{Requests}
 use Rattle.vkray.specs.Written.{status_of, text_of}
 
@@ -37,10 +38,10 @@ reply_tells words reading stop (Err e) h status text told = tt
 
 -- the answer to what the words ask for, of its input, is what the call gives
 module _ (words : List (String Global)) (reading : Reading) (request : Request) (asks : Requests words request) (input : List ℕ) (from : IsFrom request reading input) where
-  answers : (ending : Ending) → answer_of request input ≡ ending → IsAnswer words reading ending
+  answers : (ending : Ending) → IsAnswerTo request input ending → IsAnswer words reading ending
   answers ending is = record { request = request; asks = asks; input = input; from = from; is = is }
 
-  pub ends_call : (result : Result (Vec ℕ Global) Stop) → Ends (answer_of request input) result → EndsCall words reading result
+  pub ends_call : (result : Result (Vec ℕ Global) Stop) → EndsTo request input result → EndsCall words reading result
   ends_call (Ok text) is = answers (Ok text.items) is
   ends_call (Err BadWords) is = absurd is
   ends_call (Err ReadFault) is = absurd is

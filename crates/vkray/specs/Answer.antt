@@ -4,10 +4,11 @@ use Rattle.ray_schedule.specs.Events.{Event}
 use Rattle.ray_schedule.specs.Laws.{after}
 use Rattle.ray_cmd.specs.declared.refusal.Refusal.{Refusal}
 use Rattle.ray_cmd.specs.Recordings.{recording_in}
-use Rattle.ray_inputs.specs.Inputs.{queued_in, tabled_in}
+use Rattle.ray_inputs.specs.Inputs.{certified_in, queued_in, tabled_in}
 use Rattle.ray_action.specs.Memory.{Memory}
 use Rattle.ray_action.specs.Running as action
 use Rattle.ray_action.specs.Running.{Run, Text, Unknown}
+use Rattle.ray_certify.specs.Certified.{certificates_of}
 use Rattle.ray_permitted.specs.Along.{memory_below, run_along, run_below}
 use Rattle.ray_permitted.specs.Job.{Job}
 use Rattle.ray_permitted.specs.Work.{work_of}
@@ -19,7 +20,7 @@ use Rattle.vkray.specs.declared.stop.Stop.{Stop}
 use Rattle.vkray.specs.declared.stop.Stop.TheVariants as stops
 use Rattle.vkray.specs.Counting.{counts_line, last_shown_in}
 use Rattle.vkray.specs.Scenes.{text_of_scene}
-use Rattle.vkray.specs.Tasks.{Task, queued_task, tabled_task, task_of_read, task_of_recording}
+use Rattle.vkray.specs.Tasks.{Task, certified_task, queued_task, tabled_task, task_of_read, task_of_recording}
 
 -- a text, or why there is none
 abbrev pub Ending : Type 0
@@ -37,6 +38,8 @@ runs (Input (asked.Run workers)) = true
 runs (Input asked.Check) = false
 runs (Input (asked.Queues workers)) = true
 runs (Input asked.Groups) = true
+runs (Input asked.Certify) = true
+runs (Input asked.Verify) = false
 runs (Generate scene) = false
 runs (RunSelf by) = true
 
@@ -47,6 +50,8 @@ task_of (Input (asked.Run workers)) input = task_of_recording (recording_in inpu
 task_of (Input asked.Check) input = task_of_recording (recording_in input)
 task_of (Input (asked.Queues workers)) input = task_of_read queued_task (queued_in input)
 task_of (Input asked.Groups) input = task_of_read tabled_task (tabled_in input)
+task_of (Input asked.Certify) input = task_of_recording (recording_in input)
+task_of (Input asked.Verify) input = task_of_read certified_task (certified_in input)
 task_of (Generate scene) input = Err stops.NoMemory
 task_of (RunSelf by) input = task_of_recording (recording_in input)
 
@@ -64,11 +69,13 @@ abbrev pub in_place_of_text : List ℕ → Ending → Ending
 in_place_of_text line (Ok text) = Ok line
 in_place_of_text line (Err stop) = Err stop
 
--- what a request tells of a run of its job and of the memory after it: the text, or of a self run the counts
--- of the records that the last command reads
+-- what a request tells of a run of its job and of the memory after it: the text, or in its place of a self run the
+-- counts of the records that the last command reads, and the certificates of the rays of the job's traces, which are
+-- those of recording order
 abbrev pub told_of : Request → Job → Run → Memory → Ending
 told_of (RunSelf by) job run memory =
     in_place_of_text (counts_line by.scene.rays (last_shown_in memory job.commands)) (ending_of_run run)
+told_of (Input asked.Certify) job run memory = in_place_of_text (certificates_of job) (ending_of_run run)
 told_of request job run memory = ending_of_run run
 
 -- what it tells along a schedule of all commands, and in recording order
@@ -113,12 +120,15 @@ abbrev pub with_task : (Task → Ending) → Result Task Stop → Ending
 with_task ending (Ok task) = ending task
 with_task ending (Err stop) = Err stop
 
--- the answer to a request, of the bytes of its input. How many workers there are makes no difference
+-- the answer to a request, of the bytes of its input. How many workers there are makes no difference. For `verify` it is what its
+-- commands come to; the verdict on its lines comes in place of their text (specs/Judged)
 unfoldable pub answer_of : Request → List ℕ → Ending
 answer_of (Input (asked.Run workers)) input = with_task (ran (Input (asked.Run workers))) (task_of (Input (asked.Run workers)) input)
 answer_of (Input asked.Check) input = with_task checked (task_of (Input asked.Check) input)
 answer_of (Input (asked.Queues workers)) input = with_task (ran (Input (asked.Queues workers))) (task_of (Input (asked.Queues workers)) input)
 answer_of (Input asked.Groups) input = with_task (ran (Input asked.Groups)) (task_of (Input asked.Groups) input)
+answer_of (Input asked.Certify) input = with_task (ran (Input asked.Certify)) (task_of (Input asked.Certify) input)
+answer_of (Input asked.Verify) input = with_task (ran (Input asked.Verify)) (task_of (Input asked.Verify) input)
 answer_of (Generate scene) input = Ok (text_of_scene scene)
 answer_of (RunSelf by) input = with_task (ran (RunSelf by)) (task_of (RunSelf by) input)
 

@@ -10,7 +10,8 @@ use Rattle.vkray.specs.declared.status.Status.{Status}
 use Rattle.vkray.specs.declared.status.Status.TheVariants as statuses
 use Rattle.vkray.specs.declared.stop.Stop.TheVariants.{BadWords, ReadFault, TooLong, NoMemory}
 use Rattle.vkray.specs.declared.stop.Stop.TheVariants as stops
-use Rattle.vkray.specs.Answer.{Ending, answer_of, made_up, task_of, told_in_order}
+use Rattle.vkray.specs.Answer.{Ending, made_up, task_of, told_in_order}
+use Rattle.vkray.specs.Judged.{IsAnswerTo}
 use Rattle.vkray.specs.Scenes.{text_of_scene}
 use Rattle.vkray.specs.Tasks.{Task}
 use Rattle.vkray.specs.Words.{AreWords, AskInput, Requests}
@@ -96,7 +97,7 @@ pub record IsAnswer (words : List (String Global)) (reading : Reading) (ending :
   pub asks : Requests words request
   pub input : List ℕ
   pub from : IsFrom request reading input
-  pub is : answer_of request input ≡ ending
+  pub is : IsAnswerTo request input ending
 
 -- what the words and the source give: bad words read nothing; a read failed, or there are too many bytes; or else the
 -- answer to what the words ask for
@@ -163,6 +164,8 @@ IsValid (Input (asked.Run workers)) input text = RunsTo (Input (asked.Run worker
 IsValid (Input asked.Check) input text = IsKept (Input asked.Check) input × (text ≡ codes "ok\n")
 IsValid (Input (asked.Queues workers)) input text = RunsTo (Input (asked.Queues workers)) input text
 IsValid (Input asked.Groups) input text = RunsTo (Input asked.Groups) input text
+IsValid (Input asked.Certify) input text = RunsTo (Input asked.Certify) input text
+IsValid (Input asked.Verify) input text = IsAnswerTo (Input asked.Verify) input (Ok text)
 IsValid (Generate scene) input text = text ≡ text_of_scene scene
 IsValid (RunSelf by) input text = RunsTo (RunSelf by) input text
 

@@ -11,14 +11,19 @@ use Rattle.ray_cmd.specs.declared.refusal.Refusal.{Refusal}
 use Rattle.ray_exec.specs.declared.run_fault.RunFault.{RunFault}
 use Rattle.ray_exec.specs.declared.run_fault.RunFault.TheVariants as runs
 use Rattle.vkray.specs.declared.asked.Asked.{Asked}
-use Rattle.vkray.specs.declared.asked.Asked.TheVariants.{Run, Check, Queues, Groups}
+use Rattle.vkray.specs.declared.asked.Asked.TheVariants.{Run, Check, Queues, Groups, Certify, Verify}
 use Rattle.vkray.specs.declared.stop.Stop.{Stop}
-use Rattle.vkray.specs.declared.input_fault.InputFault.TheVariants.{NotJson, BadObject, BadShape, BadTable, BadSubmits}
+use Rattle.vkray.specs.declared.input_fault.InputFault.TheVariants.{NotJson, BadObject, BadShape, BadTable, BadSubmits, BadCertificates}
 use Rattle.vkray.specs.declared.input_fault.InputFault.TheVariants as faults
 use Rattle.vkray.specs.declared.stop.Stop.TheVariants.{BadWords, ReadFault, TooLong, NoMemory}
 use Rattle.vkray.specs.declared.stop.Stop.TheVariants as stops
 use Rattle.ray_action.specs.Running.{Run as ARun}
-use Rattle.vkray.specs.Answer.{Ending, ending_before, ending_of_run, refused}
+use Rattle.ray_inputs.specs.Inputs.{CertifiedCommands}
+use Rattle.vkray.specs.declared.request.Request.{Request}
+use Rattle.vkray.specs.declared.request.Request.TheVariants.{Input}
+use Rattle.vkray.specs.Answer.{Ending, ending_before, ending_of_run, ran, refused}
+use Rattle.vkray.specs.Judged.{InPlaceOfText, IsAnswerTo}
+use Rattle.vkray.specs.Tasks.{certified_task}
 use Rattle.vkray.specs.Call.{Reading, IsEnding}
 
 -- the stop of each fault
@@ -38,6 +43,7 @@ stop_of_input inputs.BadObject = stops.Input BadObject
 stop_of_input (inputs.BadShape command) = stops.Input (BadShape command)
 stop_of_input (inputs.BadTable entry) = stops.Input (BadTable entry)
 stop_of_input (inputs.BadSubmits entry) = stops.Input (BadSubmits entry)
+stop_of_input inputs.BadCertificates = stops.Input BadCertificates
 stop_of_input inputs.NoMemory = NoMemory
 
 abbrev pub stop_of_run : RunFault → Stop
@@ -56,6 +62,26 @@ StopsSo ending NoMemory = Unit {0}
 abbrev pub Ends : Ending → Result (Vec ℕ Global) Stop → Type 0
 Ends ending (Ok text) = ending ≡ Ok text.items
 Ends ending (Err stop) = StopsSo ending stop
+
+-- what is answered is told of an ending so, and a stop is none of the words or the source; want of memory is free
+abbrev pub StopsBy : (Ending → Type 0) → Stop → Type 0
+StopsBy is BadWords = ⊥
+StopsBy is ReadFault = ⊥
+StopsBy is TooLong = ⊥
+StopsBy is (stops.Input fault) = is (Err (stops.Input fault))
+StopsBy is NoMemory = Unit {0}
+
+abbrev pub EndsBy : (Ending → Type 0) → Result (Vec ℕ Global) Stop → Type 0
+EndsBy is (Ok text) = is (Ok text.items)
+EndsBy is (Err stop) = StopsBy is stop
+
+-- a result is the answer to a request
+abbrev pub EndsTo : Request → List ℕ → Result (Vec ℕ Global) Stop → Type 0
+EndsTo request input result = EndsBy (IsAnswerTo request input) result
+
+-- a result is what lines that were read end with
+abbrev pub IsVerifiedTo : CertifiedCommands → Result (Vec ℕ Global) Stop → Type 0
+IsVerifiedTo c result = EndsBy (InPlaceOfText (Ok c) (ran (Input Verify) (certified_task c))) result
 
 -- a result is a line of counts; want of memory is free
 abbrev pub IsCounted : List ℕ → Result (Vec ℕ Global) Stop → Type 0
@@ -94,6 +120,17 @@ IsWithinLimits (Run workers) = AreWorkers workers
 IsWithinLimits Check = Unit {0}
 IsWithinLimits (Queues workers) = AreWorkers workers
 IsWithinLimits Groups = Unit {0}
+IsWithinLimits Certify = Unit {0}
+IsWithinLimits Verify = Unit {0}
+
+-- whether what is asked is a verdict on an input
+abbrev pub is_judged : Asked → Bool
+is_judged (Run workers) = false
+is_judged Check = false
+is_judged (Queues workers) = false
+is_judged Groups = false
+is_judged Certify = false
+is_judged Verify = true
 
 -- what the run of the commands below a refused one ends with, and where none is refused that of all
 abbrev pub ending_with : ARun → Option Refusal → Ending

@@ -5,6 +5,7 @@ pub mod Codes
 pub mod Lines
 pub mod Tasks
 pub mod Answer
+pub mod Judged
 pub mod Written
 pub mod Call
 pub mod Headline

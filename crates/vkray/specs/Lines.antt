@@ -2,6 +2,8 @@
 use Rattle.std.specs.Prelude.{ℕ, List, [], ◌++◌, codes, decimal}
 use Rattle.ray_bytes.specs.declared.data_rule.DataRule.{DataRule}
 use Rattle.ray_bytes.specs.declared.data_rule.DataRule.TheVariants.{X1, X2, X3, X4, X5, X6, X7, X8, X9, X10, X11, X12, X13}
+use Rattle.ray_certify.specs.declared.verdict.Verdict.{Verdict}
+use Rattle.ray_certify.specs.declared.verdict.Verdict.TheVariants.{Certified, Uncertified}
 use Rattle.ray_cmd.specs.declared.rule.Rule.{Rule}
 use Rattle.ray_cmd.specs.declared.rule.Rule.TheVariants.{V, X}
 use Rattle.ray_cmd.specs.declared.place.Place.{Place}
@@ -49,6 +51,11 @@ bad_shape_line command = codes "bad-shape " ++ (decimal command ++ codes "\n")
 -- the line of the first entry of `tables` that is bad: `bad-table K`
 abbrev pub bad_table_line : ℕ → List ℕ
 bad_table_line entry = codes "bad-table " ++ (decimal entry ++ codes "\n")
+
+-- the line of a verdict on so many lines: `yes N`, or `no I K` with the first ray that isn't certified
+abbrev pub verdict_line : ℕ → Verdict → List ℕ
+verdict_line count Certified = codes "yes " ++ (decimal count ++ codes "\n")
+verdict_line count (Uncertified command ray) = codes "no " ++ (decimal command ++ (codes " " ++ (decimal ray ++ codes "\n")))
 
 -- the line of the first entry of `submits` that is bad: `bad-submits K`
 abbrev pub bad_submits_line : ℕ → List ℕ

@@ -13,9 +13,9 @@ use Rattle.ray_check.specs.Queues.{queue_rule_refusal}
 use Rattle.ray_pipe.specs.Tables.{clients}
 use Rattle.ray_inputs.specs.declared.fault.BadInput.{BadInput}
 use Rattle.ray_inputs.specs.declared.fault.BadInput.TheVariants as inputs
-use Rattle.ray_inputs.specs.Inputs.{TabledCommands}
+use Rattle.ray_inputs.specs.Inputs.{CertifiedCommands, TabledCommands}
 use Rattle.ray_permitted.specs.Job.{Job, in_order, on_one_queue}
-use Rattle.vkray.specs.declared.input_fault.InputFault.TheVariants.{NotJson, BadObject, BadShape, BadSubmits, BadTable}
+use Rattle.vkray.specs.declared.input_fault.InputFault.TheVariants.{NotJson, BadObject, BadShape, BadSubmits, BadTable, BadCertificates}
 use Rattle.vkray.specs.declared.stop.Stop.{Stop}
 use Rattle.vkray.specs.declared.stop.Stop.TheVariants as stops
 
@@ -35,6 +35,10 @@ recorded_task rec = task_by rec (scripts rec)
 -- a recording with tables of hit groups: these decide
 abbrev pub tabled_task : TabledCommands → Task
 tabled_task t = task_by t.commands (clients t.tables)
+
+-- a recording with certificates: its scripts decide
+abbrev pub certified_task : CertifiedCommands → Task
+certified_task c = recorded_task c.commands
 
 -- a recording that is submitted to queues: in the order over queues its scripts decide
 abbrev pub queued_task : QueueCommands → Task
@@ -58,4 +62,5 @@ task_of_read task (Err inputs.BadObject) = Err (stops.Input BadObject)
 task_of_read task (Err (inputs.BadShape command)) = Err (stops.Input (BadShape command))
 task_of_read task (Err (inputs.BadTable entry)) = Err (stops.Input (BadTable entry))
 task_of_read task (Err (inputs.BadSubmits entry)) = Err (stops.Input (BadSubmits entry))
+task_of_read task (Err inputs.BadCertificates) = Err (stops.Input BadCertificates)
 task_of_read task (Err inputs.NoMemory) = Err stops.NoMemory

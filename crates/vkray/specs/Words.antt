@@ -3,7 +3,7 @@ use Rattle.std.specs.Prelude.{◌≡◌, ◌≤◌, ◌⊎◌, ℕ, List, [], �
 use Rattle.std.specs.declared.alloc.Global.{Global}
 use Rattle.ray_scene.specs.Grid.{IsScene}
 use Rattle.vkray.specs.declared.asked.Asked.{Asked}
-use Rattle.vkray.specs.declared.asked.Asked.TheVariants.{Run, Check, Queues, Groups}
+use Rattle.vkray.specs.declared.asked.Asked.TheVariants.{Run, Check, Queues, Groups, Certify, Verify}
 use Rattle.vkray.specs.declared.request.Request.{Request}
 use Rattle.vkray.specs.declared.request.Request.TheVariants.{Input, Generate, RunSelf}
 use Rattle.vkray.specs.declared.request.Scene.{Scene}
@@ -31,11 +31,14 @@ Asks words (Run workers) = AskWorkers words (codes "run") workers
 Asks words Check = IsWord words (codes "check")
 Asks words (Queues workers) = AskWorkers words (codes "queues") workers
 Asks words Groups = IsWord words (codes "groups")
+Asks words Certify = IsWord words (codes "certify")
+Asks words Verify = IsWord words (codes "verify")
 
 -- a word that asks an input for something by itself
 abbrev pub IsPlain : List ℕ → Type 0
 IsPlain word =
-    (word ≡ codes "run") ⊎ ((word ≡ codes "check") ⊎ ((word ≡ codes "queues") ⊎ (word ≡ codes "groups")))
+    (word ≡ codes "run") ⊎ ((word ≡ codes "check") ⊎ ((word ≡ codes "queues") ⊎ ((word ≡ codes "groups")
+    ⊎ ((word ≡ codes "certify") ⊎ (word ≡ codes "verify")))))
 
 -- the words ask an input for something
 abbrev pub AskInput : List (String Global) → Type 0

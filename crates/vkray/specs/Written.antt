@@ -1,7 +1,7 @@
 -- The status and the text with which an ending is told. (Own.)
 use Rattle.std.specs.Prelude.{ℕ, List, [], Ok, Err, codes}
 use Rattle.vkray.specs.declared.input_fault.InputFault.{InputFault}
-use Rattle.vkray.specs.declared.input_fault.InputFault.TheVariants.{NotJson, BadObject, BadShape, BadTable, BadSubmits, Refused}
+use Rattle.vkray.specs.declared.input_fault.InputFault.TheVariants.{NotJson, BadObject, BadShape, BadTable, BadSubmits, BadCertificates, Refused}
 use Rattle.vkray.specs.declared.status.Status.{Status}
 use Rattle.vkray.specs.declared.status.Status.TheVariants as statuses
 use Rattle.vkray.specs.declared.stop.Stop.TheVariants.{BadWords, ReadFault, TooLong, NoMemory}
@@ -18,6 +18,7 @@ status_of_fault BadObject = statuses.BadRecording
 status_of_fault (BadShape command) = statuses.BadRecording
 status_of_fault (BadTable entry) = statuses.BadRecording
 status_of_fault (BadSubmits entry) = statuses.BadRecording
+status_of_fault BadCertificates = statuses.BadRecording
 status_of_fault (Refused refusal) = statuses.Refused
 
 -- its line
@@ -27,6 +28,7 @@ line_of_fault BadObject = codes "bad-object\n"
 line_of_fault (BadShape command) = bad_shape_line command
 line_of_fault (BadTable entry) = bad_table_line entry
 line_of_fault (BadSubmits entry) = bad_submits_line entry
+line_of_fault BadCertificates = codes "bad-certificates\n"
 line_of_fault (Refused refusal) = refusal_line refusal
 
 -- ---- every ending

@@ -26,6 +26,10 @@ pub enum Asked {
     },
     /// `groups`: the text of a recording whose candidates are decided by hit groups.
     Groups,
+    /// `certify`: a certificate for each ray of each trace of a recording.
+    Certify,
+    /// `verify`: whether lines certify the rays of a recording's traces.
+    Verify,
 }
 
 impl Asked {
@@ -54,6 +58,21 @@ fn plain(words: &[String]) -> Option<Asked>
         Some(Asked::Queues { workers: 1 })
     } else if is_word(words, "groups") {
         Some(Asked::Groups)
+    } else {
+        plain_of_certificates(words)
+    }
+}
+
+// The same of the words on certificates.
+fn plain_of_certificates(words: &[String]) -> Option<Asked>
+    ensures asked { IfSome result (λ asked. Asks words.now asked) }
+    ensures certify { IfNone result (¬ IsWord words.now (codes "certify")) }
+    ensures verify { IfNone result (¬ IsWord words.now (codes "verify")) }
+{
+    if is_word(words, "certify") {
+        Some(Asked::Certify)
+    } else if is_word(words, "verify") {
+        Some(Asked::Verify)
     } else {
         None
     }

@@ -1,24 +1,28 @@
+ghost use Rattle.std.specs.Prelude.{◌≡◌, false};
 ghost use Rattle.ray_cmd.specs.Recordings.{recording_in, Answers};
 ghost use Rattle.ray_inputs.specs.Inputs as inputs;
 ghost use Rattle.vkray.specs.declared.request.Request.TheVariants.{Input};
+ghost use Rattle.vkray.specs.declared.asked.Asked.TheVariants.{Verify};
 ghost use Rattle.vkray.specs.Answer.{answer_of, checked};
-ghost use Rattle.vkray.specs.Endings.{Ends, IsWithinLimits};
+ghost use Rattle.vkray.specs.Endings.{Ends, EndsTo, IsWithinLimits, is_judged};
 ghost use Rattle.vkray.specs.Tasks.{recorded_task};
 
 use crate::asked::Asked;
 use crate::input_fault::InputFault;
+use crate::certificates::{certify_recording, verify_recording};
 use crate::running::{run, run_queued, run_tabled};
 use crate::stop::Stop;
 use ray_check::check_rules;
 use ray_cmd::{Recording, RecordingFault, read_recording};
 use ray_exec::Gate;
-use ray_inputs::{BadInput, TabledRecording, read_queued, read_tabled};
+use ray_inputs::{
+    BadInput, CertifiedRecording, TabledRecording, read_certified, read_queued, read_tabled,
+};
 use ray_submits::QueueRecording;
 use std::alloc::Global;
 use std::thread::Threads;
 
 // Reads the bytes as the input of what is asked, and does that.
-#[tactic(auto, unfolding(crate::specs::Answer::answer_of))]
 pub(crate) fn execute<R: Threads + Sync, G: Gate + Sync>(
     rt: &R,
     alloc: Global,
@@ -27,6 +31,26 @@ pub(crate) fn execute<R: Threads + Sync, G: Gate + Sync>(
     gate: &G,
 ) -> Result<Vec<u8>, Stop>
     requires { IsWithinLimits asked }
+    ensures { EndsTo (Input asked) bytes.items result }
+{
+    if is_judged(asked) {
+        verify_bytes(rt, alloc, bytes, gate)
+    } else {
+        tell(rt, alloc, asked, bytes, gate)
+    }
+}
+
+// The same of what has a text of its own.
+#[tactic(auto, unfolding(crate::specs::Answer::answer_of))]
+fn tell<R: Threads + Sync, G: Gate + Sync>(
+    rt: &R,
+    alloc: Global,
+    asked: Asked,
+    bytes: Vec<u8>,
+    gate: &G,
+) -> Result<Vec<u8>, Stop>
+    requires limits { IsWithinLimits asked }
+    requires told { is_judged asked ≡ false }
     ensures { Ends (answer_of (Input asked) bytes.items) result }
 {
     match asked {
@@ -46,7 +70,19 @@ pub(crate) fn execute<R: Threads + Sync, G: Gate + Sync>(
             Ok(tabled) => run_tabled(rt, alloc, &tabled, gate),
             Err(fault) => Err(Stop::from(fault)),
         },
+        Asked::Certify => match read_whole(alloc, bytes) {
+            Ok(recording) => certify_recording(rt, alloc, &recording, gate),
+            Err(fault) => Err(Stop::from(fault)),
+        },
+        Asked::Verify => unreachable!("it is none that is judged"),
     }
+}
+
+// Whether what is asked is a verdict on an input.
+fn is_judged(asked: Asked) -> bool
+    ensures { result ≡ is_judged asked }
+{
+    matches!(asked, Asked::Verify)
 }
 
 // Reads the bytes as a recording. They are dropped before anything is done with it.
@@ -68,6 +104,28 @@ fn read_whole_tabled(alloc: Global, bytes: Vec<u8>) -> Result<TabledRecording, B
     ensures { inputs.Answers result (inputs.tabled_in bytes.items) }
 {
     read_tabled(alloc, bytes.as_slice())
+}
+
+// Reads them as a recording with certificates.
+fn read_whole_certified(alloc: Global, bytes: Vec<u8>) -> Result<CertifiedRecording, BadInput>
+    ensures { inputs.Answers result (inputs.certified_in bytes.items) }
+{
+    read_certified(alloc, bytes.as_slice())
+}
+
+// Tells whether the lines of an input certify its rays.
+fn verify_bytes<R: Threads + Sync, G: Gate + Sync>(
+    rt: &R,
+    alloc: Global,
+    bytes: Vec<u8>,
+    gate: &G,
+) -> Result<Vec<u8>, Stop>
+    ensures { EndsTo (Input Verify) bytes.items result }
+{
+    match read_whole_certified(alloc, bytes) {
+        Ok(certified) => verify_recording(rt, alloc, &certified, gate),
+        Err(fault) => Err(Stop::from(fault)),
+    }
 }
 
 // Checks a recording: `ok` where it breaks no rule V1 to V32.

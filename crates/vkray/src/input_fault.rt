@@ -13,6 +13,8 @@ pub enum InputFault {
     BadTable(u32),
     /// The entry of this number in `submits` is the first that is bad.
     BadSubmits(u32),
+    /// `certificates` is no list of strings, or not of as many as the traces have rays.
+    BadCertificates,
     /// A command breaks a rule, and no lesser one does.
     Refused(Refusal),
 }

@@ -25,6 +25,7 @@
 
 mod asked;
 mod by_tables;
+mod certificates;
 mod counting;
 mod executing;
 mod input_fault;

@@ -2,6 +2,7 @@ ghost use Rattle.std.specs.Prelude.{◌≡◌, string_bytes, IfOk};
 ghost use Rattle.vkray.specs.Lines as lines;
 
 use ray_bytes::DataRule;
+use ray_certify::Verdict;
 use ray_cmd::{Place, Refusal, Rule};
 use std::alloc::{AllocError as NoMemory, Global};
 
@@ -24,6 +25,16 @@ pub(crate) fn bad_submits_line(alloc: Global, entry: u32) -> Result<String, NoMe
     ensures { IfOk result (λ line. string_bytes line ≡ lines.bad_submits_line entry) }
 {
     format!(in alloc; "bad-submits {entry}\n")
+}
+
+// The line of a verdict on so many lines: `yes N`, or `no I K`.
+pub(crate) fn verdict_line(alloc: Global, count: usize, verdict: Verdict) -> Result<String, NoMemory>
+    ensures { IfOk result (λ line. string_bytes line ≡ lines.verdict_line count verdict) }
+{
+    match verdict {
+        Verdict::Certified => format!(in alloc; "yes {count}\n"),
+        Verdict::Uncertified { command, ray } => format!(in alloc; "no {command} {ray}\n"),
+    }
 }
 
 /// The line of a refusal: `refused I RULE` and its place, and a newline. (Own.)

@@ -51,6 +51,9 @@ impl Reply {
                 let line = bad_submits_line(alloc, entry)?;
                 Reply::of_line(alloc, Status::BadRecording, line.as_bytes())
             }
+            InputFault::BadCertificates => {
+                Reply::of_line(alloc, Status::BadRecording, b"bad-certificates\n")
+            }
             InputFault::Refused(refusal) => {
                 let line = refusal_line(alloc, &refusal)?;
                 Reply::of_line(alloc, Status::Refused, line.as_bytes())

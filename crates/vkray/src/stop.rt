@@ -62,6 +62,7 @@ impl From<BadInput> for Stop {
             BadInput::BadShape(command) => Stop::Input(InputFault::BadShape(command)),
             BadInput::BadTable(entry) => Stop::Input(InputFault::BadTable(entry)),
             BadInput::BadSubmits(entry) => Stop::Input(InputFault::BadSubmits(entry)),
+            BadInput::BadCertificates => Stop::Input(InputFault::BadCertificates),
             BadInput::NoMemory => Stop::NoMemory,
         }
     }

@@ -2,8 +2,8 @@ use Rattle.std.proofs.Common.{◌≡◌, ◌∙◌, ap}
 use Rattle.ray_geom.specs.Scene.{RayValue, ray_value}
 use Rattle.ray_geom.specs.Decided.{where_so, ray_decided}
 use Rattle.ray_action.specs.Outcomes.{recorded_ray}
-use Rattle.ray_device.proofs.Hits.{where_so-SomeIff, within_is}
-use Rattle.ray_device.proofs.tracing.within.Goals as goal
+use Rattle.ray_memory.proofs.Rays.{where_so-SomeIff, within_is}
+use Rattle.ray_memory.proofs.tracing.within.Goals as goal
 
 pub returns : goal.returns
 returns c =

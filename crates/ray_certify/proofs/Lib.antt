@@ -1,0 +1,4 @@
+pub mod PartsSame
+pub mod Counting
+pub mod Verdicts
+pub mod Lines

@@ -1,0 +1,5 @@
+pub mod Parts
+pub mod Rays
+pub mod Verified
+pub mod Certified
+pub mod Scenes
