@@ -1,5 +1,5 @@
 -- What is written in form 2 is read and written again as it is.
-use Rattle.std.proofs.Common.{ℕ, ◌≡◌, ◌<◌, ◌&&◌, Bool, true, false, List, Some, is_none, refl, sym, ap, ◌∙◌}
+use Rattle.std.proofs.Common.{ℕ, ◌≡◌, ◌<◌, ◌&&◌, Bool, true, false, List, Some, refl, sym, ap, ◌∙◌}
 use Rattle.ray_geometries.specs.Contents.{ContentsValue, IsContents}
 use Rattle.ray_bottom.specs.Trees.{without_tree, items_of}
 use Rattle.ray_stated.specs.Stated.{stated_tree}
