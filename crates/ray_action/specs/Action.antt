@@ -43,7 +43,7 @@ pub record Tracing : Type 0 where
 -- is what a command asks for that breaks the static rules, as an update without a source
 pub data Action : Type 0 where
   -- by the host: making and destroying, and what is shown
-  MakeBuffer : (id size : ℕ) (content : List ℕ) → Action
+  MakeBuffer : (id size : ℕ) (content : Option (List ℕ)) → Action
   MakeStructure : (id : ℕ) (form : Form) → Action
   DestroyBuffer : (id : ℕ) → Action
   DestroyStructure : (id : ℕ) → Action

@@ -1,7 +1,8 @@
 -- The actions of a recording: those of each command, with what the status before it tells. (Own.)
-use Rattle.std.specs.Prelude.{ℕ, ◌+◌, ◌*◌, ◌/◌, ◌%◌, List, [], ◌∷◌, ◌++◌, map, Option, Some, None, unwrap_or, length, slice_index_or}
+use Rattle.std.specs.Prelude.{ℕ, ◌+◌, ◌*◌, ◌/◌, ◌%◌, List, [], ◌∷◌, ◌++◌, map, Option, Some, None, if◌then◌else◌, unwrap_or, length, slice_index_or}
 use Rattle.std.specs.List.{range_with_len}
 use Rattle.ray_flags.specs.declared.ray_flags.RayFlags.{RayFlags}
+use Rattle.ray_flags.specs.declared.usage.Usage.{Usage}
 use Rattle.ray_cmd.specs.declared.asked.Asked.{Asked}
 use Rattle.ray_cmd.specs.declared.build_mode.BuildMode.{BuildMode}
 use Rattle.ray_cmd.specs.declared.build_mode.BuildMode.TheVariants as modes
@@ -19,6 +20,7 @@ use Rattle.ray_cmd.specs.declared.thing.Thing.TheVariants as things
 use Rattle.ray_rules.specs.declared.byte_range.ByteRange.{ByteRange}
 use Rattle.ray_rules.specs.declared.live_structure.LiveStructure.{LiveStructure}
 use Rattle.ray_rules.specs.Access.{uses_at, rays_of_piece}
+use Rattle.ray_rules.specs.Buffers.{is_alone}
 use Rattle.ray_rules.specs.Ids.{look}
 use Rattle.ray_rules.specs.Ranges.{range}
 use Rattle.ray_rules.specs.Status.{Status, at_first}
@@ -113,9 +115,14 @@ property_action what structures dst = TellProperty what structures (range dst.bu
 abbrev pub stretch_range : Stretch → ByteRange
 stretch_range stretch = range stretch.buffer stretch.offset stretch.size
 
+-- what a new buffer holds before the zeros. One for scratch memory alone, or for structures alone, keeps no bytes: they are
+-- part of no state, and by V3 no command reads or writes them
+abbrev pub content_of : Usage → Option (List ℕ) → Option (List ℕ)
+content_of usage content = if is_alone usage then None else Some (unwrap_or content [])
+
 -- what a host command does
 unfoldable pub host_action : Command → Action
-host_action (commands.Buffer id size usage content) = MakeBuffer id size (unwrap_or content [])
+host_action (commands.Buffer id size usage content) = MakeBuffer id size (content_of usage content)
 host_action (commands.Structure id kind buffer offset size) = MakeStructure id (record { kind = kind; size = size })
 host_action (commands.Destroy what id) = destroyed what id
 host_action (commands.Sizes kind counts) = ShowSizes kind counts

@@ -1,6 +1,6 @@
 -- What an action writes, and what its store leaves. (Own; after the memory that each command of Vulkan
 -- writes.)
-use Rattle.std.specs.Prelude.{ℕ, ◌-◌, ◌%◌, List, Some, None, Bool, false, ◌==◌, nat_lt, if◌then◌else◌, slice_get, unwrap_or}
+use Rattle.std.specs.Prelude.{ℕ, ◌-◌, ◌%◌, List, Option, Some, None, Bool, false, ◌==◌, nat_lt, if◌then◌else◌, slice_get, unwrap_or}
 use Rattle.std.specs.Option.{option_map}
 use Rattle.byteorder.specs.Endian.{little_bytes}
 use Rattle.ray_action.specs.declared.form.Form.{Form}
@@ -51,9 +51,14 @@ writes Impossible l = false
 
 -- ---- what is left there
 
--- what a location of a new buffer holds: the content, and then zeros
-abbrev pub fresh : ℕ → List ℕ → (l : Location) → Held l → Held l
-fresh size content (ByteAt buffer at) old = if nat_lt at size then Some (unwrap_or (slice_get content at) 0) else None
+-- what a byte of a new buffer holds: the content, and then zeros. A buffer without content keeps no bytes
+abbrev pub fresh_byte : ℕ → Option (List ℕ) → ℕ → Option ℕ
+fresh_byte size None at = None
+fresh_byte size (Some content) at = if nat_lt at size then Some (unwrap_or (slice_get content at) 0) else None
+
+-- what a location of a new buffer holds
+abbrev pub fresh : ℕ → Option (List ℕ) → (l : Location) → Held l → Held l
+fresh size content (ByteAt buffer at) old = fresh_byte size content at
 fresh size content (BufferAt id) old = Some size
 fresh size content (StructureAt id) old = old
 fresh size content (ContentsAt id) old = old

@@ -21,9 +21,9 @@ use Rattle.ray_action.specs.Outcomes.{Gives, Nothing}
 use Rattle.ray_action.specs.Areas.{is_in_range, is_contents_of}
 use Rattle.ray_action.specs.Pieces.{command_at, host_action}
 use Rattle.ray_action.specs.Readiness.{IsMade, IsReady}
-use Rattle.ray_action.specs.Storing.{put, fresh, stored, filled, holding}
+use Rattle.ray_action.specs.Storing.{put, fresh, fresh_byte, stored, filled, holding}
 use Rattle.ray_memory.specs.declared.structure.Structure.{Structure}
-use Rattle.ray_memory.specs.Bytes.{IsFresh, is_between, byte_of_word}
+use Rattle.ray_memory.specs.Bytes.{BufferValue, IsFresh, IsNew, is_between, byte_of_word}
 use Rattle.ray_memory.specs.State.{StateValue, Becomes, HasRoomFor, HoldsIn, WritesIn, IsRoomy, with_top, memory_of, byte_in, size_in, form_in, contents_in, held_by, top_in, top_by}
 
 -- ---- a state with nothing live
@@ -64,17 +64,25 @@ slice-fresh size content bytes is at =
           ∙ sym (cond-false (nat_lt at size) _ _ (grind (arith, nat_tests)))
     ]
 
-pub memory-made_buffer : (s n : StateValue) (id size : ℕ) (content bytes : List ℕ) → Becomes id (Some bytes) s.buffers n.buffers → IsFresh size content bytes
+new-byte : (size : ℕ) (content : Option (List ℕ)) (new : BufferValue) → IsNew size content new → (at : ℕ) → slice_get new.bytes at ≡ fresh_byte size content at
+new-byte size None new is at = ap (λ bytes. slice_get bytes at) is.1
+new-byte size (Some content) new is at = slice-fresh size content new.bytes is.1 at
+
+new-size : (size : ℕ) (content : Option (List ℕ)) (new : BufferValue) → IsNew size content new → new.size ≡ size
+new-size size None new is = is.0
+new-size size (Some content) new is = is.0
+
+pub memory-made_buffer : (s n : StateValue) (id size : ℕ) (content : Option (List ℕ)) (new : BufferValue) → Becomes id (Some new) s.buffers n.buffers → IsNew size content new
     → n.structures ≡ s.structures → n.bottoms ≡ s.bottoms → (l : Location) → memory_of n l ≡ put (MakeBuffer id size content) (Gives Nothing) (memory_of s) l
-memory-made_buffer s n id size content bytes b is same rest (ByteAt buffer at) =
-    read-Becomes (byte_in at) id (Some bytes) s.buffers n.buffers b buffer
-    ∙ if-at buffer id (slice_get bytes at) (byte_in at (look s.buffers buffer)) (fresh size content (ByteAt buffer at) (byte_in at (look s.buffers buffer)))
-    (λ e. slice-fresh size content bytes is at)
-memory-made_buffer s n id size content bytes b is same rest (BufferAt buffer) =
-    read-Becomes size_in id (Some bytes) s.buffers n.buffers b buffer
-    ∙ if-at buffer id (Some (length bytes)) (size_in (look s.buffers buffer)) (Some size) (λ e. ap Some is.sized)
-memory-made_buffer s n id size content bytes b is same rest (StructureAt q) = ap (λ x. form_in (look x q)) same
-memory-made_buffer s n id size content bytes b is same rest (ContentsAt q) =
+memory-made_buffer s n id size content new b is same rest (ByteAt buffer at) =
+    read-Becomes (byte_in at) id (Some new) s.buffers n.buffers b buffer
+    ∙ if-at buffer id (slice_get new.bytes at) (byte_in at (look s.buffers buffer)) (fresh size content (ByteAt buffer at) (byte_in at (look s.buffers buffer)))
+    (λ e. new-byte size content new is at)
+memory-made_buffer s n id size content new b is same rest (BufferAt buffer) =
+    read-Becomes size_in id (Some new) s.buffers n.buffers b buffer
+    ∙ if-at buffer id (Some new.size) (size_in (look s.buffers buffer)) (Some size) (λ e. ap Some (new-size size content new is))
+memory-made_buffer s n id size content new b is same rest (StructureAt q) = ap (λ x. form_in (look x q)) same
+memory-made_buffer s n id size content new b is same rest (ContentsAt q) =
     λ i. contents_in (contents_at q (rest i)) (look (same i) q)
 
 pub memory-dropped_buffer : (s n : StateValue) (id : ℕ) → Becomes id None s.buffers n.buffers
@@ -238,7 +246,7 @@ top-in bottom s = by_kind bottom s.form.kind s.top
 
 -- ---- storing
 
-byte-over : (to : ByteRange) (byte_for : ℕ → Option ℕ) (before after : Ids (List ℕ)) (found : Option (List ℕ)) → WritesIn to byte_for before after
+byte-over : (to : ByteRange) (byte_for : ℕ → Option ℕ) (before after : Ids BufferValue) (found : Option BufferValue) → WritesIn to byte_for before after
     → look before to.buffer ≡ found → (at : ℕ)
     → byte_in at (look after to.buffer)
     ≡ (if is_between to at then option_map (λ byte. unwrap_or (byte_for (at - to.from)) byte) (byte_in at (look before to.buffer)) else byte_in at (look before to.buffer))
@@ -246,13 +254,13 @@ byte-over to byte_for before after None w e at =
     ap (byte_in at) (w.gone e)
     ∙ sym ((λ i. if is_between to at then option_map (λ byte. unwrap_or (byte_for (at - to.from)) byte) (byte_in at (e i)) else byte_in at (e i))
     ∙ same-either (is_between to at))
-byte-over to byte_for before after (Some bytes) w e at =
-    let new = w.here bytes e in
+byte-over to byte_for before after (Some old) w e at =
+    let new = w.here old e in
     ap (byte_in at) new.1
-    ∙ (new.2.each at
+    ∙ (new.2.bytes.each at
     ∙ sym (λ i. if is_between to at then option_map (λ byte. unwrap_or (byte_for (at - to.from)) byte) (byte_in at (e i)) else byte_in at (e i)))
 
-byte-written : (to : ByteRange) (byte_for : ℕ → Option ℕ) (before after : Ids (List ℕ)) → WritesIn to byte_for before after → (buffer at : ℕ)
+byte-written : (to : ByteRange) (byte_for : ℕ → Option ℕ) (before after : Ids BufferValue) → WritesIn to byte_for before after → (buffer at : ℕ)
     → byte_in at (look after buffer)
     ≡ (if (buffer == to.buffer) && is_between to at then option_map (λ byte. unwrap_or (byte_for (at - to.from)) byte) (byte_in at (look before buffer)) else byte_in at (look before buffer))
 byte-written to byte_for before after w buffer at =
@@ -266,14 +274,14 @@ byte-written to byte_for before after w buffer at =
           ap (byte_in at) (w.others buffer differs) ∙ sym (if-false-and (buffer == to.buffer) (is_between to at) _ _ (ne_eqb buffer to.buffer differs))
     ]
 
-size-written : (to : ByteRange) (byte_for : ℕ → Option ℕ) (before after : Ids (List ℕ)) (found : Option (List ℕ)) → WritesIn to byte_for before after
+size-written : (to : ByteRange) (byte_for : ℕ → Option ℕ) (before after : Ids BufferValue) (found : Option BufferValue) → WritesIn to byte_for before after
     → look before to.buffer ≡ found → size_in (look after to.buffer) ≡ size_in (look before to.buffer)
 size-written to byte_for before after None w e = ap size_in (w.gone e ∙ sym e)
-size-written to byte_for before after (Some bytes) w e =
-    let new = w.here bytes e in
-    ap size_in new.1 ∙ (ap Some new.2.sized ∙ sym (ap size_in e))
+size-written to byte_for before after (Some old) w e =
+    let new = w.here old e in
+    ap size_in new.1 ∙ (ap Some new.2.size ∙ sym (ap size_in e))
 
-sizes-written : (to : ByteRange) (byte_for : ℕ → Option ℕ) (before after : Ids (List ℕ)) → WritesIn to byte_for before after → (q : ℕ)
+sizes-written : (to : ByteRange) (byte_for : ℕ → Option ℕ) (before after : Ids BufferValue) → WritesIn to byte_for before after → (q : ℕ)
     → size_in (look after q) ≡ size_in (look before q)
 sizes-written to byte_for before after w q =
     elim (cases_eq q to.buffer) [

@@ -6,7 +6,7 @@ use Rattle.std.proofs.lemmas.Bool.Decides.{nat_tests}
 use Rattle.std.proofs.lemmas.Bool.{cases_lt, cond-true, cond-false}
 use Rattle.std.proofs.lemmas.Option.{slice_get_past, slice_get-get_or}
 use Rattle.ray_action.specs.Memory.{Memory, ByteAt, bytes_from, number_before}
-use Rattle.ray_memory.specs.Bytes.{part_at, part_in}
+use Rattle.ray_memory.specs.Bytes.{BufferValue, part_at, part_in}
 use Rattle.ray_memory.specs.State.{byte_in}
 
 part-there : (bytes : List ℕ) (from n : ℕ) → from + n ≤ length bytes → part_at bytes from n ≡ Some (take n (drop from bytes))
@@ -67,7 +67,7 @@ bytes-some m buffer bytes each from n some =
     ]
 
 -- the bytes of a buffer, be it live or not
-pub bytes-in : (m : Memory) (buffer : ℕ) (found : Option (List ℕ)) → ((at : ℕ) → m (ByteAt buffer at) ≡ byte_in at found)
+pub bytes-in : (m : Memory) (buffer : ℕ) (found : Option BufferValue) → ((at : ℕ) → m (ByteAt buffer at) ≡ byte_in at found)
     → (from n : ℕ) → n ≢ 0 → bytes_from m buffer from n ≡ part_in found from n
 bytes-in m buffer None each from n some = bytes-missing m buffer from n some (each from)
-bytes-in m buffer (Some bytes) each from n some = bytes-some m buffer bytes each from n some
+bytes-in m buffer (Some b) each from n some = bytes-some m buffer b.bytes each from n some

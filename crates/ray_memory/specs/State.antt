@@ -1,5 +1,5 @@
 -- What a state of the program is, and the memory that it holds. (Own.)
-use Rattle.std.specs.Prelude.{ℕ, ◌≡◌, List, length, slice_get, Option, Some, None, true, option_map, option_and_then, ◌==◌, if◌then◌else◌}
+use Rattle.std.specs.Prelude.{ℕ, ◌≡◌, slice_get, Option, Some, None, true, option_map, option_and_then, ◌==◌, if◌then◌else◌}
 use Rattle.ray_geometries.specs.Contents as bottoms
 use Rattle.ray_bottom.specs.Slots.{Slots, contents_at, has_room}
 use Rattle.ray_top.specs.Trees.{TopWithTree, without_tree}
@@ -10,21 +10,21 @@ use Rattle.ray_rules.specs.Ids.{Ids, look}
 use Rattle.ray_action.specs.declared.form.Form.{Form}
 use Rattle.ray_action.specs.Memory.{Contents, Bottom, Top, Memory, ByteAt, BufferAt, StructureAt, ContentsAt}
 use Rattle.ray_memory.specs.declared.structure.Structure.{Structure}
-use Rattle.ray_memory.specs.Bytes.{IsWritten}
+use Rattle.ray_memory.specs.Bytes.{BufferValue, IsWrittenIn}
 
--- the bytes of each live buffer, the live structures with what top structures hold, and what bottom
+-- each live buffer, the live structures with what top structures hold, and what bottom
 -- structures hold
 pub record StateValue : Type 0 where
-  pub buffers : Ids (List ℕ)
+  pub buffers : Ids BufferValue
   pub structures : Ids Structure
   pub bottoms : Slots
 
--- a byte of a buffer that is there, and its size
-abbrev pub byte_in : ℕ → Option (List ℕ) → Option ℕ
-byte_in at buffer = option_and_then (λ bytes. slice_get bytes at) buffer
+-- a byte of a buffer that is there, where it keeps its bytes, and its size
+abbrev pub byte_in : ℕ → Option BufferValue → Option ℕ
+byte_in at buffer = option_and_then (λ (b : BufferValue). slice_get b.bytes at) buffer
 
-abbrev pub size_in : Option (List ℕ) → Option ℕ
-size_in buffer = option_map length buffer
+abbrev pub size_in : Option BufferValue → Option ℕ
+size_in buffer = option_map (λ (b : BufferValue). b.size) buffer
 
 -- what a structure that is there is
 abbrev pub form_in : Option Structure → Option Form
@@ -79,9 +79,9 @@ pub record HoldsIn (id : ℕ) (top : TopWithTree) (before after : Ids Structure)
   pub each : (q : ℕ) → look after q ≡ (if q == id then option_map (with_top top) (look before q) else look before q)
 
 -- the bytes of a range are written in its buffer, where that is live
-pub record WritesIn (to : ByteRange) (byte_for : ℕ → Option ℕ) (before after : Ids (List ℕ)) : Type 0 where
-  pub here : (bytes : List ℕ) → look before to.buffer ≡ Some bytes
-      → (new : List ℕ) × (look after to.buffer ≡ Some new) × IsWritten to byte_for bytes new
+pub record WritesIn (to : ByteRange) (byte_for : ℕ → Option ℕ) (before after : Ids BufferValue) : Type 0 where
+  pub here : (old : BufferValue) → look before to.buffer ≡ Some old
+      → (new : BufferValue) × (look after to.buffer ≡ Some new) × IsWrittenIn to byte_for old new
   pub gone : look before to.buffer ≡ None → look after to.buffer ≡ None
   pub others : (q : ℕ) → (q ≡ to.buffer → ⊥) → look after q ≡ look before q
 

@@ -2,10 +2,11 @@ ghost use Rattle.std.specs.Prelude.{[], ◌≡◌, ◌<◌, length, Some, None, 
 ghost use Rattle.ray_action.specs.Memory.{Location, StructureAt};
 ghost use Rattle.ray_action.specs.Action.{MakeBuffer, MakeStructure, DestroyBuffer, DestroyStructure};
 ghost use Rattle.ray_action.specs.Outcomes.{Gives, Nothing};
-ghost use Rattle.ray_action.specs.Pieces.{command_at, host_action, destroyed};
+ghost use Rattle.ray_action.specs.Pieces.{command_at, content_of, host_action, destroyed};
 ghost use Rattle.ray_action.specs.Readiness.{IsReady};
 ghost use Rattle.ray_action.specs.Storing.{put};
 ghost use Rattle.ray_memory.specs.State.{memory_of, Becomes, HasRoomFor};
+ghost use Rattle.ray_rules.specs.Buffers.{is_alone};
 
 use crate::buffer::Buffer;
 use crate::state::State;
@@ -13,6 +14,7 @@ use crate::structure::Structure;
 use ray_action::Form;
 use ray_bottom::Bottoms;
 use ray_cmd::{Bytes, Command, Recording, StructureKind, Thing};
+use ray_flags::Usage;
 use std::alloc::AllocError as NoMemory;
 use std::collections::BTreeMap;
 
@@ -45,9 +47,9 @@ impl State {
             Command::Buffer {
                 id,
                 size,
+                usage,
                 content,
-                ..
-            } => self.make_buffer(*id, *size as usize, told(content)),
+            } => self.make_told(*id, *size as usize, *usage, told(content)),
             Command::Structure { id, kind, size, .. } => self.make_structure(
                 *id,
                 Form {
@@ -63,10 +65,39 @@ impl State {
         }
     }
 
+    // A buffer of `size` bytes for a usage.
+    fn make_told(
+        &mut self,
+        id: u32,
+        size: usize,
+        usage: Usage,
+        content: &[u8],
+    ) -> Result<(), NoMemory>
+        ensures ok { OnOk result ((l : Location) → memory_of self.new l
+            ≡ put (MakeBuffer id size (content_of usage (Some content.now))) (Gives Nothing)
+            (memory_of self.old) l) }
+        ensures err { OnErr result ((l : Location) → memory_of self.new l ≡ memory_of self.old l) }
+    {
+        if is_alone(usage) {
+            self.make_bare(id, size)
+        } else {
+            self.make_buffer(id, size, content)
+        }
+    }
+
+    // A buffer of `size` bytes that keeps none of them.
+    fn make_bare(&mut self, id: u32, size: usize) -> Result<(), NoMemory>
+        ensures ok { OnOk result ((l : Location) → memory_of self.new l
+            ≡ put (MakeBuffer id size None) (Gives Nothing) (memory_of self.old) l) }
+        ensures err { OnErr result ((l : Location) → memory_of self.new l ≡ memory_of self.old l) }
+    {
+        insert_buffer(&mut self.buffers, id, Buffer::bare(self.alloc, size))
+    }
+
     // A buffer of `size` bytes: the content, and then zeros.
     fn make_buffer(&mut self, id: u32, size: usize, content: &[u8]) -> Result<(), NoMemory>
         ensures ok { OnOk result ((l : Location) → memory_of self.new l
-            ≡ put (MakeBuffer id size content.now) (Gives Nothing) (memory_of self.old) l) }
+            ≡ put (MakeBuffer id size (Some content.now)) (Gives Nothing) (memory_of self.old) l) }
         ensures err { OnErr result ((l : Location) → memory_of self.new l ≡ memory_of self.old l) }
     {
         let buffer = Buffer::fresh(self.alloc, size, content)?;
@@ -111,6 +142,13 @@ impl State {
         remove_structure(&mut self.structures, id);
         self.bottoms.drop_id(id);
     }
+}
+
+// Whether a usage is for scratch memory alone, or for structures alone.
+fn is_alone(usage: Usage) -> bool
+    ensures { result ≡ is_alone usage }
+{
+    usage == Usage::SCRATCH || usage == Usage::STRUCTURE
 }
 
 // The content of a new buffer, which is empty where none is told.

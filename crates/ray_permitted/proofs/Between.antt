@@ -204,7 +204,7 @@ form_of_structure id (BufferAt b) e = absurd cc
 form_of_structure id (StructureAt b) e = e
 form_of_structure id (ContentsAt b) e = absurd cc
 
-pub makes_buffer : (id size : ℕ) (content : List ℕ) (a : Action) (l : Location) → Clash a (MakeBuffer id size content) l → is_of_buffer id l ≡ true
+pub makes_buffer : (id size : ℕ) (content : Option (List ℕ)) (a : Action) (l : Location) → Clash a (MakeBuffer id size content) l → is_of_buffer id l ≡ true
 makes_buffer id size content a l (BothWrite p q) = q
 makes_buffer id size content a l (ReadsLater p q) = either (is_size id l) false q (λ size_read. size_of_buffer id l size_read) (λ none. absurd cc)
 makes_buffer id size content a l (WritesLater p q) = q

@@ -1,6 +1,6 @@
 -- Conflicting actions of accepted commands are ordered by an order that separates these.
 use Rattle.std.proofs.Common.{◌≡◌, ◌<◌, ◌≤◌, ℕ, Bool, true, false, List, [], ◌∷◌, Some, inl, inr, refl, sym, ◌∙◌, ap, subst, arith}
-use Rattle.std.specs.Prelude.{◌&&◌, ◌||◌, nat_lt, slice_get, unwrap_or}
+use Rattle.std.specs.Prelude.{◌&&◌, ◌||◌, nat_lt, slice_get}
 use Rattle.std.specs.Option.{option_map_or}
 use Rattle.std.proofs.lemmas.Bool.{cases_eq, cases_lt}
 use Rattle.ray_schedule.specs.Conflicts.{AreOrdered, Conflict, IsForward, ReadAfterWrite, WriteAfterRead, WriteAfterWrite}
@@ -20,7 +20,7 @@ use Rattle.ray_rules.specs.Status.{Status}
 use Rattle.ray_action.specs.Action.{Action, MakeBuffer, MakeStructure, Rest, areas_read}
 use Rattle.ray_action.specs.Areas.{cover}
 use Rattle.ray_action.specs.Memory.{Location}
-use Rattle.ray_action.specs.Pieces.{Numbered, actions_of, host_action}
+use Rattle.ray_action.specs.Pieces.{Numbered, actions_of, content_of, host_action}
 use Rattle.ray_action.specs.Running.{action_at, number_at}
 use Rattle.ray_action.specs.Storing.{writes}
 use Rattle.ray_action.specs.Touching.{holds_data, touched}
@@ -123,14 +123,14 @@ waits rec n i j c d s a b l k m p stage idle =
     wait_between rec i j (device_busy rec i c s p.first stage (state_kept rec n i c p.accepted (omega (arith, less, within)) p.first).phase) less idle
 
 makes_wait : (rec : List Command) (n i j : ℕ) (c : Command) (s : Stage) (a b : Action) (l : Location) (k m id size : ℕ) (usage : _) (content : _)
-    → Pair rec n i j c (commands.Buffer id size usage content) a b l k m → stage_of c ≡ Some s → MakeBuffer id size (unwrap_or content []) ≡ b → i < last_wait rec j
+    → Pair rec n i j c (commands.Buffer id size usage content) a b l k m → stage_of c ≡ Some s → MakeBuffer id size (content_of usage content) ≡ b → i < last_wait rec j
 unfolding v1
 makes_wait rec n i j c s a b l k m id size usage content p stage same =
     let d : Command = commands.Buffer id size usage content in
     let names = (state_kept rec n j d p.accepted p.within p.second).names in
     let clash = subst (λ x. Clash a x l) (sym same) p.clash in
     waited_at_buffer rec n i j c s id p.accepted p.first stage p.less p.within
-    (of_buffer (status_at rec i) id l (makes_buffer id size (unwrap_or content []) a l clash) (is_there rec n i j c d s a b l k m p stage))
+    (of_buffer (status_at rec i) id l (makes_buffer id size (content_of usage content) a l clash) (is_there rec n i j c d s a b l k m p stage))
     (not_broken (is_live (status_at rec j).buffers id) names)
 
 structure_waits : (rec : List Command) (n i j : ℕ) (c : Command) (s : Stage) (a b : Action) (l : Location) (k m id : ℕ) (kind : _) (buffer offset size : ℕ)

@@ -1,5 +1,5 @@
 -- What the rules say of an action, in relational words over the status: no other consequence of them is used.
-use Rattle.std.proofs.Common.{◌≡◌, ℕ, true, false, List, [], ◌∷◌, Option, Some, None, IsSome}
+use Rattle.std.proofs.Common.{◌≡◌, ℕ, true, false, List, [], ◌∷◌, Option, Some, None, IsSome, IfSome}
 use Rattle.ray_flags.specs.Admission.{AsksBoth}
 use Rattle.ray_geometries.specs.Contents as bottoms
 use Rattle.ray_top.specs.Contents as tops
@@ -24,7 +24,7 @@ use Rattle.ray_rules.specs.Within.{AreInBuffers, IsInBuffer}
 use Rattle.ray_action.specs.Areas.{has}
 use Rattle.ray_action.specs.Action.{Action, Building, Tracing, MakeBuffer, MakeStructure, DestroyBuffer, DestroyStructure, ShowSizes, ShowBytes, UpdateBytes, FillBytes, CopyBytes, BuildBottom, UpdateBottom, BuildTop, UpdateTop, CopyStructure, SerializeStructure, DeserializeStructure, TellProperty, TraceRays, Rest, Impossible, content_buffer}
 use Rattle.ray_action.specs.Readiness.{AreCounts, AreOfBottom, IsOfTop}
-use Rattle.ray_ready.proofs.Ties.{IsBuilt, IsFresh}
+use Rattle.ray_ready.proofs.Ties.{IsBuilt, IsFresh, keeps_bytes_at}
 
 -- a structure is live, and of a kind
 pub record IsLiveOf (kind : StructureKind) (found : Option LiveStructure) : Type 0 where
@@ -42,10 +42,20 @@ pub record IsBuiltAny (found : Option LiveStructure) : Type 0 where
   pub kind : StructureKind
   pub built : IsBuiltOf kind found
 
+-- a range is in its buffer, which keeps its bytes
+abbrev pub IsKeptIn : Ids LiveBuffer → ByteRange → Type 0
+IsKeptIn buffers r = IsInBuffer buffers r × (keeps_bytes_at buffers r.buffer ≡ true)
+
+-- the buffers of ranges keep their bytes
+abbrev pub AreKeptIn : Ids LiveBuffer → List (Option ByteRange) → Type 0
+AreKeptIn buffers [] = Unit {0}
+AreKeptIn buffers (r ∷ rs) = IfSome r (λ (range : ByteRange). keeps_bytes_at buffers range.buffer ≡ true) × AreKeptIn buffers rs
+
 -- what a geometry reads is there, and the buffer of its content is live
 pub record IsReadable (buffers : Ids LiveBuffer) (g : Geometry) : Type 0 where
   pub live : IsSome (look buffers (content_buffer g))
   pub within : AreInBuffers buffers (inputs_read buffers g)
+  pub kept : AreKeptIn buffers (inputs_read buffers g)
 
 abbrev pub AreReadable : Ids LiveBuffer → List Geometry → Type 0
 AreReadable buffers [] = Unit {0}
@@ -86,7 +96,7 @@ pub record MayCopy (z : Status) (mode : CopyMode) (src dst : ℕ) : Type 0 where
   pub fits : FitsKind mode kind
 
 pub record MayDeserialize (z : Status) (from : ByteRange) (dst : ℕ) (uses : List ℕ) : Type 0 where
-  pub within : IsInBuffer z.buffers from
+  pub within : IsKeptIn z.buffers from
   pub live : IsSome (look z.structures dst)
   pub are_built : (u : ℕ) → has uses u ≡ true → IsBuiltOf kinds.Bottom (look z.structures u)
 
@@ -102,7 +112,7 @@ MayTellAll z what [] = Unit {0}
 MayTellAll z what (id ∷ ids) = MayTell z what id × MayTellAll z what ids
 
 pub record MayTrace (rec : List Command) (z : Status) (trace : Tracing) : Type 0 where
-  pub rays : IsInBuffer z.buffers trace.rays
+  pub rays : IsKeptIn z.buffers trace.rays
   pub by : Built
   pub top : IsBuilt (look z.structures trace.top) kinds.Top by
   pub uses : trace.uses ≡ uses_of rec by
@@ -117,10 +127,10 @@ IsAllowed rec z (MakeStructure id form) = look z.structures id ≡ None
 IsAllowed rec z (DestroyBuffer id) = Unit {0}
 IsAllowed rec z (DestroyStructure id) = Unit {0}
 IsAllowed rec z (ShowSizes kind counts) = AreCounts counts
-IsAllowed rec z (ShowBytes from form) = IsInBuffer z.buffers from
+IsAllowed rec z (ShowBytes from form) = IsKeptIn z.buffers from
 IsAllowed rec z (UpdateBytes to content) = Unit {0}
 IsAllowed rec z (FillBytes to value) = Unit {0}
-IsAllowed rec z (CopyBytes from to) = IsInBuffer z.buffers from
+IsAllowed rec z (CopyBytes from to) = IsKeptIn z.buffers from
 IsAllowed rec z (BuildBottom build flags gs) = MayBuildBottom z build gs × (bottoms.has_both_fast flags ≡ false)
 IsAllowed rec z (UpdateBottom build src gs) = IsBuiltOf kinds.Bottom (look z.structures src) × MayBuildBottom z build gs
 IsAllowed rec z (BuildTop build flags uses instances) = MayBuildTop rec z build uses instances × (tops.has_both_fast flags ≡ false)

@@ -1,11 +1,11 @@
 -- The actions of each command that may be run are ready in their turn, and keep the invariant.
 use Rattle.std.proofs.Common.{◌≡◌, ◌+◌, ◌*◌, ◌^◌, ◌-◌, ◌<◌, ◌≤◌, ℕ, Bool, true, false, List, [], ◌∷◌, Option, Some, None, IsSome, refl, sym, ◌∙◌, ap, subst, arith, length, map, min}
 use Rattle.std.proofs.lemmas.Bool.Decides.{nat_tests}
-use Rattle.std.specs.Prelude.{not, ◌||◌, ◌&&◌, ◌==◌, nat_lt, slice_get, sum, unwrap_or}
+use Rattle.std.specs.Prelude.{not, ◌||◌, ◌&&◌, ◌==◌, nat_lt, slice_get, sum}
 use Rattle.std.specs.List.{list_any, range_with_len}
 use Rattle.std.specs.Option.{option_map_or, option_and_then}
 use Rattle.ray_flags.specs.Admission.{AsksBoth}
-use Rattle.ray_flags.specs.Flags.{ray_has, CullBackFacing, CullFrontFacing, CullNoOpaque, CullOpaque, NoOpaque, Opaque, SkipAabbs, SkipTriangles}
+use Rattle.ray_flags.specs.Flags.{Storage, TransferDst, TransferSrc, ray_has, CullBackFacing, CullFrontFacing, CullNoOpaque, CullOpaque, NoOpaque, Opaque, SkipAabbs, SkipTriangles}
 use Rattle.ray_flags.specs.declared.ray_flags.RayFlags.{RayFlags}
 use Rattle.ray_flags.specs.declared.usage.Usage.{Usage}
 use Rattle.ray_script.specs.declared.raw_rule.RawRule.{RawRule}
@@ -26,6 +26,7 @@ use Rattle.ray_rules.specs.declared.live_structure.LiveStructure.{LiveStructure}
 use Rattle.ray_rules.specs.declared.phase.Phase.{Phase}
 use Rattle.ray_rules.specs.declared.phase.Phase.TheVariants.{Idle, Recording, Ended}
 use Rattle.ray_rules.specs.Access.{rays_of_piece, uses_at}
+use Rattle.ray_rules.specs.Buffers.{is_private_at, lacks_usage, v3}
 use Rattle.ray_rules.specs.Conflicts.{v16}
 use Rattle.ray_rules.specs.FlagRules.{are_several, is_contradiction, v22}
 use Rattle.ray_rules.specs.Ids.{is_live, look}
@@ -41,13 +42,14 @@ use Rattle.ray_rules.specs.Status as status
 use Rattle.ray_rules.specs.Structures.{differ_in_kind, is_bottom, is_bottom_at, is_top, is_top_at, v19}
 use Rattle.ray_action.specs.Memory.{Memory}
 use Rattle.ray_action.specs.Action.{Action, MakeBuffer, MakeStructure, DestroyBuffer, DestroyStructure, ShowSizes, ShowBytes, UpdateBytes, FillBytes, CopyStructure, SerializeStructure, DeserializeStructure, Rest}
-use Rattle.ray_action.specs.Pieces.{actions_of, cull_mask, host_action, property_action, rays_action, region_action, stretch_range, trace_pieces}
+use Rattle.ray_action.specs.Pieces.{actions_of, content_of, cull_mask, host_action, property_action, rays_action, region_action, stretch_range, trace_pieces}
 use Rattle.ray_action.specs.Readiness.{AreCounts}
 use Rattle.ray_ready.specs.Accepted.{MayRun}
-use Rattle.ray_ready.proofs.Ties.{Ties, form_of}
+use Rattle.ray_ready.proofs.Ties.{Ties, form_of, keeps_bytes_at}
 use Rattle.ray_ready.proofs.Storing.{ties_created, ties_destroyed, ties_gone, ties_later, ties_made}
 use Rattle.ray_ready.proofs.Allowed.{FitsKind, IsBuiltAny, IsBuiltOf, IsLiveOf, MayCopy, MayDeserialize, MayTellAll, MayTrace}
 use Rattle.ray_ready.proofs.Ready.{allowed_ready}
+use Rattle.ray_ready.proofs.Usages.{kept_by, kept_open}
 use Rattle.ray_ready.proofs.Building.{structure_copied, structure_restored}
 use Rattle.ray_ready.proofs.Leading.{AreOfBytes, Leads, bytes_lead, leads_to, one_leads}
 use Rattle.ray_ready.proofs.Infos.{infos_apart, infos_lead}
@@ -73,17 +75,27 @@ phase_on rec i z m phase pending ties =
 
 -- ---- regions
 
-regions_allowed : (rec : List Command) (z : Status) (src dst : ℕ) (regions : List Region) → Fail (region_reaches_out z src dst) regions
-    → AreOfBytes rec z (map (region_action src dst) regions)
-regions_allowed rec z src dst [] pass = tt
-regions_allowed rec z src dst (r ∷ regions) pass = (
+regions_allowed : (rec : List Command) (z : Status) (src dst : ℕ) (regions : List Region) → keeps_bytes_at z.buffers src ≡ true
+    → Fail (region_reaches_out z src dst) regions → AreOfBytes rec z (map (region_action src dst) regions)
+regions_allowed rec z src dst [] kept pass = tt
+regions_allowed rec z src dst (r ∷ regions) kept pass = (
   (
-    within z.buffers (range src r.src_offset r.size)
-        (neither_first (reaches_out z src r.src_offset r.size) (reaches_out z dst r.dst_offset r.size) pass.0),
+    (
+      within z.buffers (range src r.src_offset r.size)
+          (neither_first (reaches_out z src r.src_offset r.size) (reaches_out z dst r.dst_offset r.size) pass.0),
+      kept,
+    ),
     tt,
   ),
-  regions_allowed rec z src dst regions pass.1,
+  regions_allowed rec z src dst regions kept pass.1,
 )
+
+-- what may be copied from, restored from or traced keeps its bytes
+source_keeps : (z : Status) (src dst : ℕ) → (lacks_usage z TransferSrc src || lacks_usage z TransferDst dst) ≡ false → keeps_bytes_at z.buffers src ≡ true
+source_keeps z src dst e = kept_by z TransferSrc src refl refl (neither_first (lacks_usage z TransferSrc src) (lacks_usage z TransferDst dst) e)
+
+rays_keep : (z : Status) (rays hits : ℕ) → (lacks_usage z Storage rays || lacks_usage z Storage hits) ≡ false → keeps_bytes_at z.buffers rays ≡ true
+rays_keep z rays hits e = kept_by z Storage rays refl refl (neither_first (lacks_usage z Storage rays) (lacks_usage z Storage hits) e)
 
 -- ---- copies of structures
 
@@ -186,7 +198,7 @@ serialize_allowed rec z src dst form k =
 
 deserialize_allowed : (rec : List Command) (z : Status) (src : Stretch) (dst : ℕ) (uses : List ℕ) → Keeps rec z (commands.Deserialize src dst uses)
     → MayDeserialize z (stretch_range src) dst uses
-unfolding v1 v4 v7 v17
+unfolding v1 v3 v4 v7 v17
 deserialize_allowed rec z src dst uses k =
     let named = neither_second (lacks_buffer z src.buffer) (lacks_structure z dst || list_any (lacks_structure z) uses)
     (not_broken (lacks_buffer z src.buffer || (lacks_structure z dst || list_any (lacks_structure z) uses)) k.names) in
@@ -194,7 +206,10 @@ deserialize_allowed rec z src dst uses k =
     let tops = none_any (is_top_at z) uses
     (neither_first (list_any (is_top_at z) uses) (is_bottom_at z dst && not (length uses == 0)) (not_broken (uses_wrongly z dst uses) k.kinds)) in
     let built = none_any (is_unbuilt z) uses (not_broken (list_any (is_unbuilt z) uses) k.built) in record {
-      within = within z.buffers (stretch_range src) (not_broken (reaches_out z src.buffer src.offset src.size) k.spans);
+      within = (
+        within z.buffers (stretch_range src) (not_broken (reaches_out z src.buffer src.offset src.size) k.spans),
+        kept_by z TransferSrc src.buffer refl refl (not_broken (lacks_usage z TransferSrc src.buffer) k.usages),
+      );
       live = is_there (look z.structures dst) (neither_first (lacks_structure z dst) (list_any (lacks_structure z) uses) named);
       are_built = λ u has_it.
           built_of kinds.Bottom (look z.structures u)
@@ -253,7 +268,7 @@ trace_allowed : (rec : List Command) (z : Status) (top : ℕ) (rays : Spot) (cou
       flags = flags;
       mask = cull_mask mask;
     })
-unfolding v1 v4 v7 v20 v21 v22
+unfolding v1 v3 v4 v7 v20 v21 v22
 trace_allowed rec z top rays count hits flags mask script k n =
     let named = not_broken (lacks_structure z top || (lacks_buffer z rays.buffer || lacks_buffer z hits.buffer)) k.names in
     let live = is_there (look z.structures top) (neither_first (lacks_structure z top) (lacks_buffer z rays.buffer || lacks_buffer z hits.buffer) named) in
@@ -266,7 +281,10 @@ trace_allowed rec z top rays count hits flags mask script k n =
     neither_first (reaches_out z rays.buffer rays.offset (40 * count)) (reaches_out z hits.buffer hits.offset (80 * count))
     (not_broken (reaches_out z rays.buffer rays.offset (40 * count) || reaches_out z hits.buffer hits.offset (80 * count)) k.spans) in
     let fits : rays.offset + 40 * count ≤ size_at z.buffers rays.buffer = not_outside (size_at z.buffers rays.buffer) (rays.offset + 40 * count) inside in record {
-      rays = λ b low high. ray_within rays.offset count n (size_at z.buffers rays.buffer) b fits low high;
+      rays = (
+        λ b low high. ray_within rays.offset count n (size_at z.buffers rays.buffer) b fits low high,
+        rays_keep z rays.buffer hits.buffer (not_broken (lacks_usage z Storage rays.buffer || lacks_usage z Storage hits.buffer) k.usages),
+      );
       by = by;
       top = is.built;
       uses = ap (λ o. option_map_or (uses_of rec) o []) built;
@@ -293,13 +311,13 @@ structure_new z id kind buffer offset size e =
     nothing (look z.structures id) (neither_first (is_live z.structures id) (lacks_buffer z buffer) (not_broken (is_live z.structures id || lacks_buffer z buffer) e))
 
 pub command_leads : (rec : List Command) (i : ℕ) (z : Status) (c : Command) (m : Memory) → slice_get rec i ≡ Some c → MayRun rec z c → Ties rec i 0 z m → LeadsOn rec i z c m
-unfolding actions_of host_action status.after v4 v16
+unfolding actions_of host_action status.after v3 v4 v16
 command_leads rec i z (commands.Buffer id size usage content) m is may ties =
     let k = keeps rec z (commands.Buffer id size usage content) may.rules in
-    let a : Action = MakeBuffer id size (unwrap_or content []) in
+    let a : Action = MakeBuffer id size (content_of usage content) in
     one_leads a m (Ties rec (i + 1) 0 (status.after i (commands.Buffer id size usage content) z))
     (allowed_ready rec i 0 z m a ties (buffer_new z id size usage content k.names))
-    (λ o e. ties_later rec i 0 _ _ (ties_made rec i 0 z m id size (unwrap_or content []) usage o ties))
+    (λ o e. ties_later rec i 0 _ _ (ties_made rec i 0 z m id size content usage o ties))
 command_leads rec i z (commands.Structure id kind buffer offset size) m is may ties =
     let k = keeps rec z (commands.Structure id kind buffer offset size) may.rules in
     let s : LiveStructure = record { made = i; kind = kind; buffer = buffer; offset = offset; size = size; built = None } in
@@ -322,12 +340,15 @@ command_leads rec i z commands.Submit m is may ties = phase_on rec i z m Idle tr
 command_leads rec i z commands.Wait m is may ties = phase_on rec i z m z.phase false ties
 command_leads rec i z (commands.Read buffer offset size form) m is may ties =
     let k = keeps rec z (commands.Read buffer offset size form) may.rules in
-    bytes_on rec i z (ShowBytes (range buffer offset size) form ∷ []) m ((within z.buffers (range buffer offset size) (not_broken (reaches_out z buffer offset size) k.spans), tt), tt) ties
+    let inside = within z.buffers (range buffer offset size) (not_broken (reaches_out z buffer offset size) k.spans) in
+    let kept = kept_open z buffer (not_broken (is_private_at z buffer) k.usages) in
+    bytes_on rec i z (ShowBytes (range buffer offset size) form ∷ []) m (((inside, kept), tt), tt) ties
 command_leads rec i z (commands.Update buffer offset content) m is may ties = bytes_on rec i z (UpdateBytes (range buffer offset (length content)) content ∷ []) m ((tt, tt), tt) ties
 command_leads rec i z (commands.Fill buffer offset size value) m is may ties = bytes_on rec i z (FillBytes (range buffer offset size) value ∷ []) m ((tt, tt), tt) ties
 command_leads rec i z (commands.Copy src dst regions) m is may ties =
     let k = keeps rec z (commands.Copy src dst regions) may.rules in
-    bytes_on rec i z (map (region_action src dst) regions) m (regions_allowed rec z src dst regions (no_part (region_reaches_out z src dst) regions k.spans)) ties
+    let kept = source_keeps z src dst (not_broken (lacks_usage z TransferSrc src || lacks_usage z TransferDst dst) k.usages) in
+    bytes_on rec i z (map (region_action src dst) regions) m (regions_allowed rec z src dst regions kept (no_part (region_reaches_out z src dst) regions k.spans)) ties
 command_leads rec i z (commands.Build infos) m is may ties =
     let k = keeps rec z (commands.Build infos) may.rules in
     infos_lead rec i 0 z z m infos infos is (λ n j x same there. subst (λ q. slice_get infos q ≡ Some x) (sym (same ∙ omega arith)) there)

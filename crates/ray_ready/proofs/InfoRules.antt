@@ -17,6 +17,8 @@ use Rattle.ray_cmd.specs.declared.structure_kind.StructureKind.{StructureKind}
 use Rattle.ray_cmd.specs.declared.structure_kind.StructureKind.TheVariants as kinds
 use Rattle.ray_rules.specs.declared.built.Built.{Built}
 use Rattle.ray_rules.specs.declared.live_structure.LiveStructure.{LiveStructure}
+use Rattle.ray_flags.specs.Flags.{Scratch}
+use Rattle.ray_rules.specs.Buffers.{lacks_info_usage, lacks_input_usage, lacks_usage, v3}
 use Rattle.ray_rules.specs.Ids.{look}
 use Rattle.ray_rules.specs.Names.{lacks_buffer, lacks_input, lacks_named, lacks_source, lacks_structure, v1}
 use Rattle.ray_rules.specs.Origins.{info_of, is_deserialized}
@@ -39,6 +41,7 @@ use Rattle.ray_ready.proofs.Infos.{AreAllowedFrom}
 -- all that the rules say of one info
 pub record InfoKeeps (rec : List Command) (z : Status) (info : Info) : Type 0 where
   pub names : lacks_named z info ≡ false
+  pub usages : lacks_info_usage z info ≡ false
   pub spans : info_reaches_out z info ≡ false
   pub kinds : is_wrong_info z info ≡ false
   pub shapes : is_misshapen z info ≡ false
@@ -81,6 +84,7 @@ uses_named z info e =
 inputs_readable : (rec : List Command) (z : Status) (info : Info) → InfoKeeps rec z info → AreReadable z.buffers info.geometries
 inputs_readable rec z info k =
     readable z info.geometries (inputs_named z info k.names) (none_any (input_reaches_out z) info.geometries k.spans)
+    (none_any (lacks_input_usage z) info.geometries (neither_second (lacks_usage z Scratch info.scratch.buffer) (list_any (lacks_input_usage z) info.geometries) k.usages))
 
 -- ---- the limits
 
@@ -299,11 +303,13 @@ all_fit (info ∷ infos) e = (
 
 put_together : (rec : List Command) (z : Status) (infos : List Info) → Fail (lacks_named z) infos → Fail (info_reaches_out z) infos → Fail (is_wrong_info z) infos
     → Fail (is_misshapen z) infos → Fail prefers_both infos → Fail (is_too_large z) infos → Fail (lacks_built_source rec z) infos
-    → Fail (differs_from_source rec z) infos → Fail (uses_unbuilt z) infos → Fail (λ info. not (has_its_source info)) infos → InfosKeep rec z infos
-put_together rec z [] a b c d e f g h u w = tt
-put_together rec z (info ∷ infos) a b c d e f g h u w = (
+    → Fail (differs_from_source rec z) infos → Fail (uses_unbuilt z) infos → Fail (λ info. not (has_its_source info)) infos
+    → Fail (lacks_info_usage z) infos → InfosKeep rec z infos
+put_together rec z [] a b c d e f g h u w v = tt
+put_together rec z (info ∷ infos) a b c d e f g h u w v = (
   record {
     names = a.0;
+    usages = v.0;
     spans = b.0;
     kinds = c.0;
     shapes = d.0;
@@ -314,7 +320,7 @@ put_together rec z (info ∷ infos) a b c d e f g h u w = (
     built = u.0;
     fits = is_so (has_its_source info) w.0;
   },
-  put_together rec z infos a.1 b.1 c.1 d.1 e.1 f.1 g.1 h.1 u.1 w.1,
+  put_together rec z infos a.1 b.1 c.1 d.1 e.1 f.1 g.1 h.1 u.1 w.1 v.1,
 )
 
 all_allowed : (rec : List Command) (z : Status) (k : ℕ) (infos : List Info) → InfosKeep rec z infos → AreAllowedFrom rec z z k infos
@@ -327,11 +333,11 @@ first_none (Some p) b e = absurd cc
 
 pub infos_allowed : (rec : List Command) (z : Status) (infos : List Info) → Keeps rec z (commands.Build infos) → list_all has_its_source infos ≡ true
     → AreAllowedFrom rec z z 0 infos
-unfolding v1 v4 v7 v8 v9 v10 v13 v15 v17
+unfolding v1 v3 v4 v7 v8 v9 v10 v13 v15 v17
 infos_allowed rec z infos keeps fit =
     all_allowed rec z 0 infos
     (put_together rec z infos (no_part (lacks_named z) infos keeps.names) (no_part (info_reaches_out z) infos keeps.spans)
     (no_part (is_wrong_info z) infos keeps.kinds) (no_part (is_misshapen z) infos keeps.shapes) (no_part prefers_both infos keeps.fast)
     (no_part (is_too_large z) infos (first_none (first_part (is_too_large z) infos) (part_at 4096 (nat_lt 4096 (length infos))) keeps.counts))
     (no_part (lacks_built_source rec z) infos keeps.sources) (no_part (differs_from_source rec z) infos keeps.updates)
-    (no_part (uses_unbuilt z) infos keeps.built) (all_fit infos fit))
+    (no_part (uses_unbuilt z) infos keeps.built) (all_fit infos fit) (no_part (lacks_info_usage z) infos keeps.usages))

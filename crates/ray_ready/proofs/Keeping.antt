@@ -1,5 +1,5 @@
 -- What leaves a status and a memory tied.
-use Rattle.std.proofs.Common.{◌≡◌, ◌<◌, ℕ, List, Option, Some, None, IsSome, sym, ◌∙◌, ap, subst, inl, inr}
+use Rattle.std.proofs.Common.{◌≡◌, ◌<◌, ℕ, true, List, Option, Some, None, IsSome, sym, ◌∙◌, ap, subst, inl, inr}
 use Rattle.std.specs.Prelude.{◌==◌, if◌then◌else◌}
 use Rattle.std.specs.Option.{option_map, option_map_or}
 use Rattle.std.proofs.lemmas.Bool.{cases_eq}
@@ -14,7 +14,7 @@ use Rattle.ray_rules.specs.Status.{structure_built}
 use Rattle.ray_action.specs.declared.form.Form.{Form}
 use Rattle.ray_action.specs.Memory.{Contents}
 use Rattle.ray_ready.proofs.Maps.{Rise, look_with, look_without, rise_with, rise_without, here, there}
-use Rattle.ray_ready.proofs.Ties.{IsBuilt, IsFresh, Fills, IsBounded, size_of, form_of, TiedBuffers, TiedForms, TiedContents}
+use Rattle.ray_ready.proofs.Ties.{IsBuilt, IsFresh, Fills, IsBounded, size_of, form_of, TiedBuffers, TiedForms, TiedContents, keeps_bytes}
 
 -- ---- one entry comes or goes
 
@@ -41,7 +41,7 @@ goes id es rise = record {
 -- ---- buffers
 
 pub buffers_changed : (id : ℕ) (new : Option LiveBuffer) (es fs : Ids LiveBuffer) (sizes : ℕ → Option ℕ) (bytes fresh : ℕ → ℕ → Option ℕ)
-    → Changes id new es fs → ((q at : ℕ) → at < option_map_or size_of new 0 → IsSome (fresh q at)) → TiedBuffers es sizes bytes
+    → Changes id new es fs → ((q at : ℕ) → option_map_or keeps_bytes new true ≡ true → at < option_map_or size_of new 0 → IsSome (fresh q at)) → TiedBuffers es sizes bytes
     → TiedBuffers fs (λ q. if q == id then option_map size_of new else sizes q) (λ q at. if q == id then fresh q at else bytes q at)
 buffers_changed id new es fs sizes bytes fresh change all tied = record {
   rise = change.rise;
@@ -49,13 +49,15 @@ buffers_changed id new es fs sizes bytes fresh change all tied = record {
     | inl same ↦ here q id _ _ same ∙ sym (ap (option_map size_of) (change.at q same))
     | inr differs ↦ there q id _ _ differs ∙ (tied.size q ∙ sym (ap (option_map size_of) (change.other q differs)))
   ];
-  there = λ q at below. elim (cases_eq q id) [
+  there = λ q at kept below. elim (cases_eq q id) [
     | inl same ↦
         subst IsSome (sym (here q id (fresh q at) (bytes q at) same))
-        (all q at (subst (λ found. at < option_map_or size_of found 0) (change.at q same) below))
+        (all q at (sym (ap (λ found. option_map_or keeps_bytes found true) (change.at q same)) ∙ kept)
+        (subst (λ found. at < option_map_or size_of found 0) (change.at q same) below))
     | inr differs ↦
         subst IsSome (sym (there q id (fresh q at) (bytes q at) differs))
-        (tied.there q at (subst (λ found. at < option_map_or size_of found 0) (change.other q differs) below))
+        (tied.there q at (sym (ap (λ found. option_map_or keeps_bytes found true) (change.other q differs)) ∙ kept)
+        (subst (λ found. at < option_map_or size_of found 0) (change.other q differs) below))
   ];
 }
 
@@ -64,7 +66,7 @@ pub bytes_kept : (es : Ids LiveBuffer) (sizes : ℕ → Option ℕ) (bytes other
 bytes_kept es sizes bytes others all tied = record {
   rise = tied.rise;
   size = tied.size;
-  there = λ q at below. all q at (tied.there q at below);
+  there = λ q at kept below. all q at (tied.there q at kept below);
 }
 
 -- ---- forms

@@ -11,6 +11,7 @@ use Rattle.ray_cmd.specs.declared.structure_kind.StructureKind.{StructureKind}
 use Rattle.ray_cmd.specs.declared.structure_kind.StructureKind.TheVariants as kinds
 use Rattle.ray_rules.specs.declared.built.Built.{Built}
 use Rattle.ray_rules.specs.declared.live_structure.LiveStructure.{LiveStructure}
+use Rattle.ray_rules.specs.Buffers.{lacks_input_usage, v3}
 use Rattle.ray_rules.specs.Conflicts.{v16}
 use Rattle.ray_rules.specs.FlagRules.{v22, v23}
 use Rattle.ray_rules.specs.Ids.{look}
@@ -26,11 +27,13 @@ use Rattle.ray_action.specs.Areas.{has}
 use Rattle.ray_action.specs.Action.{content_buffer}
 use Rattle.ray_ready.proofs.Ties.{IsFresh}
 use Rattle.ray_ready.proofs.Allowed.{AreReadable, IsBuiltOf, IsLiveOf}
+use Rattle.ray_ready.proofs.Usages.{read_kept}
 
 -- ---- the rows that are used
 
 pub record Keeps (rec : List Command) (z : Status) (c : Command) : Type 0 where
   pub names : v1 z c ≡ None
+  pub usages : v3 z c ≡ None
   pub spans : v4 z c ≡ None
   pub kinds : v7 z c ≡ None
   pub shapes : v8 z c ≡ None
@@ -49,6 +52,7 @@ pub record Keeps (rec : List Command) (z : Status) (c : Command) : Type 0 where
 pub keeps : (rec : List Command) (z : Status) (c : Command) → AreKept (static_table rec z c) → Keeps rec z c
 keeps rec z c (k1, (k2, (k3, (k4, (k5, (k6, (k7, (k8, (k9, (k10, (k11, (k12, (k13, (k14, (k15, (k16, (k17, (k18, (k19, (k20, (k21, (k22, (k23, more))))))))))))))))))))))) = record {
   names = k1;
+  usages = k3;
   spans = k4;
   kinds = k7;
   shapes = k8;
@@ -186,7 +190,7 @@ content_live z (geometries.Triangles opaque format vertex stride max_vertex inde
 content_live z (geometries.Boxes opaque content stride count primitive_offset) is = is_there (look z.buffers content.buffer) is
 content_live z (geometries.Instances content count primitive_offset) is = is_there (look z.buffers content.buffer) is
 
-pub readable : (z : Status) (gs : List Geometry) → Fail (lacks_input z) gs → Fail (input_reaches_out z) gs → AreReadable z.buffers gs
-readable z [] live inside = tt
-readable z (g ∷ gs) live inside =
-    (record { live = content_live z g live.0; within = read_within z.buffers g inside.0 }, readable z gs live.1 inside.1)
+pub readable : (z : Status) (gs : List Geometry) → Fail (lacks_input z) gs → Fail (input_reaches_out z) gs → Fail (lacks_input_usage z) gs → AreReadable z.buffers gs
+readable z [] live inside usages = tt
+readable z (g ∷ gs) live inside usages =
+    (record { live = content_live z g live.0; within = read_within z.buffers g inside.0; kept = read_kept z g usages.0 }, readable z gs live.1 inside.1 usages.1)

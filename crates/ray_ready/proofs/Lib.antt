@@ -5,6 +5,7 @@ pub mod Ties
 pub mod Keeping
 pub mod Filling
 pub mod Allowed
+pub mod Usages
 pub mod Ready
 pub mod Storing
 pub mod Giving

@@ -30,9 +30,9 @@ use Rattle.ray_action.specs.Action.{Action, Building, Tracing, MakeBuffer, MakeS
 use Rattle.ray_action.specs.Seeing.{SeenBytes, see_geometry, see_range, see_structure, see_structures}
 use Rattle.ray_action.specs.Outcomes.{bottoms_in, number_of, numbers_of}
 use Rattle.ray_action.specs.Readiness.{AreBottoms, AreThere, IsBottomReady, FitsMode, IsMade, IsReady, IsThere, IsTopReady, IsTopSource}
-use Rattle.ray_ready.proofs.Ties.{Fills, IsAsMany, IsBounded, IsTopBy, TiedBuffers, TiedContents, TiedForms, Ties, form_of, size_of}
-use Rattle.ray_rules.specs.Within.{AreInBuffers, IsInBuffer, IsInBufferIf}
-use Rattle.ray_ready.proofs.Allowed.{AreReadable, FitsKind, IsAllowed, IsBuiltAny, IsBuiltOf, IsLiveOf, IsReadable, IsSource, MayBuildBottom, MayBuildTop, MayCopy, MayDeserialize, MayTell, MayTellAll, MayTrace}
+use Rattle.ray_ready.proofs.Ties.{Fills, IsAsMany, IsBounded, IsTopBy, TiedBuffers, TiedContents, TiedForms, Ties, form_of, keeps_bytes_at, size_of}
+use Rattle.ray_rules.specs.Within.{AreInBuffers, IsInBufferIf}
+use Rattle.ray_ready.proofs.Allowed.{AreKeptIn, AreReadable, FitsKind, IsAllowed, IsBuiltAny, IsBuiltOf, IsKeptIn, IsLiveOf, IsReadable, IsSource, MayBuildBottom, MayBuildTop, MayCopy, MayDeserialize, MayTell, MayTellAll, MayTrace}
 
 -- buffers that are tied to a memory
 abbrev Buffers : Ids LiveBuffer → Memory → Type 0
@@ -52,22 +52,23 @@ bytes_some m buffer from (suc n) all =
     both_some (m (ByteAt buffer from)) (bytes_from m buffer (from + 1) n) (all from (omega arith) (omega arith))
     (bytes_some m buffer (from + 1) n (λ at low high. all at (omega arith) (omega arith)))
 
-pub range_there : (buffers : Ids LiveBuffer) (m : Memory) (r : ByteRange) → Buffers buffers m → IsInBuffer buffers r → IsSome (bytes_at m r)
+pub range_there : (buffers : Ids LiveBuffer) (m : Memory) (r : ByteRange) → Buffers buffers m → IsKeptIn buffers r → IsSome (bytes_at m r)
 range_there buffers m r tied within =
-    bytes_some m r.buffer r.from r.size (λ at low high. tied.there r.buffer at (within at low high))
+    bytes_some m r.buffer r.from r.size (λ at low high. tied.there r.buffer at within.1 (within.0 at low high))
 
 -- ---- geometries
 
-range_if : (buffers : Ids LiveBuffer) (m : Memory) (r : Option ByteRange) → Buffers buffers m → IsInBufferIf buffers r → IfSome (see_range m r) IsSome
-range_if buffers m None tied within = tt
-range_if buffers m (Some r) tied within = range_there buffers m r tied within
+range_if : (buffers : Ids LiveBuffer) (m : Memory) (r : Option ByteRange) → Buffers buffers m → IsInBufferIf buffers r
+    → IfSome r (λ (range : ByteRange). keeps_bytes_at buffers range.buffer ≡ true) → IfSome (see_range m r) IsSome
+range_if buffers m None tied within kept = tt
+range_if buffers m (Some r) tied within kept = range_there buffers m r tied (within, kept)
 
-ranges_there : (buffers : Ids LiveBuffer) (m : Memory) (rs : List (Option ByteRange)) → Buffers buffers m → AreInBuffers buffers rs
+ranges_there : (buffers : Ids LiveBuffer) (m : Memory) (rs : List (Option ByteRange)) → Buffers buffers m → AreInBuffers buffers rs → AreKeptIn buffers rs
     → All (λ (input : Option SeenBytes). IfSome input IsSome) (map (see_range m) rs)
-ranges_there buffers m [] tied within = All-nil (λ (input : Option SeenBytes). IfSome input IsSome)
-ranges_there buffers m (r ∷ rs) tied within =
-    All-cons (λ (input : Option SeenBytes). IfSome input IsSome) (see_range m r) (map (see_range m) rs) (range_if buffers m r tied within.0)
-    (ranges_there buffers m rs tied within.1)
+ranges_there buffers m [] tied within kept = All-nil (λ (input : Option SeenBytes). IfSome input IsSome)
+ranges_there buffers m (r ∷ rs) tied within kept =
+    All-cons (λ (input : Option SeenBytes). IfSome input IsSome) (see_range m r) (map (see_range m) rs) (range_if buffers m r tied within.0 kept.0)
+    (ranges_there buffers m rs tied within.1 kept.1)
 
 the_size : (found : Option LiveBuffer) → IsSome found → option_map size_of found ≡ Some (option_map_or size_of found 0)
 the_size None live = absurd cc
@@ -76,7 +77,7 @@ the_size (Some b) live = refl
 geometry_there : (buffers : Ids LiveBuffer) (m : Memory) (g : Geometry) → Buffers buffers m → IsReadable buffers g → IsThere buffers g (see_geometry m buffers g)
 geometry_there buffers m g tied is = record {
   size = tied.size (content_buffer g) ∙ the_size (look buffers (content_buffer g)) is.live;
-  inputs = ranges_there buffers m (inputs_read buffers g) tied is.within;
+  inputs = ranges_there buffers m (inputs_read buffers g) tied is.within is.kept;
 }
 
 geometries_there : (buffers : Ids LiveBuffer) (m : Memory) (gs : List Geometry) → Buffers buffers m → AreReadable buffers gs

@@ -104,7 +104,7 @@ none_built kind b built = let none : None ≡ Some built.structure = built.is_it
 
 pub at_beginning : (rec : List Command) → Ties rec 0 0 at_first nothing_live
 at_beginning rec = record {
-  buffers = record { rise = tt; size = λ id. refl; there = λ id at below. absurd (omega (arith, below)) };
+  buffers = record { rise = tt; size = λ id. refl; there = λ id at kept below. absurd (omega (arith, below)) };
   forms = record { rise = tt; form = λ id. refl };
   contents = record {
     order = λ id kind b built. absurd (none_built kind b built);

@@ -1,6 +1,6 @@
 -- What the store of each action leaves of the invariant, but for those that fill a structure from bytes.
 use Rattle.std.proofs.Common.{◌≡◌, ◌<◌, ◌≤◌, ◌+◌, ℕ, Bool, true, false, List, Option, Some, None, IsSome, refl, sym, ◌∙◌, ap, subst, arith}
-use Rattle.std.specs.Prelude.{if◌then◌else◌, nat_lt, slice_get, unwrap_or}
+use Rattle.std.specs.Prelude.{[], if◌then◌else◌, nat_lt, not, slice_get, unwrap_or}
 use Rattle.std.proofs.lemmas.Bool.Decides.{nat_tests}
 use Rattle.std.specs.Option.{option_map}
 use Rattle.ray_flags.specs.declared.usage.Usage.{Usage}
@@ -9,13 +9,15 @@ use Rattle.ray_cmd.specs.declared.structure_kind.StructureKind.{StructureKind}
 use Rattle.ray_rules.specs.declared.built.Built.{Built}
 use Rattle.ray_rules.specs.declared.live_buffer.LiveBuffer.{LiveBuffer}
 use Rattle.ray_rules.specs.declared.live_structure.LiveStructure.{LiveStructure}
+use Rattle.ray_rules.specs.Buffers.{is_alone}
 use Rattle.ray_rules.specs.Ids.{look, with_id, without_id}
 use Rattle.ray_rules.specs.Status.{Status, fill_in, structure_built, with_buffer, with_built, with_structure}
 use Rattle.ray_action.specs.Areas.{is_contents_of, is_in_range}
 use Rattle.ray_action.specs.Memory.{Contents, Memory, ByteAt, BufferAt, StructureAt, ContentsAt}
 use Rattle.ray_action.specs.Action.{Action, MakeBuffer, MakeStructure, DestroyBuffer, DestroyStructure, ShowSizes, ShowBytes, UpdateBytes, FillBytes, CopyBytes, BuildBottom, UpdateBottom, BuildTop, UpdateTop, CopyStructure, SerializeStructure, DeserializeStructure, TellProperty, TraceRays, Rest, Impossible}
 use Rattle.ray_action.specs.Outcomes.{Output, Nothing, Bytes, Holds, Gives}
-use Rattle.ray_action.specs.Storing.{bytes_left, filled, holding, put, stored}
+use Rattle.ray_action.specs.Pieces.{content_of}
+use Rattle.ray_action.specs.Storing.{bytes_left, filled, fresh_byte, holding, put, stored}
 use Rattle.ray_ready.proofs.Ties.{IsBuilt, TiedBuffers, Ties, form_of}
 use Rattle.ray_ready.proofs.Keeping.{Changes, bytes_kept, buffers_changed, comes, contents_unbuilt, forms_changed, forms_filled, goes}
 use Rattle.ray_ready.proofs.Filling.{IsFree, IsNew, contents_filled, contents_later}
@@ -108,18 +110,23 @@ ties_written rec i k z m Impossible output w ties = absurd w
 
 -- ---- buffers come and go
 
-new_byte : (at size byte : ℕ) → at < size → IsSome (if nat_lt at size then Some byte else None)
-new_byte at size byte below =
+told_byte : (at size : ℕ) (told : List ℕ) → at < size → IsSome (fresh_byte size (Some told) at)
+told_byte at size told below =
+    let byte = unwrap_or (slice_get told at) 0 in
     let is : nat_lt at size ≡ true = grind (arith, nat_tests, below) in
     subst IsSome (sym (ap (λ b. if b then Some byte else None) is)) refl
 
-pub ties_made : (rec : List Command) (i k : ℕ) (z : Status) (m : Memory) (id size : ℕ) (content : List ℕ) (usage : Usage) (output : Output) → Ties rec i k z m
-    → Ties rec i k (with_buffer id (record { made = i; size = size; usage = usage }) z) (put (MakeBuffer id size content) (Gives output) m)
+new_byte : (at size : ℕ) (alone : Bool) (told : List ℕ) → not alone ≡ true → at < size → IsSome (fresh_byte size (if alone then None else Some told) at)
+new_byte at size true told kept below = absurd cc
+new_byte at size false told kept below = told_byte at size told below
+
+pub ties_made : (rec : List Command) (i k : ℕ) (z : Status) (m : Memory) (id size : ℕ) (content : Option (List ℕ)) (usage : Usage) (output : Output) → Ties rec i k z m
+    → Ties rec i k (with_buffer id (record { made = i; size = size; usage = usage }) z) (put (MakeBuffer id size (content_of usage content)) (Gives output) m)
 ties_made rec i k z m id size content usage output ties =
     let new : LiveBuffer = record { made = i; size = size; usage = usage } in record {
       buffers = buffers_changed id (Some new) z.buffers (with_id id new z.buffers) (λ q. m (BufferAt q)) (λ q at. m (ByteAt q at))
-          (λ q at. if nat_lt at size then Some (unwrap_or (slice_get content at) 0) else None) (comes id new z.buffers ties.buffers.rise)
-          (λ q at below. new_byte at size (unwrap_or (slice_get content at) 0) below) ties.buffers;
+          (λ q at. fresh_byte size (content_of usage content) at) (comes id new z.buffers ties.buffers.rise)
+          (λ q at kept below. new_byte at size (is_alone usage) (unwrap_or content []) kept below) ties.buffers;
       forms = ties.forms;
       contents = ties.contents;
     }
@@ -128,7 +135,7 @@ pub ties_gone : (rec : List Command) (i k : ℕ) (z : Status) (m : Memory) (id :
     → Ties rec i k (record z { buffers = without_id id z.buffers }) (put (DestroyBuffer id) (Gives output) m)
 ties_gone rec i k z m id output ties = record {
   buffers = buffers_changed id None z.buffers (without_id id z.buffers) (λ q. m (BufferAt q)) (λ q at. m (ByteAt q at)) (λ q at. None)
-      (goes id z.buffers ties.buffers.rise) (λ q at below. absurd (omega (arith, below))) ties.buffers;
+      (goes id z.buffers ties.buffers.rise) (λ q at kept below. absurd (omega (arith, below))) ties.buffers;
   forms = ties.forms;
   contents = ties.contents;
 }

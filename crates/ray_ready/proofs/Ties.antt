@@ -1,6 +1,7 @@
 -- The invariant of the induction: how the status of a recording and the memory of the device are tied.
-use Rattle.std.proofs.Common.{◌≡◌, ◌<◌, ◌≤◌, ℕ, false, true, List, Option, Some, IsSome, IfSome, All, length}
-use Rattle.std.specs.Option.{option_map, option_and_then}
+use Rattle.std.proofs.Common.{◌≡◌, ◌<◌, ◌≤◌, ℕ, Bool, false, true, List, Option, Some, IsSome, IfSome, All, length}
+use Rattle.std.specs.Prelude.{not}
+use Rattle.std.specs.Option.{option_map, option_map_or, option_and_then}
 use Rattle.ray_geom.specs.Boxes.{BoxValue}
 use Rattle.ray_geometries.specs.Contents as bottoms
 use Rattle.ray_top.specs.Contents as tops
@@ -13,6 +14,7 @@ use Rattle.ray_cmd.specs.declared.structure_kind.StructureKind.TheVariants as ki
 use Rattle.ray_rules.specs.declared.built.Built.{Built}
 use Rattle.ray_rules.specs.declared.live_buffer.LiveBuffer.{LiveBuffer}
 use Rattle.ray_rules.specs.declared.live_structure.LiveStructure.{LiveStructure}
+use Rattle.ray_rules.specs.Buffers.{is_alone}
 use Rattle.ray_rules.specs.Ids.{Ids, look}
 use Rattle.ray_rules.specs.Origins.{info_of, is_deserialized, uses_of}
 use Rattle.ray_rules.specs.Ranges.{primitives, size_at}
@@ -79,11 +81,19 @@ size_of b = b.size
 abbrev pub form_of : LiveStructure → Form
 form_of s = record { kind = s.kind; size = s.size }
 
--- live buffers have their sizes, and all their bytes
+-- whether a buffer keeps bytes: each does but one for scratch memory alone, or for structures alone
+abbrev pub keeps_bytes : LiveBuffer → Bool
+keeps_bytes b = not (is_alone b.usage)
+
+-- whether the buffer of an id does, where it is live
+abbrev pub keeps_bytes_at : Ids LiveBuffer → ℕ → Bool
+keeps_bytes_at buffers id = option_map_or keeps_bytes (look buffers id) true
+
+-- live buffers have their sizes, and all their bytes where they keep them
 pub record TiedBuffers (buffers : Ids LiveBuffer) (sizes : ℕ → Option ℕ) (bytes : ℕ → ℕ → Option ℕ) : Type 0 where
   pub rise : Rise buffers
   pub size : (id : ℕ) → sizes id ≡ option_map size_of (look buffers id)
-  pub there : (id at : ℕ) → at < size_at buffers id → IsSome (bytes id at)
+  pub there : (id at : ℕ) → keeps_bytes_at buffers id ≡ true → at < size_at buffers id → IsSome (bytes id at)
 
 -- live structures have their forms
 pub record TiedForms (structures : Ids LiveStructure) (forms : ℕ → Option Form) : Type 0 where

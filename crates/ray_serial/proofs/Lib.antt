@@ -5,6 +5,7 @@ pub mod KeptLines
 pub mod Endings
 pub mod Form2Back
 pub mod Form2Restored
+pub mod WrittenAgain
 pub mod Headers
 pub mod BottomForms
 pub mod Restore

@@ -5,6 +5,7 @@ ghost use Rattle.ray_stated.specs.Stated.{stated_tree};
 ghost use Rattle.ray_tree_part.specs.TreeParts.{tree_bytes, IsReadAgain};
 ghost use Rattle.ray_serial.specs.Meaning.{IsForm, bottom_in, tree_in_form};
 ghost use Rattle.ray_serial.specs.Written.{form_2_size, form_2_bytes, bottom_form_2};
+ghost use Rattle.ray_serial.specs.WrittenAgain.{IsWrittenAgain};
 
 use crate::writing::{append_longs, serialized_size};
 use ray_bottom::Bottom;
@@ -19,7 +20,9 @@ use std::marker::Brand;
 /// Form 2 of a bottom structure: the form of its contents with the stated tree over its primitives,
 /// which is a function of their boxes, whatever tree the structure has. It is a form that stands
 /// for the contents and carries that tree, where the flags of its build are flags that there are,
-/// which are below 32. (Own: the form; vkCmdCopyAccelerationStructureToMemoryKHR.)
+/// which are below 32. The form is then opened, and the structure that `to_bottom` makes of it is
+/// written in form 2 as the same bytes again.
+/// (Own: the form; vkCmdCopyAccelerationStructureToMemoryKHR.)
 pub fn serialize_form_2(alloc: Global, bottom: &Bottom) -> Result<Vec<u8>, NoMemory>
     ensures value { IfOk result (λ bytes. bytes.items ≡ bottom_form_2 (without_tree bottom.now)) }
     ensures form { bottom.now.flags.0 < 32 → IfOk result (λ bytes. IsForm bytes.items) }
@@ -27,6 +30,8 @@ pub fn serialize_form_2(alloc: Global, bottom: &Bottom) -> Result<Vec<u8>, NoMem
         → IfOk result (λ bytes. bottom_in bytes.items ≡ Some (without_tree bottom.now)) }
     ensures tree { bottom.now.flags.0 < 32 → IfOk result (λ bytes. tree_in_form bytes.items
         ≡ Some (stated_tree (items_of bottom.now.geometries))) }
+    ensures again { bottom.now.flags.0 < 32
+        → IfOk result (λ bytes. IsWrittenAgain bytes.items) }
 {
     // The contents are within the limits.
     let _geometries = bottom.geometries();
