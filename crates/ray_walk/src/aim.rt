@@ -57,6 +57,7 @@ fn is_slanted(dir: Vec3) -> bool {
 
 /// The window of the ray up to a limit, where it goes along an axis. Else none, and its slabs are
 /// there, which are made the first time.
+#[inline(always)]
 pub(crate) fn sight_at(aim: &mut Aim, limit: Option<Ratio>) -> Option<Window>
     requires { IsAimed aim.old }
     ensures value { IfSome result (λ window. window ≡ window_of aim.old.ray limit) }
@@ -87,6 +88,7 @@ fn make_slabs(aim: &mut Aim)
 }
 
 // The window of the ray up to a limit. It is made where another one was asked for last.
+#[inline(always)]
 fn window_at(aim: &mut Aim, limit: Option<Ratio>) -> Window
     requires { IsAimed aim.old }
     ensures value { result ≡ window_of aim.old.ray limit }
