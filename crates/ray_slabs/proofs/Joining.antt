@@ -28,16 +28,16 @@ weaker : (det o m : ℤ) (shift base base' : ℕ) (from to : ℤ) (side : Side) 
 weaker det o m shift base base' from to side axis exact is b e f =
     subst (λ p. p) (λ i. IsSide det o m shift (sym b i) from to record { axis = sym e i; exact = exact }) (with_exact det o m shift base from to side exact is f)
 
-all_first : (p q r : Bool) → ((p && q) && r) ≡ true → p ≡ true
+pub all_first : (p q r : Bool) → ((p && q) && r) ≡ true → p ≡ true
 all_first true q r h = refl
 all_first false q r h = absurd (cc)
 
-all_second : (p q r : Bool) → ((p && q) && r) ≡ true → q ≡ true
+pub all_second : (p q r : Bool) → ((p && q) && r) ≡ true → q ≡ true
 all_second true true r h = refl
 all_second true false r h = absurd (cc)
 all_second false q r h = absurd (cc)
 
-all_third : (p q r : Bool) → ((p && q) && r) ≡ true → r ≡ true
+pub all_third : (p q r : Bool) → ((p && q) && r) ≡ true → r ≡ true
 all_third true true r h = h
 all_third true false r h = absurd (cc)
 all_third false q r h = absurd (cc)

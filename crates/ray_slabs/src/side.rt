@@ -1,4 +1,4 @@
-ghost use Rattle.std.specs.Prelude.{ℕ, ◌≡◌, ◌<◌, ◌≤◌, ◌^◌, ◌+◌, IfSome, true, false};
+ghost use Rattle.std.specs.Prelude.{ℕ, ℤ, ◌≡◌, ◌<◌, ◌≤◌, ◌^◌, ◌+◌, IfSome, true, false};
 ghost use Rattle.std.specs.Prelude.{pos, neg_ℤ, ◌+ℤ◌, ◌*ℤ◌};
 ghost use Rattle.ray_geom.specs.Vector.{IsWithin};
 ghost use Rattle.ray_window.specs.Lines.{IsLine};
@@ -27,13 +27,17 @@ pub(crate) struct Side {
 }
 
 // What is compared on an axis: its slope, where there is one and its keys fit; else where the ray
-// stands still, or from where to where it is while it is inside the root's box.
+// stands still, or from where to where it is while it is inside the root's box. An exact side is
+// none of the last kind, so that it stands for the axis whatever that window is.
 pub(crate) fn side_of(slope: Option<Slope>, base: u64, line: Way, from: i32, to: i32) -> Side
     requires line { IsLine line.det line.o line.m }
     requires start { IfSome slope IsShort }
     requires base { base ≤ 2 ^ 62 }
-    ensures { (shift : ℕ) → IfSome slope (IsSlope line.det line.o line.m shift) →
+    ensures made { (shift : ℕ) → IfSome slope (IsSlope line.det line.o line.m shift) →
         IsSide line.det line.o line.m shift base from to result }
+    ensures free { result.exact ≡ true → (shift : ℕ) (a b : ℤ) →
+        IfSome slope (IsSlope line.det line.o line.m shift) →
+        IsSide line.det line.o line.m shift base a b result }
 {
     match slope {
         Some(slope) => match sloped(slope, base) {
@@ -47,7 +51,9 @@ pub(crate) fn side_of(slope: Option<Slope>, base: u64, line: Way, from: i32, to:
 // The same where there is no slope.
 fn flat_side(line: Way, from: i32, to: i32) -> Side
     requires { IsLine line.det line.o line.m }
-    ensures { (shift base : ℕ) → IsSide line.det line.o line.m shift base from to result }
+    ensures made { (shift base : ℕ) → IsSide line.det line.o line.m shift base from to result }
+    ensures free { result.exact ≡ true → (shift base : ℕ) (a b : ℤ) →
+        IsSide line.det line.o line.m shift base a b result }
 {
     if line.m == 0 {
         Side {

@@ -1,6 +1,7 @@
 ghost use Rattle.std.specs.Prelude.{ℕ, ◌≡◌, ◌<◌, ◌≤◌, ◌^◌, ◌*◌, ◌+◌, ◌-◌, ◌≤ℤ◌, ◌-ℤ◌, pos};
-ghost use Rattle.std.specs.Prelude.{IfSome, IfNone, Some};
+ghost use Rattle.std.specs.Prelude.{IfSome, IfNone, Some, true};
 ghost use Rattle.std.specs.Int.{int_min};
+ghost use Rattle.ray_lanes.specs.declared.lanes.Window.{Window};
 ghost use Rattle.ray_prune.specs.BoxSpan.{IsInside};
 ghost use Rattle.ray_window.specs.Lines.{IsLine, AreLines};
 ghost use Rattle.ray_window.specs.Windows.{window_of};
@@ -60,8 +61,48 @@ fn until(last: u64, shift: u32) -> Ratio
     }
 }
 
-// The slabs with these slopes and keys.
+// The slabs with these slopes and keys. The window is made where an axis is nearly flat alone.
 fn made(ray: &ObjectRay, slopes: Slopes, range: Range, shift: u32, until: Ratio) -> Slabs
+    requires slopes { AreSlopes ray.now.det ray.now.origin ray.now.dir shift slopes }
+    requires short { AreShort slopes }
+    requires range { IsSpanned range }
+    ensures { IsMadeOf ray.now.det ray.now.origin ray.now.dir
+        (window_of ray.now (Some until)) range shift result }
+{
+    let slabs = bare(ray, slopes, range, shift);
+    if slabs.exact {
+        slabs
+    } else {
+        windowed(ray, slopes, range, shift, until)
+    }
+}
+
+// The same without a window. Where they are exact it makes no difference.
+fn bare(ray: &ObjectRay, slopes: Slopes, range: Range, shift: u32) -> Slabs
+    requires slopes { AreSlopes ray.now.det ray.now.origin ray.now.dir shift slopes }
+    requires short { AreShort slopes }
+    requires range { IsSpanned range }
+    ensures { result.exact ≡ true → (window : Window) →
+        IsMadeOf ray.now.det ray.now.origin ray.now.dir window range shift result }
+{
+    let none = Window {
+        lo: [0; 3],
+        hi: [0; 3],
+    };
+    sides_of(
+        ray.det(),
+        ray.origin(),
+        ray.dir(),
+        slopes,
+        range,
+        shift,
+        none,
+    )
+}
+
+// The same with the window up to a distance. Few rays have an axis that is nearly flat.
+#[inline(never)]
+fn windowed(ray: &ObjectRay, slopes: Slopes, range: Range, shift: u32, until: Ratio) -> Slabs
     requires slopes { AreSlopes ray.now.det ray.now.origin ray.now.dir shift slopes }
     requires short { AreShort slopes }
     requires range { IsSpanned range }
@@ -94,7 +135,9 @@ fn sides_of(
     requires slopes { AreSlopes det origin dir shift slopes }
     requires short { AreShort slopes }
     requires range { IsSpanned range }
-    ensures { IsMadeOf det origin dir window range shift result }
+    ensures made { IsMadeOf det origin dir window range shift result }
+    ensures free { result.exact ≡ true → (other : Window) →
+        IsMadeOf det origin dir other range shift result }
 {
     let base = range.first as u64;
     let x = Way {

@@ -27,7 +27,7 @@ use Rattle.ray_nearest.specs.Adding.{Adds, AddsFound}
 use Rattle.ray_query.specs.Limits.{is_within}
 use Rattle.ray_query.proofs.Members.{Member}
 use Rattle.ray_query.proofs.Orders.{false-else}
-use Rattle.ray_walk.specs.Aims.{MeetsPoints}
+use Rattle.ray_walk.specs.Aims.{IsPassed, MeetsPoints}
 use Rattle.ray_candidates.specs.Placements.{IsWellPlaced, prim_box, shape_box}
 use Rattle.ray_candidates.specs.Placements.{Placement}
 use Rattle.ray_walk.specs.Traced.{Traced, found_at_place}
@@ -107,3 +107,9 @@ pub adds_nothing : (s : Traced) (i : ℕ) (p : Placement) (place : PrimPlace) (l
     → Adds (AddsFound limit) (found_at_place s i p place) ts ts
 adds_nothing s i p place limit ts r w never =
     none_added limit (found_at_place s i p place) ts (λ f m. beyond s i p place limit f r w never m)
+
+-- ---- a window, where there is one
+
+pub passed : (o : Option Window) (points : ItemPoints) (window : Window) → IsPassed o points → IfSome o (λ x. x ≡ window) → MeetsPoints window points → ⊥
+passed None points window gone is met = gone
+passed (Some x) points window gone is met = gone (subst (λ y. MeetsPoints y points) (sym is) met)

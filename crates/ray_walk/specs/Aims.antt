@@ -131,3 +131,8 @@ abbrev pub MeetsPoints : Window → ItemPoints → Type 0
 MeetsPoints window (Triangle a b c) = Meets window (box_of_tri (tri_value a b c))
 MeetsPoints window (Aabb lo hi) = Meets window (box_value lo hi)
 MeetsPoints window Nothing = Unit {0}
+
+-- there is a window, and it doesn't meet points
+abbrev pub IsPassed : Option Window → ItemPoints → Type 0
+IsPassed None points = ⊥
+IsPassed (Some window) points = MeetsPoints window points → ⊥

@@ -1,6 +1,6 @@
 -- Words of private calls alone, which a reader of the public contracts needs not: what is known of where a ray enters eight boxes, before
 -- they are tested exactly.
-use Rattle.std.specs.Prelude.{ℕ, pos, neg_ℤ, ◌≡◌, ◌+◌, ◌*◌, ◌<◌, ◌^◌, ◌≤◌, Option, Some, None, bit_and, slice_index_or}
+use Rattle.std.specs.Prelude.{ℕ, pos, neg_ℤ, ◌≡◌, ◌+◌, ◌*◌, ◌<◌, ◌^◌, ◌≤◌, Option, Some, None, slice_index_or}
 use Rattle.ray_geom.specs.declared.ratio.Ratio.{Ratio}
 use Rattle.ray_geom.specs.Boxes.{BoxValue, IsBox, box_value}
 use Rattle.ray_geom.specs.Vector.{vec3}
@@ -39,12 +39,7 @@ pub record IsEightAt (object : ObjectRayValue) (box : BoxValue) (k : ℕ) (eight
 abbrev pub IsEight : ObjectRayValue → Lanes8 → Eight → Type 0
 IsEight object lanes eight = (k : ℕ) → k < 8 → IsBox (lane_box lanes k) → IsEightAt object (lane_box lanes k) k eight
 
--- the bits of the boxes that are left
-abbrev pub IsNarrowed : ℕ → Option Eight → ℕ → Type 0
-IsNarrowed met None left = left ≡ met
-IsNarrowed met (Some eight) left = left ≡ bit_and met eight.met
-
--- what slabs tell of eight boxes, with the bits of those that are left
-abbrev pub AreTold : Slabs → Lanes8 → ℕ → Option Eight → ℕ → Type 0
-AreTold slabs lanes met None left = ⊥
-AreTold slabs lanes met (Some eight) left = IsMadeBy slabs lanes eight × (left ≡ bit_and met eight.met)
+-- what slabs tell of eight boxes, with the bits of those that may be met
+abbrev pub AreTold : Slabs → Lanes8 → Option Eight → ℕ → Type 0
+AreTold slabs lanes None left = ⊥
+AreTold slabs lanes (Some eight) left = IsMadeBy slabs lanes eight × (left ≡ eight.met)

@@ -1,8 +1,9 @@
-ghost use Rattle.std.specs.Prelude.{◌≡◌, IsTrue, None, ◌↔◌};
+ghost use Rattle.std.specs.Prelude.{◌≡◌, IsTrue, IfNone, IfSome, IsSome, None, ◌↔◌};
 ghost use Rattle.ray_window.specs.Windows.{window_of};
 ghost use Rattle.ray_walk.specs.Aims.{IsAimed, IsSameLimit};
 
-use ray_geom::{ObjectRay, Ratio};
+use crate::bounding::slabs_of;
+use ray_geom::{ObjectRay, Ratio, Vec3};
 use ray_lanes::Window;
 use ray_slabs::Slabs;
 use ray_wide::WideLeaf;
@@ -20,6 +21,8 @@ pub(crate) struct Aim {
     pub(crate) recent: Option<WideLeaf>,
     /// Its slabs, where they were made.
     pub(crate) slabs: Option<Slabs>,
+    /// Whether slabs are to be made: nodes are then tested by these, and by no window.
+    pub(crate) is_slanted: bool,
 }
 
 /// The window of a ray up to a limit.
@@ -41,12 +44,52 @@ impl Aim {
             seen: None,
             recent: None,
             slabs: None,
+            is_slanted: is_slanted(ray.dir()),
         }
     }
 }
 
-/// The window of the ray up to a limit. It is made where another one was asked for last.
-pub(crate) fn window_at(aim: &mut Aim, limit: Option<Ratio>) -> Window
+// Whether a ray goes along more than one axis: then its window is wide, and leaves many boxes.
+fn is_slanted(dir: Vec3) -> bool {
+    let (x, y, z) = (dir.x != 0, dir.y != 0, dir.z != 0);
+    x && (y || z) || y && z
+}
+
+/// The window of the ray up to a limit, where it goes along an axis. Else none, and its slabs are
+/// there, which are made the first time.
+#[inline(always)]
+pub(crate) fn sight_at(aim: &mut Aim, limit: Option<Ratio>) -> Option<Window>
+    requires { IsAimed aim.old }
+    ensures value { IfSome result (λ window. window ≡ window_of aim.old.ray limit) }
+    ensures slabs { IfNone result (IsSome aim.new.slabs) }
+    ensures ray { aim.new.ray ≡ aim.old.ray }
+    ensures recent { aim.new.recent ≡ aim.old.recent }
+    ensures aimed { IsAimed aim.new }
+{
+    if aim.is_slanted {
+        make_slabs(aim);
+    }
+    match aim.slabs {
+        Some(_) => None,
+        None => Some(window_at(aim, limit)),
+    }
+}
+
+// Makes the slabs of the ray, once.
+#[inline(never)]
+fn make_slabs(aim: &mut Aim)
+    requires { IsAimed aim.old }
+    ensures ray { aim.new.ray ≡ aim.old.ray }
+    ensures recent { aim.new.recent ≡ aim.old.recent }
+    ensures aimed { IsAimed aim.new }
+{
+    aim.is_slanted = false;
+    aim.slabs = slabs_of(&aim.ray);
+}
+
+// The window of the ray up to a limit. It is made where another one was asked for last.
+#[inline(always)]
+fn window_at(aim: &mut Aim, limit: Option<Ratio>) -> Window
     requires { IsAimed aim.old }
     ensures value { result ≡ window_of aim.old.ray limit }
     ensures ray { aim.new.ray ≡ aim.old.ray }

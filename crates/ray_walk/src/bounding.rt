@@ -1,7 +1,7 @@
 //! Bounds of where a ray enters boxes, in fixed point, so that few boxes are tested exactly.
-ghost use Rattle.std.specs.Prelude.{◌≡◌, ◌<◌, ◌≤◌, ◌^◌, IfNone, IfSome, None, slice_index_or};
+ghost use Rattle.std.specs.Prelude.{◌<◌, ◌≤◌, ◌^◌, ◌≡◌, IfSome, None, slice_index_or};
 ghost use Rattle.ray_slabs.specs.Bounds.{AreBounds};
-ghost use Rattle.ray_walk.specs.Bounding.{AreTold, IsEight, IsFromKey, IsMadeBy, IsNarrowed, whole};
+ghost use Rattle.ray_walk.specs.Bounding.{AreTold, IsFromKey, IsMadeBy, whole};
 
 use ray_geom::{Box3, ObjectRay, Ratio, Vec3};
 use ray_lanes::Lanes8;
@@ -20,22 +20,8 @@ pub(crate) struct Eight {
     pub(crate) shift: u32,
 }
 
-/// Makes the slabs of a ray, if there are none yet and they are worth it: where its window leaves
-/// many of eight boxes.
-#[inline(always)]
-pub(crate) fn make_slabs(ray: &ObjectRay, slabs: &mut Option<Slabs>, met: u8)
-    requires { IfSome slabs.old (AreBounds ray.now whole None) }
-    ensures made { IfSome slabs.new (AreBounds ray.now whole None) }
-    ensures kept { IfNone slabs.new (slabs.old ≡ None) }
-{
-    if met.count_ones() > 3 && slabs.is_none() {
-        *slabs = slabs_of(ray);
-    }
-}
-
-// The slabs of a ray in the box of all coordinates.
-#[inline(never)]
-fn slabs_of(ray: &ObjectRay) -> Option<Slabs>
+/// The slabs of a ray in the box of all coordinates, without a limit.
+pub(crate) fn slabs_of(ray: &ObjectRay) -> Option<Slabs>
     ensures { IfSome result (AreBounds ray.now whole None) }
 {
     Slabs::new(ray, &whole(), None)
@@ -59,38 +45,13 @@ fn whole() -> Box3
     Box3::of_corners(lo, hi)
 }
 
-/// The bits of the boxes that are left, of those that the window overlaps: where a ray has slabs,
-/// such as may be met by these, and what they tell is put into `eight`. Where it has none nothing
-/// is written, so that a way down by windows alone copies nothing.
-#[inline(always)]
-pub(crate) fn narrowed(
-    _ray: &ObjectRay,
-    slabs: &Option<Slabs>,
-    lanes: &Lanes8,
-    met: u8,
-    eight: &mut Option<Eight>,
-) -> u8
-    requires slabs { IfSome slabs.now (AreBounds _ray.now whole None) }
-    requires none { IfNone slabs.now (eight.old ≡ None) }
-    ensures eight { IfSome eight.new (IsEight _ray.now lanes.now) }
-    ensures none { IfNone slabs.now (eight.new ≡ None) }
-    ensures left { IsNarrowed met eight.new result }
-{
-    match slabs {
-        Some(slabs) => told_by(slabs, lanes, met, eight),
-        None => met,
-    }
-}
-
-// The same by slabs.
-#[inline(never)]
-fn told_by(slabs: &Slabs, lanes: &Lanes8, met: u8, eight: &mut Option<Eight>) -> u8
-    ensures { AreTold slabs.now lanes.now met eight.new result }
+/// The bits of the boxes that may be met by the slabs of a ray. What these tell is put into `eight`.
+pub(crate) fn told_by(slabs: &Slabs, lanes: &Lanes8, eight: &mut Option<Eight>) -> u8
+    ensures { AreTold slabs.now lanes.now eight.new result }
 {
     let told = eight_by(slabs, lanes);
-    let left = met & told.met;
     *eight = Some(told);
-    left
+    told.met
 }
 
 // What slabs tell of eight boxes.

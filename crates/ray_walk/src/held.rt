@@ -70,9 +70,10 @@ fn is_of(held: &Option<Held<'_>>, i: u32) -> bool
     }
 }
 
-// The instance of a number with its structure, where it is active, its mask is seen, and its
-// structure stands there.
-fn looked_at<'a>(view: &View<'a>, i: u32) -> Option<Looked<'a>>
+/// The instance of a number with its structure, where it is active, its mask is seen, and its
+/// structure stands there.
+#[inline(always)]
+pub(crate) fn looked_at<'a>(view: &View<'a>, i: u32) -> Option<Looked<'a>>
     ensures { option_map placement_value result ≡ placement_at view.now i }
 {
     let instance = view.top().active_instance(i)?;

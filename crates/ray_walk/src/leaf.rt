@@ -18,9 +18,9 @@ ghost use Rattle.ray_walk.specs.Scenes.{placement_value};
 ghost use Rattle.ray_candidates.specs.Telling.{found_raw};
 ghost use Rattle.ray_walk.specs.Traced.{found_at_place, placement_at};
 
-use crate::aim::{Aim, window_at};
+use crate::aim::{Aim, sight_at};
 use crate::held::Looked;
-use crate::meeting::meets_points;
+use crate::meeting::is_passed;
 use crate::view::View;
 use ray_bottom::{Bottom, LeafItem, LeafPart, PrimPlace, RawMeet};
 use ray_candidates::{Placed, admit};
@@ -52,7 +52,7 @@ pub(crate) fn open_leaf<L: Ledger>(
     ensures rising { steps.old ≤ steps.new }
     ensures looked { IsLookedAt view.now i looked.now aim.new }
 {
-    let window = window_at(aim, limit);
+    let window = sight_at(aim, limit);
     let items = items_of(looked.bottom, aim.recent, n, steps);
     add_items(view, looked, &window, i, n, items, limit, turns)
 }
@@ -82,12 +82,12 @@ fn items_of<'a, L: Ledger>(
     }
 }
 
-// The same of these items, by the window of the ray up to the limit. The leaf's number stands in
-// contracts alone.
+// The same of these items, by the window of the ray up to the limit, if there is one. The leaf's
+// number stands in contracts alone.
 fn add_items(
     view: &View<'_>,
     looked: &Looked<'_>,
-    window: &Window,
+    window: &Option<Window>,
     i: u32,
     _n: u32,
     items: LeafPart<'_>,
@@ -95,8 +95,8 @@ fn add_items(
     turns: &mut Turns,
 ) -> Result<(), NoMemory>
     requires is_it { placement_at view.now i ≡ Some (placement_value looked.now) }
-    requires window { window.now ≡ window_of
-        (object_of view.now.ray looked.now.instance.now.matrix) limit }
+    requires window { IfSome window.now (λ x. x ≡ window_of
+        (object_of view.now.ray looked.now.instance.now.matrix) limit) }
     requires places { map place_of_item (part_of items)
         ≡ places_below looked.now.bottom.now _n }
     requires held { All (IsItemOf looked.now.bottom.now.geometries) (part_of items) }
@@ -109,12 +109,12 @@ fn add_items(
     Ok(())
 }
 
-// Adds the turn of what is found of a primitive, one of these. Where the window doesn't meet the
-// primitive nothing is found up to the limit, and no more is asked.
+// Adds the turn of what is found of a primitive, one of these. Where there is a window that doesn't
+// meet the primitive nothing is found up to the limit, and no more is asked.
 fn add_item(
     view: &View<'_>,
     looked: &Looked<'_>,
-    window: &Window,
+    window: &Option<Window>,
     i: u32,
     items: LeafPart<'_>,
     k: usize,
@@ -122,8 +122,8 @@ fn add_item(
     turns: &mut Turns,
 ) -> Result<(), NoMemory>
     requires is_it { placement_at view.now i ≡ Some (placement_value looked.now) }
-    requires window { window.now ≡ window_of
-        (object_of view.now.ray looked.now.instance.now.matrix) limit }
+    requires window { IfSome window.now (λ x. x ≡ window_of
+        (object_of view.now.ray looked.now.instance.now.matrix) limit) }
     requires within { k < length (part_of items) }
     requires held { IsItemOf looked.now.bottom.now.geometries (item_in items k) }
     ensures { OnOk result (Adds (AddsFound limit)
@@ -132,7 +132,7 @@ fn add_item(
 {
     view.known();
     let points = items.get(k).points;
-    if !meets_points(window, &points) {
+    if is_passed(window, &points) {
         return Ok(());
     }
     let item = items.get(k);

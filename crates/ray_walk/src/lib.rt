@@ -5,10 +5,10 @@
 //! through the trees of structures, nearest first, which tests no more primitives than those of the
 //! leaves whose box, and every box above it, is met up to the committed distance (`specs/Traced`).
 //! It goes over wide nodes, eight boxes at once (`specs/WideScene`), and passes by those of which
-//! the ray's window meets one child alone. Where a window leaves several, a test in fixed point
-//! tells which of them are met and from where on, so that few boxes but those of leaves are tested
-//! exactly (`specs/Bounding`). [`trace_plain`], of ray_candidates, has the same answer; it tests
-//! every primitive, and stays as the plain program of that definition.
+//! one child alone is met. A ray along an axis goes by its window. Of each other one the window is
+//! wide; a test in fixed point tells which boxes are met and from where on, so that few boxes but
+//! those of leaves are tested exactly (`specs/Bounding`). [`trace_plain`], of ray_candidates, has
+//! the same answer; it tests every primitive, and stays as the plain program of that definition.
 //!
 //! It stands on ray_candidates (what a ray finds), ray_top and ray_bottom (contents, the test of a
 //! primitive), ray_wide, ray_lanes and ray_window (the wide trees and what a window leaves out),

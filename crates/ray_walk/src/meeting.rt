@@ -7,15 +7,26 @@ ghost use Rattle.ray_geom.specs.Scene.{tri_value};
 ghost use Rattle.ray_lanes.specs.Masks.{AreInt32};
 ghost use Rattle.ray_lanes.specs.Overlap.{on_axis};
 ghost use Rattle.ray_window.specs.Meets.{Meets, MeetsOn};
-ghost use Rattle.ray_walk.specs.Aims.{MeetsPoints};
+ghost use Rattle.ray_walk.specs.Aims.{IsPassed, MeetsPoints};
 
 use ray_bottom::ItemPoints;
 use ray_geom::{Point32, Vec3};
 use ray_lanes::Window;
 use std::simd::prelude::*;
 
-/// Whether a window meets the least box of points, or there are none.
-pub(crate) fn meets_points(window: &Window, points: &ItemPoints) -> bool
+/// Whether there is a window, and it doesn't meet the least box of points.
+#[inline(always)]
+pub(crate) fn is_passed(window: &Option<Window>, points: &ItemPoints) -> bool
+    ensures { IsTrue result → IsPassed window.now points.now }
+{
+    match window {
+        Some(window) => !meets_points(window, points),
+        None => false,
+    }
+}
+
+// Whether a window meets the least box of points, or there are none.
+fn meets_points(window: &Window, points: &ItemPoints) -> bool
     ensures { IsTrue result ↔ MeetsPoints window.now points.now }
 {
     match points {

@@ -1,22 +1,24 @@
 //! What is below a node of a scene, and what is found there.
-ghost use Rattle.std.specs.Prelude.{◌≡◌, ◌+◌, ◌<◌, ◌≤◌, IfSome, OnOk, None, length};
+ghost use Rattle.std.specs.Prelude.{◌≡◌, ◌+◌, ◌<◌, ◌≤◌, IfSome, OnOk, Some, None, length};
 ghost use Rattle.std.specs.List.{flat_map};
+ghost use Rattle.ray_geom.specs.ObjectRay.{object_of};
 ghost use Rattle.ray_nearest.specs.Adding.{AddsNodes, IsOpened};
 ghost use Rattle.ray_walk.specs.Scenes.{AddsWide, IsHeld, IsInWorld, IsKeeping, IsLookedAt};
-ghost use Rattle.ray_walk.specs.Traced.{tests};
+ghost use Rattle.ray_walk.specs.Scenes.{placement_value};
+ghost use Rattle.ray_walk.specs.Traced.{placement_at, tests};
 ghost use Rattle.ray_walk.specs.WideScene.{IsWideNode, narrow, wide_below, wide_roots, wide_scene};
 ghost use Rattle.ray_nearest.specs.declared.node.WalkNode.TheVariants.{Inner, TopInner, TopLeaf};
 ghost use Rattle.ray_walk.specs.declared.level.Level.TheVariants.{World, Object};
 
-use crate::aim::{Aim, window_at};
+use crate::aim::{Aim, sight_at};
 use crate::children::{push_child, push_children};
 use crate::descent::{Down, descend};
-use crate::held::{Held, Looked, hold};
+use crate::held::{Held, Looked, hold, looked_at};
 use crate::leaf::open_leaf;
 use crate::level::Level;
 use crate::trees::Trees;
 use crate::view::View;
-use ray_geom::{ObjectRay, Ratio, Steps};
+use ray_geom::{ObjectRay, Ratio, Steps, object_ray};
 use ray_nearest::{NoMemory, Turns, WalkNode};
 use ray_wide::WideRef;
 use std::sync::ledger::Ledger;
@@ -89,50 +91,51 @@ fn open_world(
     ensures aim { IsInWorld view.now aim.new }
 {
     view.known();
-    let window = window_at(aim, limit);
+    let window = sight_at(aim, limit);
     let trees = world(view, &aim.ray);
     let mut eight = None;
-    let Down { at, met } = descend(&trees, &window, w, limit, &mut aim.slabs, &mut eight);
+    let Down { at, met } = descend(&trees, &window, &aim.slabs, w, limit, &mut eight);
     push_children(&trees, at, met, &eight, limit, &mut aim.recent, turns)
 }
 
 // ---- instances
 
 // Adds the turn of the root of the structure of an instance, if it is to be looked at and has one.
-fn push_root<'a>(
-    view: &View<'a>,
-    held: &mut Option<Held<'a>>,
+// The instance isn't held, since most of those in a leaf aren't met.
+fn push_root(
+    view: &View<'_>,
     limit: Option<Ratio>,
     i: u32,
     turns: &mut Turns,
 ) -> Result<(), NoMemory>
-    requires held { IfSome held.old (IsHeld view.now) }
-    ensures pushed { let s = view.now in
+    ensures { let s = view.now in
         OnOk result (AddsWide limit s (wide_roots s i) turns.old turns.new) }
-    ensures held { IfSome held.new (IsHeld view.now) }
 {
-    hold(view, held, i);
-    match held {
-        Some(h) => push_root_of(view, i, &h.looked, &h.aim, limit, turns),
+    match looked_at(view, i) {
+        Some(looked) => {
+            let ray = object_ray(view.ray(), &looked.instance.matrix);
+            push_root_of(view, i, &looked, &ray, limit, turns)
+        }
         None => Ok(()),
     }
 }
 
-// The same of an instance that is held.
+// The same of an instance that is looked at.
 fn push_root_of(
     view: &View<'_>,
     i: u32,
     looked: &Looked<'_>,
-    aim: &Aim,
+    ray: &ObjectRay,
     limit: Option<Ratio>,
     turns: &mut Turns,
 ) -> Result<(), NoMemory>
-    requires { IsLookedAt view.now i looked.now aim.now }
+    requires placed { placement_at view.now i ≡ Some (placement_value looked.now) }
+    requires ray { ray.now ≡ object_of view.now.ray looked.now.instance.now.matrix }
     ensures { let s = view.now in
         OnOk result (AddsWide limit s (wide_roots s i) turns.old turns.new) }
 {
     view.known();
-    let trees = object(i, looked, &aim.ray);
+    let trees = object(i, looked, ray);
     push_child(&trees, limit, trees.wide.root(), turns)
 }
 
@@ -174,7 +177,7 @@ fn pass_root_of(
     view.known();
     match looked.bottom.wide().root() {
         WideRef::Inner(w) => open_object(view, i, looked, aim, w, limit, turns),
-        _ => push_root_of(view, i, looked, aim, limit, turns),
+        _ => push_root_of(view, i, looked, &aim.ray, limit, turns),
     }
 }
 
@@ -196,25 +199,22 @@ fn open_instances<'a>(
 {
     match view.top().items_of(n) {
         [i] => pass_root(view, held, limit, *i, turns),
-        items => push_roots(view, held, limit, items, turns),
+        items => push_roots(view, limit, items, turns),
     }
 }
 
 // Adds the turns of the roots of the structures of instances.
-fn push_roots<'a>(
-    view: &View<'a>,
-    held: &mut Option<Held<'a>>,
+fn push_roots(
+    view: &View<'_>,
     limit: Option<Ratio>,
     items: &[u32],
     turns: &mut Turns,
 ) -> Result<(), NoMemory>
-    requires held { IfSome held.old (IsHeld view.now) }
-    ensures pushed { let s = view.now in
+    ensures { let s = view.now in
         OnOk result (AddsWide limit s (flat_map (wide_roots s) items.now) turns.old turns.new) }
-    ensures held { IfSome held.new (IsHeld view.now) }
 {
     for i in items {
-        push_root(view, held, limit, *i, turns)?;
+        push_root(view, limit, *i, turns)?;
     }
     Ok(())
 }
@@ -238,10 +238,10 @@ fn open_object(
     ensures looked { IsLookedAt view.now i looked.now aim.new }
 {
     view.known();
-    let window = window_at(aim, limit);
+    let window = sight_at(aim, limit);
     let trees = object(i, looked, &aim.ray);
     let mut eight = None;
-    let Down { at, met } = descend(&trees, &window, w, limit, &mut aim.slabs, &mut eight);
+    let Down { at, met } = descend(&trees, &window, &aim.slabs, w, limit, &mut eight);
     push_children(&trees, at, met, &eight, limit, &mut aim.recent, turns)
 }
 

@@ -1,10 +1,6 @@
-use Rattle.std.proofs.Common.{rules, ◌≡◌, sym, subst, to_z, of_z, w64, to_z-of_z}
-use Rattle.ray_window.specs.Lines.{AreLines}
-use Rattle.ray_slabs.proofs.Joining.{ray_lines}
+use Rattle.std.proofs.Common.{Some}
+use Rattle.ray_window.specs.Windows.{window_of}
 use Rattle.ray_slabs.proofs.slabs_of.made.Goals as goal
 
-pub sides_of-requires-clause-lines : goal.sides_of-requires-clause-lines
-sides_of-requires-clause-lines c =
-    let ray = c.args.ray.now in
-    let det : to_z w64 (of_z w64 c.det.result) ≡ ray.det = search (rules, to_z-of_z) in
-    subst (λ m. m) (λ i. AreLines (sym det i) (sym c.origin.ensures.value i) (sym c.dir.ensures.value i)) (ray_lines ray c.det.ensures.limits)
+pub returns-then-slabs : goal.returns-then-slabs
+returns-then-slabs c = c.bare-slabs.ensures c.if-slabs.true (window_of c.args.ray.now (Some c.args.until))

@@ -16,4 +16,4 @@ returns-in_default-clause-opened c =
     let same : c.items_of.result.now ≡ items = search rules in
     on_ok_weaker c.push_roots.result
     (λ added. below-itself s c.args.limit old new (flat_map (wide_roots s) items)
-    (subst (λ (xs : List ℕ). AddsWide c.args.limit s (flat_map (wide_roots s) xs) old new) same added)) c.push_roots.ensures.pushed
+    (subst (λ (xs : List ℕ). AddsWide c.args.limit s (flat_map (wide_roots s) xs) old new) same added)) c.push_roots.ensures

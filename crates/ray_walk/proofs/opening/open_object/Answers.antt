@@ -35,7 +35,7 @@ returns-clause-opened c =
     let new = c.push_children.new.turns in
     let told = c.object-trees.ensures in
     let way = c.descend-at.ensures.down in
-    let ways = object-ways s t i p c.requires.looked.placed told.tree told.wide (told.ray ∙ (c.window_at-window.ensures.ray ∙ c.requires.looked.ray_is)) told.level in
+    let ways = object-ways s t i p c.requires.looked.placed told.tree told.wide (told.ray ∙ (c.sight_at-window.ensures.ray ∙ c.requires.looked.ray_is)) told.level in
     on_ok_weaker c.push_children.result
     (λ added. below-inner s c.args.limit i c.args.w old new
     (subst (λ (l : Level). AddsNodes c.args.limit (wide_scene s) ((wide_scene s).below (inner_at l c.args.w)) old new) told.level

@@ -27,7 +27,7 @@ returns-clause-opened c =
     let new = c.push_children.new.turns in
     let told = c.world-trees.ensures in
     let way = c.descend-at.ensures.down in
-    let ways = world-ways s t told.tree told.wide (told.ray ∙ (c.window_at-window.ensures.ray ∙ c.requires.aim.ray_is)) told.level in
+    let ways = world-ways s t told.tree told.wide (told.ray ∙ (c.sight_at-window.ensures.ray ∙ c.requires.aim.ray_is)) told.level in
     on_ok_weaker c.push_children.result
     (λ added. below-top s c.args.limit c.args.w old new
     (subst (λ (l : Level). AddsNodes c.args.limit (wide_scene s) ((wide_scene s).below (inner_at l c.args.w)) old new) told.level

@@ -36,5 +36,5 @@ returns c =
     on_ok_weaker c.push_child.result
     (λ added. subst (λ (o : Option Placement). AddsWide c.args.limit s (root_by c.args.i o) old new) (sym c.requires.placed)
     (subst (λ (r : WideRef). AddsWide c.args.limit s (child (Object c.args.i) r) old new) root
-    (through-object s t c.args.limit old new (λ level. child level c.root.result) c.args.i p told.tree told.wide (told.ray ∙ c.requires.ray_is) told.level
+    (through-object s t c.args.limit old new (λ level. child level c.root.result) c.args.i p told.tree told.wide (told.ray ∙ c.requires.ray) told.level
     (object-entries s c.args.i p c.requires.placed c.root.result) added))) c.push_child.ensures

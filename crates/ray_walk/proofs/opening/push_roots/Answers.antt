@@ -10,8 +10,6 @@ loop-i-preserved c =
     let s = c.args.view.now in
     let items = c.args.items.now in
     let k = c.loop-i.i-index in
-    let below : k < length items = (let t = c.loop-i-test.true in grind (arith, nat_tests)) in (
-      Adds-flat (AddsNode c.args.limit (wide_entry s)) (wide_roots s) items k _ c.args.turns.now c.loop-i.turns c.push_root.new.turns below c.loop-i.invariant.0
-          c.in_ok-push_root.ensures.pushed,
-      c.in_ok-push_root.ensures.held,
-    )
+    let below : k < length items = (let t = c.loop-i-test.true in grind (arith, nat_tests)) in
+    Adds-flat (AddsNode c.args.limit (wide_entry s)) (wide_roots s) items k _ c.args.turns.now c.loop-i.turns c.push_root.new.turns below c.loop-i.invariant
+    c.in_ok-push_root.ensures

@@ -3,7 +3,7 @@ use Rattle.std.specs.Prelude.{IfSome}
 use Rattle.ray_wide.specs.Wides.{children_in}
 use Rattle.ray_walk.specs.Aims.{IsAlone}
 use Rattle.ray_walk.proofs.Descending.{later, leads-more, leads-on}
-use Rattle.ray_walk.proofs.descent.descend.Goals as goal
+use Rattle.ray_walk.proofs.descent.descend_seen.Goals as goal
 
 pub loop-seen-preserved : goal.loop-seen-preserved
 loop-seen-preserved c =
@@ -21,10 +21,7 @@ loop-seen-preserved c =
         node = after.1;
         levels = suc way.levels;
         leads = leads-more limit t way.levels c.args.w at below way.leads on;
-        out = c.left_of-seen-in-Some.ensures.out;
+        out = c.left_seen-seen-in-Some.ensures.out;
       };
-      alone = c.left_of-seen-in-Some.ensures.alone;
-      eight = c.left_of-seen-in-Some.ensures.eight;
-      none = c.left_of-seen-in-Some.ensures.none;
-      slabs = c.left_of-seen-in-Some.ensures.slabs;
+      alone = c.left_seen-seen-in-Some.ensures.alone;
     }
