@@ -74,7 +74,7 @@ fn words<R: Env + AllocGlobal>(rt: &R) -> Result<Vec<String>, AllocError> {
 
 // Does what the words ask for, and gives the status.
 fn answer<S: Source, K: Sink>(alloc: Global, words: &[String], source: &mut S, sink: &mut K) -> u8 {
-    match reply(alloc, words, source) {
+    match reply_to(alloc, words, source) {
         Ok(reply) => written(sink, &reply),
         Err(AllocError) => NO_MEMORY,
     }
@@ -89,7 +89,11 @@ fn written<K: Sink>(sink: &mut K, reply: &Reply) -> u8 {
 }
 
 // What the words ask for.
-fn reply<S: Source>(alloc: Global, words: &[String], source: &mut S) -> Result<Reply, AllocError> {
+fn reply_to<S: Source>(
+    alloc: Global,
+    words: &[String],
+    source: &mut S,
+) -> Result<Reply, AllocError> {
     match words {
         [] => of_source(alloc, source),
         [word] => match word.as_str() {
