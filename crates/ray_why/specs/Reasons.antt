@@ -1,0 +1,77 @@
+-- Why bytes are refused as a recording, or that they aren't. (Own.)
+use Rattle.std.specs.Prelude.{ℕ, ◌≡◌, List, Option, Some, None, Ok, Err, String, is_some}
+use Rattle.std.specs.declared.alloc.Global.{Global}
+use Rattle.serde_json.specs.Data.{Data}
+use Rattle.serde_json.specs.Errors.{IsMemory}
+use Rattle.serde_json.specs.declared.error.Error.{Error}
+use Rattle.ray_cmd.specs.declared.command.Command.{Command}
+use Rattle.ray_cmd.specs.declared.fault.RecordingFault.TheVariants.{BadShape}
+use Rattle.ray_cmd.specs.declared.refusal.Refusal.{Refusal}
+use Rattle.ray_cmd.specs.Json.{json_of}
+use Rattle.ray_cmd.specs.Recordings.{recording_of}
+use Rattle.ray_rules.specs.Order.{barriers}
+use Rattle.ray_rules.specs.Verdict.{rule_refusal}
+use Rattle.ray_shape.specs.declared.explaining.ShapeFault.{ShapeFault}
+use Rattle.ray_shape.specs.declared.explaining.ShapeFault.TheVariants as faults
+use Rattle.ray_shape.specs.Faults.{IsShapeFault}
+use Rattle.ray_shape.specs.Wrong.{stands}
+use Rattle.ray_why.specs.declared.reasons.Misshapen.{Misshapen}
+use Rattle.ray_why.specs.declared.reasons.Unread.{Unread}
+use Rattle.ray_why.specs.declared.reasons.Unread.TheVariants as unreads
+use Rattle.ray_why.specs.declared.reasons.Why.{Why}
+use Rattle.ray_why.specs.declared.reasons.Why.TheVariants as whys
+
+-- whether something is told of what stands at the place of a fault: it is exactly where something stands there
+abbrev pub AreFound : ShapeFault → Option (String Global) → Data → Type 0
+AreFound (faults.Wrong wrong) found d = is_some found ≡ is_some (stands wrong.path.items d)
+AreFound faults.NoList found d = found ≡ None
+AreFound faults.TooMany found d = found ≡ None
+
+-- what is wrong with a command that has no shape of a command
+pub record IsMisshapen (m : Misshapen) (d : Data) : Type 0 where
+  pub fault : IsShapeFault m.fault m.command d
+  pub found : AreFound m.fault m.found d
+
+-- what the rules on the recording alone say of it
+abbrev pub why_of_rules : Option Refusal → Why
+why_of_rules None = whys.Kept
+why_of_rules (Some refusal) = whys.Refused refusal
+
+-- a JSON value is a recording of which the rules say this
+pub record IsByRules (why : Why) (d : Data) : Type 0 where
+  pub commands : List Command
+  pub read : recording_of d ≡ Ok commands
+  pub rules : why ≡ why_of_rules (rule_refusal (barriers commands) commands)
+
+-- why a JSON value is refused: its first command without a shape, with what is wrong in it; or by the rules
+abbrev pub IsWhyOf : Why → Data → Type 0
+IsWhyOf whys.Kept d = IsByRules whys.Kept d
+IsWhyOf (whys.NotJson words) d = ⊥
+IsWhyOf (whys.BadShape m) d = (recording_of d ≡ Err (BadShape m.command)) × IsMisshapen m d
+IsWhyOf (whys.Refused refusal) d = IsByRules (whys.Refused refusal) d
+
+-- that something is no JSON
+abbrev pub IsNotJson : Why → Type 0
+IsNotJson (whys.NotJson words) = Unit {0}
+IsNotJson why = ⊥
+
+-- why what may be a JSON value is refused
+abbrev pub IsWhyIf : Why → Option Data → Type 0
+IsWhyIf why None = IsNotJson why
+IsWhyIf why (Some d) = IsWhyOf why d
+
+-- why bytes are refused: they are no JSON, or their value is
+abbrev pub IsWhy : Why → List ℕ → Type 0
+IsWhy why bytes = IsWhyIf why (json_of bytes)
+
+-- ---- no JSON
+
+-- what is told of bytes without a JSON value is so; want of memory is free
+abbrev pub IsUnread : Unread → Option Data → Type 0
+IsUnread (unreads.NotJson words) found = found ≡ None
+IsUnread unreads.NoMemory found = Unit {0}
+
+-- the same of an error of the reader: words are told of one that isn't want of memory
+abbrev pub IsOfError : Unread → Error → Type 0
+IsOfError (unreads.NotJson words) error = ¬ IsMemory error
+IsOfError unreads.NoMemory error = Unit {0}

@@ -1,0 +1,23 @@
+//! Why a recording is refused, told so that its author can mend it.
+//!
+//! The layer above uses [`why_of`], whose clause `IsWhy` of `specs/Reasons` says that its answer is
+//! that of a check of the same bytes, by `recording_of` of ray_cmd and `rule_refusal` of ray_rules,
+//! and of a command without a shape which place is wrong; and [`told`], which makes a text of it
+//! whose first line is the one that `vkray check` writes (`line_of` of `specs/Lines`).
+//!
+//! It stands on ray_cmd (the recording), ray_shape (the place that is wrong) and ray_rules (the
+//! definitions of the rules); who decides these is a [`Rules`] that the layer above brings.
+#![tactic(auto)]
+
+mod line;
+mod reasons;
+mod rules;
+mod sentences;
+mod telling;
+mod wanted;
+
+pub use crate::line::first_line;
+pub use crate::reasons::{Misshapen, Why, why_of};
+pub use crate::rules::Rules;
+pub use crate::telling::told;
+pub use std::alloc::AllocError as NoMemory;
