@@ -15,7 +15,7 @@ use Rattle.ray_permitted.specs.Laws.{UnrefusedBreakNoRule}
 use Rattle.ray_exec.specs.declared.run_fault.RunFault.{RunFault}
 use Rattle.ray_exec.specs.Runs.{IsRun}
 use Rattle.vkray.specs.declared.asked.Asked.{Asked}
-use Rattle.vkray.specs.declared.asked.Asked.TheVariants.{Run, Check, Queues, Groups, Certify, Verify}
+use Rattle.vkray.specs.declared.asked.Asked.TheVariants as asked
 use Rattle.vkray.specs.declared.request.Request.TheVariants.{Input}
 use Rattle.vkray.specs.declared.stop.Stop.{Stop}
 use Rattle.vkray.specs.Answer.{ran, run_with}
@@ -24,21 +24,21 @@ use Rattle.vkray.specs.Tasks.{tabled_task}
 
 -- whether what is asked tells the text of a run, and no certificates in its place
 abbrev pub tells_text : Asked → Bool
-tells_text (Run workers) = true
-tells_text Check = true
-tells_text (Queues workers) = true
-tells_text Groups = true
-tells_text Certify = false
-tells_text Verify = true
+tells_text (asked.Run workers) = true
+tells_text asked.Check = true
+tells_text (asked.Queues workers) = true
+tells_text asked.Groups = true
+tells_text asked.Certify = false
+tells_text asked.Verify = true
 
 ended_is : (what : Asked) → tells_text what ≡ true → (job : Job) (refusal : Option Refusal)
     → ending_with (run_below job (refused_from (length job.commands) refusal)) refusal ≡ run_with (Input what) job refusal
-ended_is (Run workers) tells job None = refl
-ended_is Check tells job None = refl
-ended_is (Queues workers) tells job None = refl
-ended_is Groups tells job None = refl
-ended_is Certify tells job None = absurd cc
-ended_is Verify tells job None = refl
+ended_is (asked.Run workers) tells job None = refl
+ended_is asked.Check tells job None = refl
+ended_is (asked.Queues workers) tells job None = refl
+ended_is asked.Groups tells job None = refl
+ended_is asked.Certify tells job None = absurd cc
+ended_is asked.Verify tells job None = refl
 ended_is what tells job (Some refusal) = refl
 
 -- what a call ends with that has run the commands of a job below the refused one
@@ -53,10 +53,10 @@ ends what tells job found refusal n same at given run r ended =
 pub tabled_ends : (t : TabledCommands) (rec : List Command) (tables : TraceTables) (found : Option Refusal) (n : ℕ) → rec ≡ t.commands → tables ≡ t.tables
     → found ≡ rule_refusal (barriers rec) rec → n ≡ refused_from (length rec) found
     → (given : Result (Vec ℕ Global) RunFault) → IsRun (run_below (on_one_queue rec (clients tables)) n) given → (r : Result (Vec ℕ Global) Stop)
-    → ((is : Run) → IsRun is given → Ends (ending_with is found) r) → Ends (ran (Input Groups) (tabled_task t)) r
+    → ((is : Run) → IsRun is given → Ends (ending_with is found) r) → Ends (ran (Input asked.Groups) (tabled_task t)) r
 tabled_ends t rec tables found n commands decided refusal at given run r ended =
-    subst (λ (u : TabledCommands). Ends (ran (Input Groups) (tabled_task u)) r) (λ i. record { commands = commands i; tables = decided i })
-    (ends Groups refl (on_one_queue rec (clients tables)) found (rule_refusal (barriers rec) rec) n refusal at given run r ended)
+    subst (λ (u : TabledCommands). Ends (ran (Input asked.Groups) (tabled_task u)) r) (λ i. record { commands = commands i; tables = decided i })
+    (ends asked.Groups refl (on_one_queue rec (clients tables)) found (rule_refusal (barriers rec) rec) n refusal at given run r ended)
 
 -- the commands that it runs keep the static rules
 pub keep_rules : (rec : List Command) (found : Option Refusal) (n : ℕ) → UnrefusedBreakNoRule rec → found ≡ rule_refusal (barriers rec) rec

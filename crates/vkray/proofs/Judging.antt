@@ -1,6 +1,6 @@
 -- What an input ends with whose lines are judged, and that each input has one answer.
 use Rattle.std.proofs.Common.{ℕ, ◌≡◌, ◌==◌, Bool, true, false, List, length, Option, None, Some, Result, Ok, Err, Vec, Global, refl, ap, sym, subst, ◌∙◌}
-use Rattle.std.proofs.lemmas.Nat.{eqb-refl}
+use Rattle.std.proofs.lemmas.Bool.{eq-eqb}
 use Rattle.ray_cmd.specs.declared.command.Command.{Command}
 use Rattle.ray_cmd.specs.declared.refusal.Refusal.{Refusal}
 use Rattle.ray_cmd.specs.declared.fault.RecordingFault.{RecordingFault}
@@ -87,12 +87,12 @@ by_ending ending (Err stop) h = by_stop ending stop h
 
 -- of what isn't judged
 pub told_ends : (what : Asked) (input : List ℕ) (r : Result (Vec ℕ Global) Stop) → is_of_certificates what ≡ false → Ends (answer_of (Input what) input) r → EndsTo (Input what) input r
-told_ends (asked.Run workers) input r no h = by_ending (answer_of (Input (asked.Run workers)) input) r h
-told_ends asked.Check input r no h = by_ending (answer_of (Input asked.Check) input) r h
-told_ends (asked.Queues workers) input r no h = by_ending (answer_of (Input (asked.Queues workers)) input) r h
-told_ends asked.Groups input r no h = by_ending (answer_of (Input asked.Groups) input) r h
-told_ends asked.Certify input r no h = absurd cc
-told_ends asked.Verify input r no h = absurd cc
+told_ends (asked.Run workers) input r unjudged h = by_ending (answer_of (Input (asked.Run workers)) input) r h
+told_ends asked.Check input r unjudged h = by_ending (answer_of (Input asked.Check) input) r h
+told_ends (asked.Queues workers) input r unjudged h = by_ending (answer_of (Input (asked.Queues workers)) input) r h
+told_ends asked.Groups input r unjudged h = by_ending (answer_of (Input asked.Groups) input) r h
+told_ends asked.Certify input r unjudged h = absurd cc
+told_ends asked.Verify input r unjudged h = absurd cc
 
 -- of the other requests
 pub generated_ends : (request : Request) (input : List ℕ) (r : Result (Vec ℕ Global) Stop) → ((e : Ending) → answer_of request input ≡ e → IsAnswerTo request input e)
@@ -267,6 +267,10 @@ comes_to_text rec text e = by_refusal (rule_refusal (barriers rec) rec) refl e
         record { none = is; text = run.0; run = run.1 }
     by_refusal (Some refusal) is e = absurd (no_text (run_below (recorded rec) refusal.command) refusal text e)
 
+of_input_read : (other : List ℕ) (c : CertifiedCommands) → certified_in other ≡ Ok c → answer_of (Input asked.Verify) other ≡ ran (Input asked.Verify) (certified_task c)
+unfolding answer_of
+of_input_read other c read = ap (λ x. with_task (ran (Input asked.Verify)) (task_of_read certified_task x)) read
+
 pub verifiable : (rec : List Command) (text : List ℕ) → run_with (Input asked.Certify) (recorded rec) (rule_refusal (barriers rec) rec) ≡ Ok text
     → CertifyThemselves (rays_below (recorded rec) (length rec)) → IsVerifiable rec
 verifiable rec text told certify other lines are many read =
@@ -278,13 +282,16 @@ verifiable rec text told certify other lines are many read =
     let run = comes_to_text rec text told in
     subst (λ (x : Result CertifiedCommands BadInput). InPlaceOfText x (answer_of (Input asked.Verify) other) (Ok (verdict_line (length lines) Certified))) (sym read)
     (subst (λ (e : Ending). InPlaceOfText (Ok c) e (Ok (verdict_line (length lines) Certified))) (sym (of_input_read other c read))
-    (verdict_by c run.none true Certified (same_test (length lines) (ray_count rec (length rec)) many)
+    (verdict_by c run.none true Certified (eq-eqb (length lines) (ray_count rec (length rec)) many)
     (record { text = run.text; run = run.run; is = verdict }) (Ok (verdict_line (length lines) Certified))
     (record { verdict = Certified; is_it = verdict; names = λ e. names; told = refl })))
-  where
-    same_test : (a b : ℕ) → a ≡ b → (a == b) ≡ true
-    same_test a b e = subst (λ x. (a == x) ≡ true) e (eqb-refl a)
 
-    of_input_read : (other : List ℕ) (c : CertifiedCommands) → certified_in other ≡ Ok c → answer_of (Input asked.Verify) other ≡ ran (Input asked.Verify) (certified_task c)
-    unfolding answer_of
-    of_input_read other c read = ap (λ x. with_task (ran (Input asked.Verify)) (task_of_read certified_task x)) read
+-- ---- which words
+
+pub not_of_certificates : (what : Asked) → (what ≡ asked.Certify → ⊥) → (what ≡ asked.Verify → ⊥) → is_of_certificates what ≡ false
+not_of_certificates (asked.Run workers) c v = refl
+not_of_certificates asked.Check c v = refl
+not_of_certificates (asked.Queues workers) c v = refl
+not_of_certificates asked.Groups c v = refl
+not_of_certificates asked.Certify c v = absurd (c refl)
+not_of_certificates asked.Verify c v = absurd (v refl)

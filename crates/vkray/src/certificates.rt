@@ -67,7 +67,20 @@ pub(crate) fn verify_recording<R: Threads + Sync, G: Gate + Sync>(
 ) -> Result<Vec<u8>, Stop>
     ensures { IsVerifiedTo certified.now result }
 {
-    let recording = certified.recording();
+    verify_lines(rt, alloc, certified.recording(), certified.certificates(), gate)
+}
+
+// The same of a recording and lines.
+fn verify_lines<R: Threads + Sync, G: Gate + Sync>(
+    rt: &R,
+    alloc: Global,
+    recording: &Recording,
+    lines: &[Line],
+    gate: &G,
+) -> Result<Vec<u8>, Stop>
+    ensures { IsVerifiedTo (record { commands = recording.now; certificates = lines.now })
+        result }
+{
     match check_rules(alloc, recording) {
         Ok(Some(refusal)) => {
             let mut state = State::new(alloc);
@@ -75,23 +88,23 @@ pub(crate) fn verify_recording<R: Threads + Sync, G: Gate + Sync>(
             let run = run_until(rt, alloc, &mut state, recording, until, 1, gate);
             ended(run, Some(refusal))
         }
-        Ok(None) => verify_all(rt, alloc, certified, gate),
+        Ok(None) => verify_all(rt, alloc, recording, lines, gate),
         Err(_) => Err(Stop::NoMemory),
     }
 }
 
-// The same of a recording none of whose commands is refused by the rules on them alone.
+// The same where none of the commands is refused by the rules on them alone.
 fn verify_all<R: Threads + Sync, G: Gate + Sync>(
     rt: &R,
     alloc: Global,
-    certified: &CertifiedRecording,
+    recording: &Recording,
+    lines: &[Line],
     gate: &G,
 ) -> Result<Vec<u8>, Stop>
-    requires { rule_refusal (barriers certified.now.commands) certified.now.commands ≡ None }
-    ensures { IsVerifiedTo certified.now result }
+    requires { rule_refusal (barriers recording.now) recording.now ≡ None }
+    ensures { IsVerifiedTo (record { commands = recording.now; certificates = lines.now })
+        result }
 {
-    let recording = certified.recording();
-    let lines = certified.certificates();
     unrefused_break_no_rule(recording);
     match verify(rt, alloc, recording, lines, gate) {
         Ok(verdict) => {
