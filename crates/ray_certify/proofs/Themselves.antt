@@ -31,7 +31,7 @@ themselves_certified (r ∷ rays) certify seen = by_seen certify.0 seen.0 (thems
         let one : IsCertifiedBy r s (line_for r s) = subst (λ o. IfSome o (λ x. IsCertifiedBy r x (line_for r x))) is certified in (
           subst (λ ls. IsVerdict (r ∷ rays) ls Certified) (sym lines) (inl (subst (λ o. IsCertifiedIn r o (line_for r s)) (sym is) one, rest.0)),
           subst (NameAnswers (r ∷ rays)) (sym lines)
-          (subst (λ o. NamesAnswerIn r o (line_for r s)) (sym is) (record { cert = certificate_of r s; spelled = refl; names = refl }), rest.1),
+              (subst (λ o. NamesAnswerIn r o (line_for r s)) (sym is) (record { cert = certificate_of r s; spelled = refl; names = refl }), rest.1),
         )
 
 -- ---- how many

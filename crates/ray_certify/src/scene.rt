@@ -102,10 +102,7 @@ fn script_of_rules(alloc: Global, rules: &[RawRule]) -> Result<Script, NoMemory>
 }
 
 // What is read, with the stated trees of its structures.
-fn seen_of(
-    alloc: Global,
-    inputs: Option<TraceInputs<'_>>,
-) -> Result<Option<Seen<'_>>, NoMemory>
+fn seen_of(alloc: Global, inputs: Option<TraceInputs<'_>>) -> Result<Option<Seen<'_>>, NoMemory>
     requires { IfSome inputs (λ t. AreStanding (without_tree t.top.now)
         (structures_in t.bottoms.now)) }
     ensures same { IfOk result (λ seen. seen_in seen ≡ option_map lent inputs.entry) }

@@ -52,7 +52,14 @@ pub(crate) fn certificate_line<C: Client>(
         top, bottoms, ray, number, flags, mask, client, turns, &mut steps,
     )?;
     let cert = make_cert(
-        alloc, top, bottoms, &seen.trees, ray, mask, commit, &mut steps,
+        alloc,
+        top,
+        bottoms,
+        &seen.trees,
+        ray,
+        mask,
+        commit,
+        &mut steps,
     )?;
     has_small_number(way);
     has_small_numbers(cert.named());

@@ -44,7 +44,10 @@ impl State {
     {
         match command {
             Command::Trace {
-                top, rays, count, ..
+                top,
+                rays,
+                count,
+                ..
             } => self.inputs(*top, all_rays(*rays, *count)),
             _ => None,
         }

@@ -94,16 +94,6 @@ told_ends asked.Groups input r unjudged h = by_ending (answer_of (Input asked.Gr
 told_ends asked.Certify input r unjudged h = absurd cc
 told_ends asked.Verify input r unjudged h = absurd cc
 
--- of the other requests
-pub generated_ends : (request : Request) (input : List ℕ) (r : Result (Vec ℕ Global) Stop) → ((e : Ending) → answer_of request input ≡ e → IsAnswerTo request input e)
-    → Ends (answer_of request input) r → EndsTo request input r
-generated_ends request input (Ok text) is h = is (Ok text.items) h
-generated_ends request input (Err stops.BadWords) is h = h
-generated_ends request input (Err stops.ReadFault) is h = h
-generated_ends request input (Err stops.TooLong) is h = h
-generated_ends request input (Err (stops.Input fault)) is h = is (Err (stops.Input fault)) h
-generated_ends request input (Err stops.NoMemory) is h = tt
-
 -- ---- a recording whose rays are certified
 
 certifying_stop : (rec : List Command) (input : List ℕ) (stop : Stop) → recording_in input ≡ Ok rec → StopsBy (IsCertifyingOf rec) stop → StopsBy (IsAnswerTo (Input asked.Certify) input) stop

@@ -67,7 +67,13 @@ pub(crate) fn verify_recording<R: Threads + Sync, G: Gate + Sync>(
 ) -> Result<Vec<u8>, Stop>
     ensures { IsVerifiedTo certified.now result }
 {
-    verify_lines(rt, alloc, certified.recording(), certified.certificates(), gate)
+    verify_lines(
+        rt,
+        alloc,
+        certified.recording(),
+        certified.certificates(),
+        gate,
+    )
 }
 
 // The same of a recording and lines.

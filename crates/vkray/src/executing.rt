@@ -8,8 +8,8 @@ ghost use Rattle.vkray.specs.Endings.{Ends, EndsTo, IsWithinLimits, is_of_certif
 ghost use Rattle.vkray.specs.Tasks.{recorded_task};
 
 use crate::asked::Asked;
-use crate::input_fault::InputFault;
 use crate::certificates::{certify_recording, verify_recording};
+use crate::input_fault::InputFault;
 use crate::running::{run, run_queued, run_tabled};
 use crate::stop::Stop;
 use ray_check::check_rules;

@@ -28,7 +28,11 @@ pub(crate) fn bad_submits_line(alloc: Global, entry: u32) -> Result<String, NoMe
 }
 
 // The line of a verdict on so many lines: `yes N`, or `no I K`.
-pub(crate) fn verdict_line(alloc: Global, count: usize, verdict: Verdict) -> Result<String, NoMemory>
+pub(crate) fn verdict_line(
+    alloc: Global,
+    count: usize,
+    verdict: Verdict,
+) -> Result<String, NoMemory>
     ensures { IfOk result (λ line. string_bytes line ≡ lines.verdict_line count verdict) }
 {
     match verdict {
