@@ -23,10 +23,11 @@ use ray_walk::Turns;
 use std::alloc::{AllocError as NoMemory, Global};
 use std::thread::Threads;
 
-/// Runs a recording in recording order, and gives the certificates of the rays of its traces: a line
-/// for each ray of each trace, `cert I K HIT |` and the strings of digits, in recording order. A ray's
-/// certificate names what testing every primitive commits, and a digit is 1 exactly where its node is
-/// met up to the committed distance. All commands keep the rules V1 to V24 and V28 to V31. (Own.)
+/// Runs a recording in recording order, and gives the certificates of the rays of its traces: a
+/// line for each ray of each trace, `cert I K HIT |` and the strings of digits, in recording order.
+/// A ray's certificate names what testing every primitive commits, and a digit is 1 exactly where
+/// its node is met up to the committed distance. All commands keep the rules V1 to V24 and V28 to
+/// V31. (Own.)
 ///
 /// # Errors
 ///

@@ -1,4 +1,5 @@
-//! Certificates of a whole run: those of all rays of its traces, made and checked in recording order.
+//! Certificates of a whole run: those of all rays of its traces, made and checked in recording
+//! order.
 //!
 //! - [`certify`] runs a recording and gives the lines of its certificates, `certificates_of` of
 //!   `specs/Certified`: for each ray of each trace, in recording order, the certificate of what
@@ -6,13 +7,15 @@
 //! - [`verify`] runs a recording and gives the [`Verdict`] on lines, by `IsVerdict` of
 //!   `specs/Verified`: that each certifies the ray with its number, or which ray is the first that
 //!   isn't certified. A line certifies a ray where it spells a certificate that supports its hit;
-//! - [`ray_count`] is how many rays a recording's traces have;
-//! - the laws [`verdicts_are_answers`] and [`certificates_verify`]: what is certified is the answer
-//!   over all candidates, and what [`certify`] gives certifies every ray.
+//! - [`ray_count`] is how many rays a recording's traces have.
+//!
+//! What is certified is the answer over all candidates: the clause `law` of [`verify`]. That what
+//! [`certify`] gives certifies every ray is part of its clause.
 //!
 //! Both runs are those of ray_exec, command by command: their refusals are the run's own. It stands
-//! on ray_exec (the run), ray_memory (what a trace reads), ray_cert (certificates), ray_walk (what is
-//! committed, for those that are made; a checker's yes doesn't depend on it) and ray_inputs (lines).
+//! on ray_exec (the run), ray_memory (what a trace reads), ray_cert (certificates), ray_walk (what
+//! is committed, for those that are made; a checker's yes doesn't depend on it) and ray_inputs
+//! (lines).
 #![tactic(auto)]
 
 mod certifying;

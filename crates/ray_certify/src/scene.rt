@@ -20,8 +20,8 @@ use ray_script::{BadScript, RawRule, Script, script_of};
 use std::alloc::{AllocError as NoMemory, Global};
 use std::marker::Brand;
 
-// A trace: how its rays are traced, how many there are, who decides on their candidates, and what it
-// reads, where that is there.
+// A trace: how its rays are traced, how many there are, who decides on their candidates, and what
+// it reads, where that is there.
 #[derive(Drop)]
 pub struct Scene<'s> {
     pub way: Way,

@@ -30,11 +30,11 @@ use ray_ready::{accepted_have_scripts, kept_are_accepted};
 use std::alloc::{AllocError as NoMemory, Global};
 use std::thread::Threads;
 
-/// Runs a recording in recording order, and tells whether lines certify the rays of its traces, each
-/// the ray with its number: whether it is the spelling, with the trace's command and the ray's number
-/// in it, of a certificate that supports its hit. Then that hit is what testing every primitive
-/// commits. Lines beyond the last ray are not looked at, and a ray without a line isn't certified.
-/// All commands keep the rules V1 to V24 and V28 to V31. (Own.)
+/// Runs a recording in recording order, and tells whether lines certify the rays of its traces,
+/// each the ray with its number: whether it is the spelling, with the trace's command and the ray's
+/// number in it, of a certificate that supports its hit. Then that hit is what testing every
+/// primitive commits. Lines beyond the last ray are not looked at, and a ray without a line isn't
+/// certified. All commands keep the rules V1 to V24 and V28 to V31. (Own.)
 ///
 /// # Errors
 ///

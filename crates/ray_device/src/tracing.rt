@@ -71,12 +71,12 @@ fn hits<C: Client, L: Ledger>(
 }
 
 /// What rays of a trace give, where a client decides on their candidates: the bytes of their hits,
-/// 80 each. `count` rays stand in the range, of which the first has the number `first` in its trace.
-/// They and the top structure are there, with the structures of its active instances as they were
-/// when it was built or last updated; and `flags` doesn't ask that everything counts as opaque and
-/// that nothing does. `Data` comes exactly where a ray is beyond the limits (X11), and tells the
-/// first: its number in the trace. A step is taken for each primitive that is tested: for each ray no
-/// more than those of the leaves that it opens, in a walk through the trees.
+/// 80 each. `count` rays stand in the range, of which the first has the number `first` in its
+/// trace. They and the top structure are there, with the structures of its active instances as they
+/// were when it was built or last updated; and `flags` doesn't ask that everything counts as opaque
+/// and that nothing does. `Data` comes exactly where a ray is beyond the limits (X11), and tells
+/// the first: its number in the trace. A step is taken for each primitive that is tested: for each
+/// ray no more than those of the leaves that it opens, in a walk through the trees.
 /// (OpRayQueryInitializeKHR and the steps after it)
 pub(crate) fn traced_rays<C: Client, L: Ledger>(
     alloc: Global,

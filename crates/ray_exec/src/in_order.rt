@@ -21,9 +21,9 @@ use std::alloc::Global;
 use std::thread::Threads;
 
 /// Runs the commands below `until` in recording order, on the calling thread: each piece is stored
-/// before the next is fetched. They keep the rules V1 to V24 and V28 to V31; no order is read. Gives
-/// their text, or the refusal of the first that breaks a data rule. After a text the state holds the
-/// memory that the run leaves; after a fault what some of the commands wrote. (Own.)
+/// before the next is fetched. They keep the rules V1 to V24 and V28 to V31; no order is read.
+/// Gives their text, or the refusal of the first that breaks a data rule. After a text the state
+/// holds the memory that the run leaves; after a fault what some of the commands wrote. (Own.)
 pub fn run_in_order<R: Threads + Sync, F: Fetcher>(
     rt: &R,
     alloc: Global,
@@ -51,9 +51,9 @@ pub fn run_in_order<R: Threads + Sync, F: Fetcher>(
 }
 
 /// Runs one command more in recording order: those before it were run and came to a text, and they
-/// and it keep the rules V1 to V24 and V28 to V31. What it shows is put behind the text. The refusal
-/// comes exactly where it breaks a data rule; want of memory aside, so it does of any more commands
-/// that are run. After a fault the state holds what some of its pieces wrote. (Own.)
+/// and it keep the rules V1 to V24 and V28 to V31. What it shows is put behind the text. The
+/// refusal comes exactly where it breaks a data rule; want of memory aside, so it does of any more
+/// commands that are run. After a fault the state holds what some of its pieces wrote. (Own.)
 pub fn run_command<R: Threads + Sync, F: Fetcher>(
     rt: &R,
     alloc: Global,

@@ -3,9 +3,10 @@
 //!
 //! The layer above uses [`run_waves`], whose clause says that the result is the text of the run, or
 //! its refusal, by `run_below` of ray_permitted. Who fetches a piece, and so decides on candidates,
-//! is a [`Fetcher`]: by the traces' scripts it is [`Scripts`], with a [`Gate`] that is told when each
-//! fetch begins and ends. [`run_numbered`] takes any fetcher and any wave numbers that separate the
-//! commands, and [`run_in_order`] none.
+//! is a [`Fetcher`]: by the traces' scripts it is [`Scripts`], with a [`Gate`] that is told when
+//! each fetch begins and ends. [`run_numbered`] takes any fetcher and any wave numbers that
+//! separate the commands, and [`run_in_order`] none; [`run_command`] does one command more in
+//! recording order, and [`traces_can_begin`] is the law on what stands before a trace then.
 //!
 //! One worker goes in recording order (`in_order`). Of several each draws pieces of a wave, one by
 //! one, and fetches them from the memory that all share (`drawing`); what they give is put in order

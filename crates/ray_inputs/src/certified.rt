@@ -43,8 +43,8 @@ impl CertifiedRecording {
     }
 }
 
-/// Reads the bytes of a JSON text as a recording with certificates: an object of its `commands`, and
-/// of `certificates`, a list of strings. What these say is not looked at. Own.
+/// Reads the bytes of a JSON text as a recording with certificates: an object of its `commands`,
+/// and of `certificates`, a list of strings. What these say is not looked at. Own.
 ///
 /// # Errors
 ///

@@ -63,7 +63,8 @@ impl Buffer {
         overwrite(self.bytes.as_mut_slice(), to, bytes);
     }
 
-    // Writes a word again and again over the bytes of a range, little-endian, as far as it is there.
+    // Writes a word again and again over the bytes of a range, little-endian, as far as it is
+    // there.
     pub(crate) fn refill(&mut self, to: ByteRange, value: u32)
         ensures { IsWrittenIn to (byte_of_word value) self.old self.new }
     {

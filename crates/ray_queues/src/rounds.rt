@@ -80,7 +80,8 @@ impl Ahead {
     }
 }
 
-// The rounds of the commands of a recording below `until`, of which the order over queues says this.
+// The rounds of the commands of a recording below `until`, of which the order over queues says
+// this.
 pub(crate) fn rounds_of(
     alloc: Global,
     rec: &QueueRecording,

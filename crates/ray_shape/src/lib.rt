@@ -1,4 +1,5 @@
-//! The grammar of a recording as a table, and the first place of a JSON value that isn't as it wants.
+//! The grammar of a recording as a table, and the first place of a JSON value that isn't as it
+//! wants.
 //!
 //! The layer above uses [`shape_fault`]: where a recording was refused at a command for its shape,
 //! it gives the path to the place that is wrong and what is wanted there, by `IsShapeFault` of

@@ -45,7 +45,8 @@ fn whole() -> Box3
     Box3::of_corners(lo, hi)
 }
 
-/// The bits of the boxes that may be met by the slabs of a ray. What these tell is put into `eight`.
+/// The bits of the boxes that may be met by the slabs of a ray. What these tell is put into
+/// `eight`.
 pub(crate) fn told_by(slabs: &Slabs, lanes: &Lanes8, eight: &mut Option<Eight>) -> u8
     ensures { AreTold slabs.now lanes.now eight.new result }
 {

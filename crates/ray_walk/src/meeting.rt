@@ -37,7 +37,8 @@ fn meets_points(window: &Window, points: &ItemPoints) -> bool
 }
 
 // Whether it meets the least box of a triangle. It doesn't where the vertices are all before it on
-// an axis, or all behind it. The axes are lanes of one vector, so that there is one jump and not six.
+// an axis, or all behind it. The axes are lanes of one vector, so that there is one jump and not
+// six.
 #[inline(always)]
 fn meets_triangle(window: &Window, a: Point32, b: Point32, c: Point32) -> bool
     ensures { IsTrue result ↔ Meets window.now (box_of_tri (tri_value a b c)) }

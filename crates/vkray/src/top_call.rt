@@ -34,11 +34,12 @@ pub const MOST_BYTES: u32 = 1 << 26;
 /// it breaks no rule V1 to V32; `queues`, also with `--workers N`, and `groups` run what an object
 /// of the source says, a recording that is submitted to several queues or whose candidates are
 /// decided by hit groups; `certify` writes a certificate for each ray of a recording's traces, and
-/// `verify` whether lines are certificates of the rays of an object's commands; `gen SIDE LAYERS RAYS` reads nothing and writes the recording of a
-/// made-up scene, and `selfrun SIDE LAYERS RAYS`, also with `--workers N`, runs that recording and
-/// writes the counts of what its rays commit; all others are bad. Whatever ends the call before its
-/// text, one line says why. The whole text is made before the first write. After a read fault, or
-/// for want of memory, the source may have given a prefix of what it had left.
+/// `verify` whether lines are certificates of the rays of an object's commands;
+/// `gen SIDE LAYERS RAYS` reads nothing and writes the recording of a made-up scene, and
+/// `selfrun SIDE LAYERS RAYS`, also with `--workers N`, runs that recording and writes the counts
+/// of what its rays commit; all others are bad. Whatever ends the call before its text, one line
+/// says why. The whole text is made before the first write. After a read fault, or for want of
+/// memory, the source may have given a prefix of what it had left.
 pub fn vkray<R: Threads + Sync, S: Source, K: Sink, G: Gate + Sync>(
     rt: &R,
     alloc: Global,
