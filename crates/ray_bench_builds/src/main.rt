@@ -7,23 +7,28 @@
 //! the same boxes, and `wide` makes a wide tree of one; `climb` refits one by a seat,
 //! `climb-by-four` by four, and `climb-by-none` only makes what they share. Each prints how often
 //! it built, of how many, and how many of them are active, or how many leaves or nodes there are.
-//! `ray_bench_builds open 10` serializes a bottom structure of 1,048,576 triangles, opens the form
+//! `median-random` and `stated-random` build trees by halves and stated trees over as many boxes at
+//! random, `median-equal` and `stated-equal` over boxes that are all the same; `carried-random` and
+//! `carried-equal` read trees from what is stored of stated ones, and `hostile` reads three
+//! spellings that carry none. `ray_bench_builds open 10` serializes a bottom structure of 1,048,576 triangles, opens the form
 //! ten times, and prints of how many bytes it is and how often it opened. Without words it does a
 //! little of each. Other words give the line `bad-words` and status 3.
 //!
-//! What is timed are the public calls of ray_bottom, ray_top, ray_tree, ray_morton, ray_climb,
-//! ray_wide and ray_serial; what these do is their contracts' to say. It stands on them and on
+//! What is timed are the public calls of ray_bottom, ray_top, ray_tree, ray_stated, ray_morton,
+//! ray_climb, ray_wide and ray_serial; what these do is their contracts' to say. It stands on them and on
 //! nothing of the program.
 #![tactic(auto)]
 
 mod bench_error;
 mod field;
 mod size;
+mod stated;
 mod structures;
 
 use crate::bench_error::BenchError;
 use crate::field::Field;
 use crate::size::Size;
+use crate::stated::{Order, Spread, carried, hostile, ordered_tree, spread_boxes};
 use crate::structures::{
     bottom, boxes, climbs, fast_tree, instances, opens, top, tree, updated, wide,
 };
@@ -57,6 +62,11 @@ fn run<R: Env + AllocGlobal + Print + Threads + Sync>(rt: &R) -> Result<(), Benc
             report_wide_trees(rt, Size::Little, 1)?;
             report_climbs(rt, Size::Little, 1, 1)?;
             report_climbs(rt, Size::Little, 1, 4)?;
+            report_orders(rt, Size::Little, Spread::Random, Order::Median, 1)?;
+            report_orders(rt, Size::Little, Spread::Random, Order::Stated, 1)?;
+            report_orders(rt, Size::Little, Spread::Equal, Order::Stated, 1)?;
+            report_carried(rt, Size::Little, Spread::Random, 1)?;
+            report_hostile(rt, Size::Little, 1)?;
             report_opens(rt, Size::Little, 1)
         }
         [work, times] => {
@@ -74,9 +84,24 @@ fn run<R: Env + AllocGlobal + Print + Threads + Sync>(rt: &R) -> Result<(), Benc
                 "climb-by-four" => report_climbs(rt, Size::Large, times, 4),
                 "climb-by-none" => report_climbs(rt, Size::Large, times, 0),
                 "open" => report_opens(rt, Size::Greatest, times),
-                _ => Err(BenchError::BadWords),
+                "hostile" => report_hostile(rt, Size::Large, times),
+                work => spread(rt, work, times),
             }
         }
+        _ => Err(BenchError::BadWords),
+    }
+}
+
+// What a word of trees over spread boxes asks for.
+fn spread<R: AllocGlobal + Print>(rt: &R, work: &str, times: u32) -> Result<(), BenchError> {
+    let large = Size::Large;
+    match work {
+        "median-random" => report_orders(rt, large, Spread::Random, Order::Median, times),
+        "median-equal" => report_orders(rt, large, Spread::Equal, Order::Median, times),
+        "stated-random" => report_orders(rt, large, Spread::Random, Order::Stated, times),
+        "stated-equal" => report_orders(rt, large, Spread::Equal, Order::Stated, times),
+        "carried-random" => report_carried(rt, large, Spread::Random, times),
+        "carried-equal" => report_carried(rt, large, Spread::Equal, times),
         _ => Err(BenchError::BadWords),
     }
 }
@@ -189,6 +214,54 @@ fn report_climbs<R: AllocGlobal + Print + Threads + Sync>(
     let items = boxes(rt.alloc(), size)?;
     let leaves = climbs(rt, items.as_slice(), times, seats)?;
     println!(rt; "climb {times} leaves {leaves} seats {seats}")?;
+    Ok(())
+}
+
+// Builds trees over spread boxes, and prints how, over how many items the last is, and how many
+// leaves it has.
+fn report_orders<R: AllocGlobal + Print>(
+    rt: &R,
+    size: Size,
+    spread: Spread,
+    order: Order,
+    times: u32,
+) -> Result<(), BenchError> {
+    let items = spread_boxes(rt.alloc(), size, spread)?;
+    let mut leaves = 0;
+    for _ in 0..times {
+        leaves = ordered_tree(rt.alloc(), order, items.as_slice())?.leaves();
+    }
+    let word = match order {
+        Order::Median => "median",
+        Order::Stated => "stated",
+    };
+    println!(rt; "{word} {times} items {} leaves {leaves}", items.len())?;
+    Ok(())
+}
+
+// Reads trees from what is stored of the stated one, and prints the same of them.
+fn report_carried<R: AllocGlobal + Print>(
+    rt: &R,
+    size: Size,
+    spread: Spread,
+    times: u32,
+) -> Result<(), BenchError> {
+    let items = spread_boxes(rt.alloc(), size, spread)?;
+    let leaves = carried(rt.alloc(), items.as_slice(), times)?;
+    println!(rt; "carried {times} items {} leaves {leaves}", items.len())?;
+    Ok(())
+}
+
+// Reads what carries no tree, in three spellings each time, and prints over how many items, and how
+// often it was refused.
+fn report_hostile<R: AllocGlobal + Print>(
+    rt: &R,
+    size: Size,
+    times: u32,
+) -> Result<(), BenchError> {
+    let items = spread_boxes(rt.alloc(), size, Spread::Random)?;
+    let refused = hostile(rt.alloc(), items.as_slice(), times)?;
+    println!(rt; "hostile {times} items {} refused {refused}", items.len())?;
     Ok(())
 }
 
