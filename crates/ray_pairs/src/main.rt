@@ -98,10 +98,18 @@ fn is_said(hazard: Option<Hazard>, said: Option<Refusal>) -> bool {
     match (hazard, said) {
         (None, None) => true,
         (Some(hazard), Some(refusal)) => {
-            refusal.command == hazard.command
-                && refusal.place == Place::Earlier(hazard.earlier)
+            refusal.command as usize == hazard.command
+                && is_earlier(refusal.place, hazard.earlier)
                 && refusal.rule == Rule::V(number_of(hazard.rule))
         }
+        _ => false,
+    }
+}
+
+// Whether a place is an earlier command of a number.
+fn is_earlier(place: Place, earlier: usize) -> bool {
+    match place {
+        Place::Earlier(command) => command as usize == earlier,
         _ => false,
     }
 }

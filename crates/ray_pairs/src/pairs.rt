@@ -17,9 +17,9 @@ pub(crate) enum HazardRule {
 /// odds with. (Own.)
 #[derive(Clone, Copy, Debug, PartialEq, Eq)]
 pub(crate) struct Hazard {
-    pub(crate) command: u32,
+    pub(crate) command: usize,
     pub(crate) rule: HazardRule,
-    pub(crate) earlier: u32,
+    pub(crate) earlier: usize,
 }
 
 // An access: how, and to which bytes.
@@ -75,9 +75,9 @@ fn hazard_of(commands: &[Made], j: usize) -> Option<Hazard> {
     for (rule, broken) in rules {
         if let Some(i) = broken {
             return Some(Hazard {
-                command: j as u32,
+                command: j,
                 rule,
-                earlier: i as u32,
+                earlier: i,
             });
         }
     }
