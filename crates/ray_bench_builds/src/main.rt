@@ -10,13 +10,13 @@
 //! `median-random` and `stated-random` build trees by halves and stated trees over as many boxes at
 //! random, `median-equal` and `stated-equal` over boxes that are all the same; `carried-random` and
 //! `carried-equal` read trees from what is stored of stated ones, and `hostile` reads three
-//! spellings that carry none. `ray_bench_builds open 10` serializes a bottom structure of 1,048,576 triangles, opens the form
-//! ten times, and prints of how many bytes it is and how often it opened. Without words it does a
-//! little of each. Other words give the line `bad-words` and status 3.
+//! spellings that carry none. `ray_bench_builds open 10` serializes a bottom structure of 1,048,576
+//! triangles, opens the form ten times, and prints of how many bytes it is and how often it opened.
+//! Without words it does a little of each. Other words give the line `bad-words` and status 3.
 //!
 //! What is timed are the public calls of ray_bottom, ray_top, ray_tree, ray_stated, ray_morton,
-//! ray_climb, ray_wide and ray_serial; what these do is their contracts' to say. It stands on them and on
-//! nothing of the program.
+//! ray_climb, ray_wide and ray_serial; what these do is their contracts' to say. It stands on them
+//! and on nothing of the program.
 #![tactic(auto)]
 
 mod bench_error;
