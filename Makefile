@@ -8,7 +8,7 @@
 #   make conformance         runs all conformance cases through the library's one call
 #   make tools               tests the tools of tools/ with the linked program
 #   make hostile             refuses each allocation of runs of each word in turn, and lets reads and writes fail
-#   make c                   proves the check for programs in C, and builds and runs examples/c
+#   make c                   proves the check for programs in C, and builds and runs examples/c, with ./vkray
 #   make pages               makes anew what pages say of sources, which the side checks compare
 #   make test                the whole gate: every proof from nothing, the wrong bodies, the tests, the cases, the
 #                            programs, and then the side checks, which compare pages with sources
@@ -67,11 +67,13 @@ hostile: vkray
 	cases=$$((cases + 1)); bench/failures || failed=$$((failed + 1)); \
 	echo "$$cases cases, $$failed failures"; [ "$$failed" = 0 ]
 
-c:
+c: vkray
 	cd crates/vkray_c && rt lib > /dev/null
 	$(CC) -std=c99 -O2 -Iinclude -o crates/vkray_c/out/check examples/c/check.c \
 	  crates/vkray_c/out/libvkray_c.a "$$(dirname "$$(rt doc)")/c/liblibc_c.a"
 	test "$$(crates/vkray_c/out/check < examples/hazard.json)" = "refused 10 V25 with 8"
+	$(CC) -std=c99 -O2 -Iinclude -o crates/vkray_c/out/run examples/c/run.c
+	crates/vkray_c/out/run ./vkray examples/triangle.json run | cmp - examples/triangle.txt
 
 pages:
 	checks/stands_on.py --write

@@ -3,7 +3,7 @@
  * The rules and the form of a recording are those of docs/RECORDING.md; the texts and the statuses
  * are those of the program's word `check` in README.md. What the library answers is proved; this
  * header, and what a caller passes, are not. A run has no function here: it may start threads, which
- * such a library may not. Start the program `vkray` with the word `run` for it.
+ * such a library may not. vkray_run.h starts the program `vkray` for it.
  *
  * Linking: the static library crates/vkray_c/out/libvkray_c.a, the library liblibc_c.a of the
  * Rattle kit, which passes on the program's malloc, realloc and free, and the C library.
