@@ -58,6 +58,7 @@ pub struct Hit {
     pub u: Ratio,
     pub v: Ratio,
     pub triangle: u32,
+    pub is_front: bool,
 }
 
 fn minus(a: Point, b: Point) -> Point {
@@ -126,6 +127,7 @@ pub fn hit(ray: &Ray, triangle: &Triangle) -> Option<Hit> {
         u: Ratio { num: u, den }.reduced(),
         v: Ratio { num: v, den }.reduced(),
         triangle: triangle.number,
+        is_front: sign.is_lt(),
     })
 }
 

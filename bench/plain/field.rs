@@ -176,6 +176,16 @@ pub struct Scene {
     pub triangles: Vec<Triangle>,
 }
 
+impl Scene {
+    /// The wide tree over triangles, which it puts in its order.
+    pub fn over(mut triangles: Vec<Triangle>) -> Scene {
+        let tree = Tree::over(&mut triangles, 0);
+        let mut nodes = Vec::new();
+        tree.widen(&mut nodes);
+        Scene { nodes, triangles }
+    }
+}
+
 /// Square cells of two triangles, 8 to a side, with heights from 0 to 6.
 pub fn field(side: i32) -> Scene {
     let vertex = |i, j| [8 * i, 8 * j, (5 * i + 3 * j) % 7];
@@ -187,8 +197,5 @@ pub fn field(side: i32) -> Scene {
             triangles.push(Triangle { vertices, number });
         }
     }
-    let tree = Tree::over(&mut triangles, 0);
-    let mut nodes = Vec::new();
-    tree.widen(&mut nodes);
-    Scene { nodes, triangles }
+    Scene::over(triangles)
 }

@@ -4,20 +4,39 @@
 //! to four triangles, and a walk nearest first. It knows no instances, transforms, flags, masks or
 //! clients, which the proved program looks at for each ray. It prints the same line. A third word is
 //! the number of cells a side, 256 where there is none.
+//!
+//! `run` reads a recording that `gen` made, runs it and prints the same text as the proved program,
+//! but looks at no rule.
 
 mod exact;
 mod field;
+mod json;
+mod recording;
 mod walk;
 
 use std::collections::BinaryHeap;
+use std::io::{Read, Write};
 
 fn main() {
     let words: Vec<String> = std::env::args().skip(1).collect();
-    let (times, side): (u32, i32) = match words.as_slice() {
-        [work, times] if work == "traces" => (number(times), 256),
-        [work, times, side] if work == "traces" => (number(times), number(side)),
-        _ => panic!("the words are: traces N [SIDE]"),
-    };
+    match words.as_slice() {
+        [work, times] if work == "traces" => traces(number(times), 256),
+        [work, times, side] if work == "traces" => traces(number(times), number(side)),
+        [work] if work == "run" => run(),
+        _ => panic!("the words are: traces N [SIDE], or run"),
+    }
+}
+
+fn run() {
+    let mut text = Vec::new();
+    std::io::stdin().read_to_end(&mut text).expect("an input");
+    let shown = recording::run(&text);
+    std::io::stdout()
+        .write_all(shown.as_bytes())
+        .expect("an output");
+}
+
+fn traces(times: u32, side: i32) {
     let scene = field::field(side);
     let mut turns = BinaryHeap::new();
     let (rays, width) = (16384, 8 * i64::from(side) + 8);
