@@ -12,6 +12,16 @@
 //! [`kept_is_within_buffers`] is a law on what the rules are for: a command that keeps them reads
 //! and writes bytes that are there.
 //!
+//! ```rust
+//! // The first command of a recording that breaks a rule, if any does.
+//! let recording = read_recording(alloc, bytes)?;
+//! if let Some(refusal) = check_rules(alloc, &recording)? {
+//!     println!(rt; "command {}", refusal.command)?;
+//! }
+//! ```
+//!
+//! CALLING.md has a proved caller.
+//!
 //! It stands on ray_valid, ray_sync, ray_queue_check and ray_rules (the definitions).
 #![tactic(auto)]
 

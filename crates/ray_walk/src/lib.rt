@@ -10,6 +10,15 @@
 //! those of leaves are tested exactly (`specs/Bounding`). [`trace_plain`], of ray_candidates, has
 //! the same answer; it tests every primitive, and stays as the plain program of that definition.
 //!
+//! ```rust
+//! // The hit that a client commits of a ray, with the cull mask of all bits.
+//! let mut turns = Turns::new(alloc);
+//! let flags = RayFlags(0);
+//! let commit = trace_ray(&top, &bottoms, &ray, 0, flags, 255, &client, &mut turns, &mut steps)?;
+//! ```
+//!
+//! CALLING.md has a proved caller, and how its conditions are had.
+//!
 //! It stands on ray_candidates (what a ray finds), ray_top and ray_bottom (contents, the test of a
 //! primitive), ray_wide, ray_lanes and ray_window (the wide trees and what a window leaves out),
 //! ray_slabs (the test in fixed point), ray_nearest (the walk) and ray_query (the play).

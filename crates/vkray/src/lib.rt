@@ -13,6 +13,15 @@
 //! request has, and what is told, are functions of it in `specs/Answer`: a request more is a line
 //! in each.
 //!
+//! ```rust
+//! // What `vkray run` prints of a recording in memory.
+//! let mut source = MemSource::new(recording, 4096, Vec::new(alloc));
+//! let mut sink = MemSink::new(alloc, 1 << 20, 4096, Vec::new(alloc))?;
+//! let status = vkray(rt, alloc, words.as_slice(), &mut source, &mut sink, &NoGate);
+//! ```
+//!
+//! CALLING.md has a proved caller.
+//!
 //! A recording runs up to the command that a rule on commands alone refuses, by ray_check; ray_exec
 //! runs so many commands. A self run reads and runs the recording of a made-up scene by the
 //! same calls, and counts the records that it leaves, by `specs/Counting`.
