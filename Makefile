@@ -7,7 +7,8 @@
 #   make examples            asks it each recording of examples/ by its word, and compares text and status
 #   make conformance         runs all conformance cases through the library's one call
 #   make tools               tests the tools of tools/ with the linked program
-#   make hostile             refuses each allocation of runs of each word in turn, and lets reads and writes fail
+#   make hostile             refuses each allocation of runs of each word in turn, lets reads and writes fail, and
+#                            gives inputs that are cut short or changed
 #   make c                   proves the check for programs in C, and builds and runs examples/c, with ./vkray
 #   make pages               makes anew what pages say of sources, which the side checks compare
 #   make test                the whole gate: every proof from nothing, the wrong bodies, the tests, the cases, the
@@ -60,11 +61,13 @@ tools: vkray
 
 hostile: vkray
 	@cases=0; failed=0; for asked in "run triangle" "run update-after-a-barrier" "run serialized-copy" "check hazard" \
-	  "queues two-queues" "groups hit-groups" "selfrun 1 1 4"; do \
+	  "queues two-queues" "groups hit-groups" "certify triangle" "verify certificate" "selfrun 1 1 4"; do \
 	  set -- $$asked; if [ "$$1" = selfrun ]; then input=/dev/null; else input="examples/$$2.json"; set -- "$$1"; fi; \
 	  cases=$$((cases + 1)); echo "$$asked:"; bench/refusals "$$@" < "$$input" || failed=$$((failed + 1)); \
 	done; echo "conformance cases with calls that fail:"; \
 	cases=$$((cases + 1)); bench/failures || failed=$$((failed + 1)); \
+	echo "inputs that are cut short or changed:"; \
+	cases=$$((cases + 1)); bench/changes || failed=$$((failed + 1)); \
 	echo "$$cases cases, $$failed failures"; [ "$$failed" = 0 ]
 
 c: vkray
