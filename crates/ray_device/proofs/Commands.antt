@@ -140,7 +140,7 @@ build-part rec z infos k found e =
     ∙ ap (λ o. unwrap_or (option_map (info_action z k) o) Rest) e)
 
 pub trace-part : (rec : List Command) (z : Status) (top : ℕ) (rays : Spot) (count : ℕ) (hits : Spot) (flags : RayFlags) (mask : ℕ) (script : List RawRule) (k : ℕ)
-    → k < (count + 63) / 64 → part_action rec z (commands.Trace top rays count hits flags mask script) k ≡ rays_action rec z top rays hits count flags mask k
+    → k < trace_pieces count → part_action rec z (commands.Trace top rays count hits flags mask script) k ≡ rays_action rec z top rays hits count flags mask k
 unfolding actions_of
 trace-part rec z top rays count hits flags mask script k within =
     ap (λ o. unwrap_or o Rest)

@@ -1,12 +1,12 @@
 -- The pieces of a command, and what each does. (Own.)
-use Rattle.std.specs.Prelude.{ℕ, ◌<◌, ◌+◌, ◌/◌, List, length, slice_get, unwrap_or, Bool, not, if◌then◌else◌}
+use Rattle.std.specs.Prelude.{ℕ, ◌<◌, List, length, slice_get, unwrap_or, Bool, not, if◌then◌else◌}
 use Rattle.ray_cmd.specs.declared.command.Command.{Command}
 use Rattle.ray_cmd.specs.declared.command.Command.TheVariants as commands
 use Rattle.ray_rules.specs.Hazards.{status_at}
 use Rattle.ray_rules.specs.Kinds.{is_by_host, kind_of}
 use Rattle.ray_rules.specs.Status.{Status}
 use Rattle.ray_action.specs.Action.{Action, Rest}
-use Rattle.ray_action.specs.Pieces.{actions_of, command_at}
+use Rattle.ray_action.specs.Pieces.{actions_of, command_at, trace_pieces}
 use Rattle.ray_device.specs.declared.piece.Piece.{Piece}
 
 -- whether a command is done by the device, piece by piece
@@ -18,7 +18,7 @@ is_device c = not (is_by_host (kind_of c))
 abbrev pub piece_count : Command → ℕ
 piece_count (commands.Copy src dst regions) = length regions
 piece_count (commands.Build infos) = length infos
-piece_count (commands.Trace top rays count hits flags mask script) = (count + 63) / 64
+piece_count (commands.Trace top rays count hits flags mask script) = trace_pieces count
 piece_count c = if is_device c then 1 else 0
 
 -- a piece is there: its command, and so many pieces of it

@@ -7,7 +7,7 @@ ghost use Rattle.ray_queues.specs.QueueOrder.{queue_order};
 ghost use Rattle.ray_queues.specs.Refusals.{first_queue_refusal};
 ghost use Rattle.ray_rules.specs.declared.touch.Touch.{Touch as ATouch};
 ghost use Rattle.ray_rules.specs.Hazards.{greatest_with, read_unordered, status_at};
-ghost use Rattle.ray_rules.specs.Hazards.{wrote_uncovered};
+ghost use Rattle.ray_rules.specs.Hazards.{v25, v26, v27, v32, wrote_uncovered};
 ghost use Rattle.ray_rules.specs.Verdict.{GoOn, first_hazard, hazard_of};
 ghost use Rattle.ray_submits.specs.Submits.{QueueCommands};
 ghost use Rattle.ray_queue_check.specs.Kept.{IsKept, IsOf};
@@ -96,13 +96,69 @@ fn hazard_of(n: u32, queue: u32, doing: &Doing, kept: &Kept, cells: &Cells) -> O
         → IsDoing q.commands n doing.now → HaveStarts q.commands cells.now (suc n)
         → result ≡ hazard_of (queue_order q) q.commands n }
 {
-    let reads = doing.touches.reads.as_slice();
-    let writes = doing.touches.writes.as_slice();
-    let read = uncovered_at(queue, doing.stage, reads, kept, cells);
-    let written = uncovered_at(queue, doing.stage, writes, kept, cells);
-    let overwritten = unordered_at(queue, doing.stage, writes, kept, cells);
-    let shown = uncovered(queue, Stage::Host, doing.host.as_slice(), kept, cells);
+    let read = v25(queue, doing, kept, cells);
+    let written = v26(queue, doing, kept, cells);
+    let overwritten = v27(queue, doing, kept, cells);
+    let shown = v32(queue, doing, kept, cells);
     least(n, read, written, overwritten, shown)
+}
+
+// V25: the last command that wrote what a command reads, not covered.
+fn v25(queue: u32, doing: &Doing, kept: &Kept, cells: &Cells) -> Option<Place>
+    requires { AllRoomy (length cells.now) kept.now.lanes }
+    ensures { (q : QueueCommands) (n : ℕ) → IsOf q n queue → IsKept q cells.now n kept.now
+        → IsDoing q.commands n doing.now → HaveStarts q.commands cells.now (suc n)
+        → result ≡ v25 (queue_order q) q.commands n }
+{
+    uncovered_at(
+        queue,
+        doing.stage,
+        doing.touches.reads.as_slice(),
+        kept,
+        cells,
+    )
+}
+
+// V26: the last command that wrote what a command writes, not covered.
+fn v26(queue: u32, doing: &Doing, kept: &Kept, cells: &Cells) -> Option<Place>
+    requires { AllRoomy (length cells.now) kept.now.lanes }
+    ensures { (q : QueueCommands) (n : ℕ) → IsOf q n queue → IsKept q cells.now n kept.now
+        → IsDoing q.commands n doing.now → HaveStarts q.commands cells.now (suc n)
+        → result ≡ v26 (queue_order q) q.commands n }
+{
+    uncovered_at(
+        queue,
+        doing.stage,
+        doing.touches.writes.as_slice(),
+        kept,
+        cells,
+    )
+}
+
+// V27: the last command that read what a command writes, not ordered before it.
+fn v27(queue: u32, doing: &Doing, kept: &Kept, cells: &Cells) -> Option<Place>
+    requires { AllRoomy (length cells.now) kept.now.lanes }
+    ensures { (q : QueueCommands) (n : ℕ) → IsOf q n queue → IsKept q cells.now n kept.now
+        → IsDoing q.commands n doing.now → HaveStarts q.commands cells.now (suc n)
+        → result ≡ v27 (queue_order q) q.commands n }
+{
+    unordered_at(
+        queue,
+        doing.stage,
+        doing.touches.writes.as_slice(),
+        kept,
+        cells,
+    )
+}
+
+// V32: the last command that wrote what a `read` shows, not covered to the host of some queue.
+fn v32(queue: u32, doing: &Doing, kept: &Kept, cells: &Cells) -> Option<Place>
+    requires { AllRoomy (length cells.now) kept.now.lanes }
+    ensures { (q : QueueCommands) (n : ℕ) → IsOf q n queue → IsKept q cells.now n kept.now
+        → IsDoing q.commands n doing.now → HaveStarts q.commands cells.now (suc n)
+        → result ≡ v32 (queue_order q) q.commands n }
+{
+    uncovered(queue, Stage::Host, doing.host.as_slice(), kept, cells)
 }
 
 // The last command that wrote what these touches at the stage of a command reach, not covered.

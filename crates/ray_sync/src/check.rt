@@ -3,7 +3,8 @@ ghost use Rattle.std.specs.Option.{option_map_or};
 ghost use Rattle.ray_access.specs.Lists.{AreTouched};
 ghost use Rattle.ray_cmd.specs.declared.command.Command.{Command as ACommand};
 ghost use Rattle.ray_rules.specs.declared.touch.Touch.{Touch as ATouch};
-ghost use Rattle.ray_rules.specs.Hazards.{greatest_with, read_unordered, status_at, wrote_uncovered};
+ghost use Rattle.ray_rules.specs.Hazards.{greatest_with, read_unordered, status_at};
+ghost use Rattle.ray_rules.specs.Hazards.{v25, v26, v27, v32, wrote_uncovered};
 ghost use Rattle.ray_rules.specs.Order.{barriers};
 ghost use Rattle.ray_rules.specs.Verdict.{GoOn, first_hazard, hazard_of};
 ghost use Rattle.ray_hazards.specs.Carrying.{AreCarried};
@@ -101,13 +102,54 @@ fn hazard_of(
         → AreFronts rec n fronts → IsDoing rec n doing.now → HaveStarts rec cells.now (suc n)
         → result ≡ hazard_of (barriers rec) rec n }
 {
-    let reads = doing.touches.reads.as_slice();
-    let writes = doing.touches.writes.as_slice();
-    let read = uncovered_at(doing.stage, reads, lanes, coverage, cells);
-    let written = uncovered_at(doing.stage, writes, lanes, coverage, cells);
-    let overwritten = unordered_at(n, doing.stage, fronts, writes, lanes, cells);
-    let shown = uncovered(Stage::Host, doing.host.as_slice(), lanes, coverage, cells);
+    let read = v25(doing, lanes, coverage, cells);
+    let written = v26(doing, lanes, coverage, cells);
+    let overwritten = v27(n, doing, lanes, fronts, cells);
+    let shown = v32(doing, lanes, coverage, cells);
     least(n, read, written, overwritten, shown)
+}
+
+// V25: the last command that wrote what a command reads, not covered.
+fn v25(doing: &Doing, lanes: &Lanes, coverage: &Coverage, cells: &Cells) -> Option<Place>
+    requires { AreEnough (length cells.now) lanes.now }
+    ensures { (rec : List ACommand) (n : ℕ) → AreLanes (in_order rec) cells.now n lanes.now
+        → AreCarried (one_queue rec) 0 n coverage.now → IsDoing rec n doing.now
+        → HaveStarts rec cells.now (suc n) → result ≡ v25 (barriers rec) rec n }
+{
+    let reads = doing.touches.reads.as_slice();
+    uncovered_at(doing.stage, reads, lanes, coverage, cells)
+}
+
+// V26: the last command that wrote what a command writes, not covered.
+fn v26(doing: &Doing, lanes: &Lanes, coverage: &Coverage, cells: &Cells) -> Option<Place>
+    requires { AreEnough (length cells.now) lanes.now }
+    ensures { (rec : List ACommand) (n : ℕ) → AreLanes (in_order rec) cells.now n lanes.now
+        → AreCarried (one_queue rec) 0 n coverage.now → IsDoing rec n doing.now
+        → HaveStarts rec cells.now (suc n) → result ≡ v26 (barriers rec) rec n }
+{
+    let writes = doing.touches.writes.as_slice();
+    uncovered_at(doing.stage, writes, lanes, coverage, cells)
+}
+
+// V27: the last command that read what command number `n` writes, not ordered before it.
+fn v27(n: u32, doing: &Doing, lanes: &Lanes, fronts: Fronts, cells: &Cells) -> Option<Place>
+    requires { AreEnough (length cells.now) lanes.now }
+    ensures { (rec : List ACommand) → AreLanes (in_order rec) cells.now n lanes.now
+        → AreFronts rec n fronts → IsDoing rec n doing.now → HaveStarts rec cells.now (suc n)
+        → result ≡ v27 (barriers rec) rec n }
+{
+    let writes = doing.touches.writes.as_slice();
+    unordered_at(n, doing.stage, fronts, writes, lanes, cells)
+}
+
+// V32: the last command that wrote what a `read` shows, not covered to the host.
+fn v32(doing: &Doing, lanes: &Lanes, coverage: &Coverage, cells: &Cells) -> Option<Place>
+    requires { AreEnough (length cells.now) lanes.now }
+    ensures { (rec : List ACommand) (n : ℕ) → AreLanes (in_order rec) cells.now n lanes.now
+        → AreCarried (one_queue rec) 0 n coverage.now → IsDoing rec n doing.now
+        → HaveStarts rec cells.now (suc n) → result ≡ v32 (barriers rec) rec n }
+{
+    uncovered(Stage::Host, doing.host.as_slice(), lanes, coverage, cells)
 }
 
 // The last command that wrote what these touches at the stage of a command reach, not covered.
