@@ -5,3 +5,9 @@ pub mod Lines
 pub mod Traces
 pub mod Commands
 pub mod Themselves
+pub mod RangeBytes
+pub mod RaysThere
+pub mod Giving
+pub mod Cut
+pub mod PiecesThere
+pub mod AsMany

@@ -32,7 +32,7 @@ joined_more each n = let next : n + 1 ≡ suc n = omega arith in ap (joined each
 
 -- ---- more lines
 
-lines_both : (a b : List TracedRay) → certificate_lines (a ++ b) ≡ certificate_lines a ++ certificate_lines b
+pub lines_both : (a b : List TracedRay) → certificate_lines (a ++ b) ≡ certificate_lines a ++ certificate_lines b
 lines_both [] b = refl
 lines_both (r ∷ a) b =
     ap (λ ls. lines_with r r.seen ++ ls) (lines_both a b) ∙ sym (append_assoc (lines_with r r.seen) (certificate_lines a) (certificate_lines b))

@@ -39,7 +39,7 @@ themselves_certified (r ∷ rays) certify seen = by_seen certify.0 seen.0 (thems
 some_there : (s : SeenRay) → IsSome (Some s)
 some_there s = search rules
 
-length-both : {X : Type 0} (a b : List X) → length (a ++ b) ≡ length a + length b
+pub length-both : {X : Type 0} (a b : List X) → length (a ++ b) ≡ length a + length b
 length-both [] b = omega arith
 length-both (x ∷ a) b = let more = length-both a b in omega (arith, more)
 

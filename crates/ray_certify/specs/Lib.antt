@@ -3,3 +3,4 @@ pub mod Rays
 pub mod Verified
 pub mod Certified
 pub mod Scenes
+pub mod Laws

@@ -9,8 +9,9 @@
 //!   isn't certified. A line certifies a ray where it spells a certificate that supports its hit;
 //! - [`ray_count`] is how many rays a recording's traces have.
 //!
-//! What is certified is the answer over all candidates: the clause `law` of [`verify`]. That what
-//! [`certify`] gives certifies every ray is part of its clause.
+//! What is certified is the answer over all candidates: the clause `law` of [`verify`]. That each line
+//! of [`certify`] certifies its ray is part of its clause, and that there is a line for each ray is
+//! the law [`each_ray_has_its_line`].
 //!
 //! Both runs are those of ray_exec, command by command: their refusals are the run's own. It stands
 //! on ray_exec (the run), ray_memory (what a trace reads), ray_cert (certificates), ray_walk (what
@@ -20,6 +21,7 @@
 
 mod certifying;
 mod counting;
+mod laws;
 mod scene;
 mod seen;
 mod verdict;
@@ -28,5 +30,6 @@ mod way;
 
 pub use certifying::certify;
 pub use counting::ray_count;
+pub use laws::each_ray_has_its_line;
 pub use verdict::Verdict;
 pub use verifying::verify;
