@@ -1,5 +1,5 @@
 -- What an input ends with whose lines are judged, and that each input has one answer.
-use Rattle.std.proofs.Common.{ℕ, ◌≡◌, ◌==◌, Bool, true, false, List, length, Option, None, Some, Result, Ok, Err, Vec, Global, refl, ap, sym, subst, ◌∙◌}
+use Rattle.std.proofs.Common.{ℕ, ◌≡◌, ◌==◌, ◌<◌, Bool, true, false, List, length, Option, None, Some, Result, Ok, Err, Vec, Global, refl, ap, sym, subst, ◌∙◌, arith}
 use Rattle.std.proofs.lemmas.Bool.{eq-eqb}
 use Rattle.ray_cmd.specs.declared.command.Command.{Command}
 use Rattle.ray_cmd.specs.declared.refusal.Refusal.{Refusal}
@@ -11,6 +11,8 @@ use Rattle.ray_rules.specs.Order.{barriers}
 use Rattle.ray_rules.specs.Verdict.{rule_refusal}
 use Rattle.ray_action.specs.Running as action
 use Rattle.ray_action.specs.Running.{Run, Text, Unknown}
+use Rattle.ray_ready.specs.Accepted.{KeepStaticRules, refused_from}
+use Rattle.ray_ready.proofs.Unrefused.{unrefused}
 use Rattle.ray_inputs.specs.declared.fault.BadInput.{BadInput}
 use Rattle.ray_inputs.specs.declared.fault.BadInput.TheVariants as inputs
 use Rattle.ray_inputs.specs.Inputs.{Answers, CertifiedCommands, certified_in}
@@ -21,9 +23,10 @@ use Rattle.ray_exec.specs.declared.run_fault.RunFault.TheVariants as faults
 use Rattle.ray_exec.specs.Runs.{IsRun}
 use Rattle.ray_certify.specs.declared.verdict.Verdict.{Verdict}
 use Rattle.ray_certify.specs.declared.verdict.Verdict.TheVariants.{Certified}
-use Rattle.ray_certify.specs.Certified.{AreMade, CertifyThemselves, IsRunWith, certificates_of}
+use Rattle.ray_certify.specs.Certified.{AreMade, CertifyThemselves, IsRunWith, certificate_lines, certificates_of}
 use Rattle.ray_certify.specs.Rays.{TracedRay, ray_count, rays_below}
 use Rattle.ray_certify.specs.Verified.{IsVerdict, NameAnswers}
+use Rattle.ray_certify.proofs.AsMany.{as_many_lines}
 use Rattle.ray_certify.proofs.Themselves.{all_seen, themselves_certified}
 use Rattle.ray_certify.proofs.Verdicts.{one_verdict}
 use Rattle.vkray.specs.declared.asked.Asked.{Asked}
@@ -261,18 +264,23 @@ of_input_read : (other : List ℕ) (c : CertifiedCommands) → certified_in othe
 unfolding answer_of
 of_input_read other c read = ap (λ x. with_task (ran (Input asked.Verify)) (task_of_read certified_task x)) read
 
+-- its commands keep the static rules
+kept_rules : (rec : List Command) → rule_refusal (barriers rec) rec ≡ None → KeepStaticRules rec (length rec)
+kept_rules rec none = record { each = λ i c less is. unrefused (barriers rec) rec i c (subst (λ r. i < refused_from (length rec) r) (sym none) less) is }
+
 pub verifiable : (rec : List Command) (text : List ℕ) → run_with (Input asked.Certify) (recorded rec) (rule_refusal (barriers rec) rec) ≡ Ok text
     → CertifyThemselves (rays_below (recorded rec) (length rec)) → IsVerifiable rec
-verifiable rec text told certify other lines are many read =
+verifiable rec text told certify other lines are read =
     let c : CertifiedCommands = record { commands = rec; certificates = lines } in
     let rays : List TracedRay = rays_below (recorded rec) (length rec) in
-    let made = themselves_certified rays certify (all_seen (recorded rec) (length rec) (ap length (sym are) ∙ many)) in
+    let run = comes_to_text rec text told in
+    let many : length (certificate_lines rays) ≡ ray_count rec (length rec) = as_many_lines (recorded rec) (length rec) run.text (omega arith) (kept_rules rec run.none) run.run in
+    let made = themselves_certified rays certify (all_seen (recorded rec) (length rec) many) in
     let verdict : IsVerdict rays lines Certified = subst (λ ls. IsVerdict rays ls Certified) (sym are) made.0 in
     let names : NameAnswers rays lines = subst (NameAnswers rays) (sym are) made.1 in
-    let run = comes_to_text rec text told in
     subst (λ (x : Result CertifiedCommands BadInput). InPlaceOfText x (answer_of (Input asked.Verify) other) (Ok (verdict_line (length lines) Certified))) (sym read)
     (subst (λ (e : Ending). InPlaceOfText (Ok c) e (Ok (verdict_line (length lines) Certified))) (sym (of_input_read other c read))
-    (verdict_by c run.none true Certified (eq-eqb (length lines) (ray_count rec (length rec)) many)
+    (verdict_by c run.none true Certified (eq-eqb (length lines) (ray_count rec (length rec)) (ap length are ∙ many))
     (record { text = run.text; run = run.run; is = verdict }) (Ok (verdict_line (length lines) Certified))
     (record { verdict = Certified; is_it = verdict; names = λ e. names; told = refl })))
 

@@ -65,8 +65,8 @@ IsAnswerTo (Input asked.Certify) input ending = IsCertifying input ending
 IsAnswerTo (Input asked.Verify) input ending = InPlaceOfText (certified_in input) (answer_of (Input asked.Verify) input) ending
 IsAnswerTo request input ending = answer_of request input ≡ ending
 
--- an input of these commands with the lines of their certificates, one for each ray, is verified: each certifies its ray
+-- an input of these commands with the lines of their certificates is verified: each certifies its ray
 abbrev pub IsVerifiable : List Command → Type 0
 IsVerifiable rec =
-    (other : List ℕ) (lines : List (List ℕ)) → lines ≡ certificate_lines (rays_below (recorded rec) (length rec)) → length lines ≡ ray_count rec (length rec)
+    (other : List ℕ) (lines : List (List ℕ)) → lines ≡ certificate_lines (rays_below (recorded rec) (length rec))
     → certified_in other ≡ Ok (record { commands = rec; certificates = lines }) → IsAnswerTo (Input asked.Verify) other (Ok (verdict_line (length lines) Certified))
