@@ -90,8 +90,8 @@ def places(rule):
     """Returns where a rule is defined, and where it is decided."""
     if rule in HAZARDS:
         defined = after_comment(rule, files(["ray_rules"], "specs", ".antt"), "--", WORD)
-        decided = [("ray_sync", "check_sync"), ("ray_queue_check", "check_queues")]
-        return defined, [(TOP / f"crates/{crate}/src/check.rt", name) for crate, name in decided]
+        crates = ["ray_sync", "ray_queue_check"]
+        return defined, [(TOP / f"crates/{crate}/src/check.rt", rule.lower()) for crate in crates]
     if rule in SEMAPHORES:
         defined = after_comment(rule, files(["ray_submits"], "specs", ".antt"), "--", WORD)
         return defined, [(TOP / "crates/ray_submits/src/check.rt", "check_semaphores")]
