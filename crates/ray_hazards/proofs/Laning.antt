@@ -1,5 +1,5 @@
 -- What lanes tell of the last command, and how they go on.
-use Rattle.std.proofs.Common.{◌≡◌, ◌≤◌, ◌<◌, ◌+◌, ℕ, suc, Bool, true, false, List, Option, Some, None, refl, sym, ◌∙◌, ap, subst, inl, inr, arith, length}
+use Rattle.std.proofs.Common.{◌≡◌, ◌+◌, ℕ, suc, Bool, true, false, List, Option, Some, None, refl, sym, ◌∙◌, ap, subst, inl, inr, arith, length}
 use Rattle.std.specs.List.{list_any}
 use Rattle.ray_access.specs.declared.touched.Touched.{Touched}
 use Rattle.ray_marks.specs.Rising.{IsGreatest, mark_of}
@@ -11,30 +11,28 @@ use Rattle.ray_hazards.specs.declared.lanes.Lanes.{Lanes}
 use Rattle.ray_hazards.specs.declared.limits.Accessed.{Accessed}
 use Rattle.ray_hazards.specs.Counting.{Counted, stage_in}
 use Rattle.ray_hazards.specs.Lanes.{AnyUncovered, AnyUnordered, AreBelow, AreEnough, AreLanes, AreReads, AreWrites, IsCoveredBelow, IsOrderedBelow, LanesBelow, NoneCounts}
-use Rattle.ray_hazards.specs.Lasts.{IsLast, ReadCell, UncoveredIn, UnorderedIn, WroteCell, above, marked_if, has_it, is_by, reads_at, writes_at}
-use Rattle.ray_hazards.proofs.Lasts.{last-above, last-cells, last-like, last-nothing, last-step}
+use Rattle.ray_hazards.specs.Lasts.{IsLast, ReadCell, UncoveredIn, UnorderedIn, WroteCell, marked_if, has_it, is_by, reads_at, writes_at}
+use Rattle.ray_hazards.proofs.Lasts.{last-cells, last-like, last-nothing, last-step}
 
 -- the last command of a lane that isn't covered
 pub writes-last :
     (counted : Counted) (starts : List ℕ) (stage : Stage) (way : AccessType) (n : ℕ) (marks : List ℕ)
-    (accessed : Accessed) (p q g limit : ℕ) → AreWrites counted starts stage way n marks → IsGreatest marks p q g
+    (accessed : Accessed) (p q g limit : ℕ) → AreWrites counted starts stage way n marks → IsGreatest marks limit p q g
     → IsCoveredBelow counted n accessed stage way limit
-    → IsLast (UncoveredIn counted starts stage way accessed.thing n accessed.stage accessed.access p q) n (above limit g)
+    → IsLast (UncoveredIn counted starts stage way accessed.thing n accessed.stage accessed.access p q) n g
 writes-last counted starts stage way n marks accessed p q g limit are great tells =
-    last-like _ _ n (above limit g) (λ i l e. record { cell = e.0; uncovered = e.1 }) (λ i l u. (u.cell, u.uncovered))
-    (last-above (λ i. (c : ℕ) × (p ≤ c) × (c < q) × WroteCell counted starts stage way c i) (λ i. counted.order.covered i stage way accessed.thing n accessed.stage accessed.access) n limit g (λ i cell. tells i cell.3.by)
-    (last-cells (WroteCell counted starts stage way) marks n p q g great are.last))
+    last-like _ _ n g (λ i l e. record { cell = e.0; uncovered = e.1 }) (λ i l u. (u.cell, u.uncovered))
+    (last-cells (WroteCell counted starts stage way) (λ i. counted.order.covered i stage way accessed.thing n accessed.stage accessed.access) marks n limit p q g (λ c i wrote. tells i wrote.by) great are.last)
 
 -- and of what was read and isn't ordered
 pub reads-last :
     (counted : Counted) (starts : List ℕ) (stage : Stage) (n : ℕ) (marks : List ℕ) (to : Stage)
-    (p q g limit : ℕ) → AreReads counted starts stage n marks → IsGreatest marks p q g
+    (p q g limit : ℕ) → AreReads counted starts stage n marks → IsGreatest marks limit p q g
     → IsOrderedBelow counted n to stage limit
-    → IsLast (UnorderedIn counted starts stage n to p q) n (above limit g)
+    → IsLast (UnorderedIn counted starts stage n to p q) n g
 reads-last counted starts stage n marks to p q g limit are great tells =
-    last-like _ _ n (above limit g) (λ i l e. record { cell = e.0; unordered = e.1 }) (λ i l u. (u.cell, u.unordered))
-    (last-above (λ i. (c : ℕ) × (p ≤ c) × (c < q) × ReadCell counted starts stage c i) (λ i. counted.order.ordered i stage n to) n limit g (λ i cell. tells i cell.3.by)
-    (last-cells (ReadCell counted starts stage) marks n p q g great are.last))
+    last-like _ _ n g (λ i l e. record { cell = e.0; unordered = e.1 }) (λ i l u. (u.cell, u.unordered))
+    (last-cells (ReadCell counted starts stage) (λ i. counted.order.ordered i stage n to) marks n limit p q g (λ c i read. tells i read.by) great are.last)
 
 -- none is no stage
 pub none-some : {o : Option Stage} {stage : Stage} → o ≡ None → o ≡ Some stage → ⊥

@@ -1,13 +1,13 @@
 -- The last command of which something is so.
 use Rattle.std.proofs.Common.{◌≡◌, ◌<◌, ◌≤◌, ◌⊎◌, ◌+◌, ℕ, zero, suc, max, Bool, true, false, nat_lt, if◌then◌else◌, List, [], ◌∷◌, ◌++◌, Some, get_or, length, take, refl, sym, ◌∙◌, ap, subst, inl, inr, arith}
-use Rattle.std.proofs.lemmas.Bool.{cases_Bool, ltb-true, lt-ltb, cond-true, cond-false}
+use Rattle.std.proofs.lemmas.Bool.{cases_Bool, ltb-true, cond-true, cond-false}
 use Rattle.std.proofs.lemmas.Bool.Decides.{nat_tests}
 use Rattle.ray_marks.specs.Rising.{IsGreatest, mark_of}
 use Rattle.ray_rules.specs.Hazards.{greatest}
 use Rattle.std.proofs.Math.Seq.{take-length}
 use Rattle.std.proofs.lemmas.List.{take_more}
 use Rattle.ray_access.specs.declared.touched.Touched.{Touched}
-use Rattle.ray_hazards.specs.Lasts.{AnyOf, IsLast, above, last_number}
+use Rattle.ray_hazards.specs.Lasts.{AnyOf, IsLast, last_number}
 
 -- nothing is so
 pub last-nothing : (P : ℕ → Type 0) (n : ℕ) → ((i : ℕ) → i < n → P i → ⊥) → IsLast P n 0
@@ -52,43 +52,6 @@ last-either P Q n a b first second = record {
       ];
 }
 
--- of a limit and above, where a test tells what is below the limit
-pub last-above :
-    (P : ℕ → Type 0) (f : ℕ → Bool) (n limit last : ℕ) → ((i : ℕ) → P i → f i ≡ nat_lt i limit) → IsLast P n last
-    → IsLast (λ i. P i × (f i ≡ false)) n (above limit last)
-last-above P f n limit last tells is =
-    elim (cases_Bool (nat_lt limit last)) [
-      | inl t ↦
-          let less = ltb-true limit last t in
-          subst (IsLast (λ i. P i × (f i ≡ false)) n) (sym (cond-true (nat_lt limit last) last 0 t)) (record {
-            most = λ i l e. is.most i l e.0;
-            there =
-                elim is.there [
-                  | inl z ↦ inl z
-                  | inr (i, l, p, e) ↦
-                      let at = tells i p in
-                      let beyond : nat_lt i limit ≡ false = grind (arith, nat_tests) in
-                      inr (i, l, (p, at ∙ beyond), e)
-                ];
-          })
-      | inr q ↦
-          let least : last ≤ limit = grind (arith, nat_tests) in
-          subst (IsLast (λ i. P i × (f i ≡ false)) n) (sym (cond-false (nat_lt limit last) last 0 q)) (record {
-            most = λ i l e.
-                let below = is.most i l e.0 in
-                let at = tells i e.0 in
-                let no = e.1 in
-                absurd (search-free (f i) (nat_lt i limit) at no (lt-ltb i limit (omega arith)));
-            there = inl refl;
-          })
-    ]
-  where
-    search-free : (a b : Bool) → a ≡ b → a ≡ false → b ≡ true → ⊥
-    search-free true true e z t = absurd cc
-    search-free true false e z t = absurd cc
-    search-free false true e z t = absurd cc
-    search-free false false e z t = absurd cc
-
 -- one command more
 pub last-step :
     (P : ℕ → Type 0) (n old new : ℕ) (b : Bool) → (P n → b ≡ true) → (b ≡ true → P n)
@@ -115,23 +78,28 @@ last-step P n old new false to from e last = record {
     no-way : false ≡ true → ⊥
     no-way t = absurd cc
 
--- of the marks of a range of cells
+-- of the marks above a limit of a range of cells, where a test tells what is below the limit
 pub last-cells :
-    (P : ℕ → ℕ → Type 0) (marks : List ℕ) (n p q g : ℕ) → IsGreatest marks p q g
+    (P : ℕ → ℕ → Type 0) (f : ℕ → Bool) (marks : List ℕ) (n limit p q g : ℕ)
+    → ((c i : ℕ) → P c i → f i ≡ nat_lt i limit) → IsGreatest marks limit p q g
     → ((c : ℕ) → IsLast (P c) n (mark_of marks c))
-    → IsLast (λ i. (c : ℕ) × (p ≤ c) × (c < q) × P c i) n g
-last-cells P marks n p q g great last = record {
-  most = λ i l (c, from, below, so).
+    → IsLast (λ i. ((c : ℕ) × (p ≤ c) × (c < q) × P c i) × (f i ≡ false)) n g
+last-cells P f marks n limit p q g tells great last = record {
+  most = λ i l ((c, from, below, so), open_at).
       let least = great.most c from below in
-      let above = (last c).most i l so in
+      let more = (last c).most i l so in
+      let at : nat_lt i limit ≡ false = sym (tells c i so) ∙ open_at in
+      let beyond : limit ≤ i = grind (arith, nat_tests) in
       omega arith;
   there =
       elim great.there [
         | inl z ↦ inl z
-        | inr (c, from, below, at) ↦
+        | inr (c, from, below, at, more) ↦
             elim (last c).there [
-              | inl z ↦ inl (sym at ∙ z)
-              | inr (i, l, so, e) ↦ inr (i, l, (c, from, below, so), e ∙ at)
+              | inl z ↦ absurd (omega arith)
+              | inr (i, l, so, e) ↦
+                  let beyond : nat_lt i limit ≡ false = grind (arith, nat_tests) in
+                  inr (i, l, ((c, from, below, so), tells c i so ∙ beyond), e ∙ at)
             ]
       ];
 }

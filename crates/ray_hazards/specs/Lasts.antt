@@ -1,5 +1,5 @@
 -- The last command of which something is so, and how marks of cells keep it. (Own.)
-use Rattle.std.specs.Prelude.{◌≡◌, [], ◌∷◌, ◌<◌, ◌≤◌, ◌⊎◌, ◌&&◌, ℕ, zero, suc, true, false, Bool, List, Option, Some, None, nat_lt, if◌then◌else◌, map, All, slice_get}
+use Rattle.std.specs.Prelude.{◌≡◌, [], ◌∷◌, ◌<◌, ◌≤◌, ◌⊎◌, ◌&&◌, ℕ, zero, suc, true, false, Bool, List, Option, Some, None, if◌then◌else◌, map, All, slice_get}
 use Rattle.std.specs.List.{list_any}
 use Rattle.std.specs.Option.{option_map_or}
 use Rattle.ray_access.specs.declared.touched.Touched.{Touched}
@@ -23,10 +23,6 @@ pub record IsLast (P : ℕ → Type 0) (n r : ℕ) : Type 0 where
 abbrev pub last_number : ℕ → Option ℕ
 last_number zero = None
 last_number (suc i) = Some i
-
--- a last number where it is above a limit
-abbrev pub above : ℕ → ℕ → ℕ
-above limit last = if nat_lt limit last then last else 0
 
 -- what command number i reads and writes, with its numbers on the axis; and what it reads on the host
 abbrev pub reads_at : List Command → ℕ → List Touched

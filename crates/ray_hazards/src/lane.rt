@@ -1,18 +1,11 @@
 ghost use Rattle.std.specs.Prelude.{◌≡◌, ◌≤◌, ℕ, length, max};
 ghost use Rattle.ray_marks.specs.Rising.{mark_of};
-ghost use Rattle.ray_hazards.specs.Lasts.{above, has_it, is_by, marked_if, same_access};
+ghost use Rattle.ray_hazards.specs.Lasts.{has_it, is_by, marked_if, same_access};
 
 use crate::cells::Cells;
 use ray_access::Touched;
 use ray_marks::Marks;
 use ray_rules::AccessType;
-
-// The last number where it is above a limit, and else 0.
-pub(crate) fn above(limit: u32, last: u32) -> u32
-    ensures { result ≡ above limit last }
-{
-    if limit < last { last } else { 0 }
-}
 
 // The greater of two numbers.
 pub(crate) fn greater(a: u32, b: u32) -> u32

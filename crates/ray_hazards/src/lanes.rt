@@ -6,7 +6,7 @@ ghost use Rattle.ray_hazards.specs.Lanes.{AnyUncovered, AnyUnordered, AreCovered
 ghost use Rattle.ray_hazards.specs.Lanes.{AreLanes, AreOrdered, NoneCounts};
 ghost use Rattle.ray_hazards.specs.Lasts.{IsLast};
 
-use crate::lane::{above, greater};
+use crate::lane::greater;
 use crate::limits::{PerStage, PerWay};
 use ray_marks::Marks;
 use std::alloc::{AllocError as NoMemory, Global};
@@ -73,12 +73,16 @@ impl Lanes {
             → IsLast (AnyUncovered counted starts accessed.thing n accessed.stage accessed.access
             start end) n result }
     {
-        let transfers = above(limits.transfers, self.transfers.greatest(start, end));
-        let builds = above(limits.builds, self.builds.greatest(start, end));
-        let properties = above(limits.properties, self.properties.greatest(start, end));
-        let copies = above(limits.copies, self.copies.greatest(start, end));
-        let serialized = above(limits.serialized, self.serialized.greatest(start, end));
-        let traces = above(limits.traces, self.traces.greatest(start, end));
+        let transfers = self.transfers.greatest_above(limits.transfers, start, end);
+        let builds = self.builds.greatest_above(limits.builds, start, end);
+        let properties = self
+            .properties
+            .greatest_above(limits.properties, start, end);
+        let copies = self.copies.greatest_above(limits.copies, start, end);
+        let serialized = self
+            .serialized
+            .greatest_above(limits.serialized, start, end);
+        let traces = self.traces.greatest_above(limits.traces, start, end);
         greater(
             greater(greater(transfers, builds), greater(properties, copies)),
             greater(serialized, traces),
@@ -94,10 +98,14 @@ impl Lanes {
             → AreLanes counted starts n self.now → AreOrdered counted n to limits
             → IsLast (AnyUnordered counted starts n to start end) n result }
     {
-        let transfers = above(limits.transfer, self.transfer_reads.greatest(start, end));
-        let builds = above(limits.build, self.build_reads.greatest(start, end));
-        let copies = above(limits.structure_copy, self.copy_reads.greatest(start, end));
-        let traces = above(limits.compute, self.trace_reads.greatest(start, end));
+        let transfers = self
+            .transfer_reads
+            .greatest_above(limits.transfer, start, end);
+        let builds = self.build_reads.greatest_above(limits.build, start, end);
+        let copies = self
+            .copy_reads
+            .greatest_above(limits.structure_copy, start, end);
+        let traces = self.trace_reads.greatest_above(limits.compute, start, end);
         greater(greater(transfers, builds), greater(copies, traces))
     }
 }

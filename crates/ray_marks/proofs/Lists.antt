@@ -72,9 +72,9 @@ over-rising h cells ns value o r =
     ]
 
 pub over-greatest :
-    (h cells : ℕ) (ns : List Node) (start end greatest : ℕ) → IsOver h cells ns → end ≤ cells
-    → IsGreatestOf h ns start end greatest → IsGreatest (marks_of h cells ns) start end greatest
-over-greatest h cells ns start end greatest o e g =
+    (h cells : ℕ) (ns : List Node) (limit start end greatest : ℕ) → IsOver h cells ns → end ≤ cells
+    → IsGreatestOf h ns limit start end greatest → IsGreatest (marks_of h cells ns) limit start end greatest
+over-greatest h cells ns limit start end greatest o e g =
     let enough = o.enough in
     record {
       most = λ c s l.
@@ -82,7 +82,7 @@ over-greatest h cells ns start end greatest o e g =
       there =
           elim g.there [
             | inl z ↦ inl z
-            | inr (c, s, l, k, is) ↦ inr (c, s, l, mark_of-at h cells ns c (omega arith) ∙ is)
+            | inr (c, s, l, k, is, more) ↦ inr (c, s, l, mark_of-at h cells ns c (omega arith) ∙ is, more)
           ];
     }
 

@@ -62,10 +62,16 @@ pub record IsMarked (h : ℕ) (old : List Node) (start end value : ℕ) (new : L
   pub marks : (c : ℕ) → c < cells_of h → mark_at h new c ≡ is_marked start end value (mark_at h old c) c
   pub part : (root new).part ≡ (if nat_lt start (min end (cells_of h)) then value else (root old).part)
 
--- the greatest mark of the cells of a tree in a range
-pub record IsGreatestOf (h : ℕ) (ns : List Node) (start end greatest : ℕ) : Type 0 where
-  pub most : (c : ℕ) → start ≤ c → c < end → c < cells_of h → mark_at h ns c ≤ greatest
-  pub there : (greatest ≡ 0) ⊎ ((c : ℕ) × (start ≤ c) × (c < end) × (c < cells_of h) × (mark_at h ns c ≡ greatest))
+-- a mark where it is above a limit, and else 0
+abbrev pub above : ℕ → ℕ → ℕ
+above limit mark = if nat_lt limit mark then mark else 0
+
+-- the greatest mark above a limit of the cells of a tree in a range
+pub record IsGreatestOf (h : ℕ) (ns : List Node) (limit start end greatest : ℕ) : Type 0 where
+  pub most : (c : ℕ) → start ≤ c → c < end → c < cells_of h → mark_at h ns c ≤ max limit greatest
+  pub there :
+      (greatest ≡ 0)
+      ⊎ ((c : ℕ) × (start ≤ c) × (c < end) × (c < cells_of h) × (mark_at h ns c ≡ greatest) × (limit < greatest))
 
 -- a tree that has at least so many cells: those that it has more have the mark 0
 pub record IsOver (h cells : ℕ) (ns : List Node) : Type 0 where

@@ -2,7 +2,7 @@ ghost use Rattle.std.specs.Prelude.{◌≡◌, ◌≤◌, ◌^◌, ℕ, IfOk, le
 ghost use Rattle.ray_marks.specs.Rising.{IsGreatest, is_marked, mark_of};
 ghost use Rattle.ray_marks.specs.Tree.{IsOver, cells_of, size_of, marks_of, no_mark};
 
-use crate::node::{Node, greatest, mark};
+use crate::node::{Node, greatest_above, mark};
 use std::alloc::{AllocError as NoMemory, Global};
 use std::marker::Model;
 
@@ -71,12 +71,13 @@ impl Marks {
         mark(self.nodes.as_mut_slice(), self.height, start, end, value);
     }
 
-    /// The greatest mark of the cells from `start` on and below `end`: 0 where there is none.
-    pub fn greatest(&self, start: usize, end: usize) -> u32
+    /// The greatest mark above `limit` of the cells from `start` on and below `end`: 0 where there
+    /// is none. Where no mark is above it, one comparison is made.
+    pub fn greatest_above(&self, limit: u32, start: usize, end: usize) -> u32
         requires { end ≤ length self.now }
-        ensures { IsGreatest self.now start end result }
+        ensures { IsGreatest self.now limit start end result }
     {
-        greatest(self.nodes.as_slice(), self.height, start, end)
+        greatest_above(self.nodes.as_slice(), self.height, limit, start, end)
     }
 }
 

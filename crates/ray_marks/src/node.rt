@@ -1,5 +1,5 @@
 ghost use Rattle.std.specs.Prelude.{◌≡◌, ◌≤◌, max};
-ghost use Rattle.ray_marks.specs.Tree.{IsTree, IsMarked, IsGreatestOf, root};
+ghost use Rattle.ray_marks.specs.Tree.{IsTree, IsMarked, IsGreatestOf, above, root};
 
 /// A node of the tree over the cells. In a slice the root comes first, then the tree of the first
 /// half of its cells, then that of the second half.
@@ -44,14 +44,23 @@ pub(crate) fn mark(nodes: &mut [Node], height: usize, start: usize, end: usize, 
     );
 }
 
-// The greatest mark of the cells from `start` on and below `end`, as far as the tree has them: 0
-// where there is none.
-pub(crate) fn greatest(nodes: &[Node], height: usize, start: usize, end: usize) -> u32
+// The greatest mark above a limit of the cells from `start` on and below `end`, as far as the tree
+// has them: 0 where there is none.
+pub(crate) fn greatest_above(
+    nodes: &[Node],
+    height: usize,
+    limit: u32,
+    start: usize,
+    end: usize,
+) -> u32
     requires { IsTree height nodes.now }
-    ensures { IsGreatestOf height nodes.now start end result }
+    ensures { IsGreatestOf height nodes.now limit start end result }
 {
     let cells = nodes.len() / 2 + 1;
     if end <= start || cells <= start {
+        return 0;
+    }
+    if nodes[0].part <= limit {
         return 0;
     }
     if start == 0 && cells <= end {
@@ -60,14 +69,22 @@ pub(crate) fn greatest(nodes: &[Node], height: usize, start: usize, end: usize) 
     let half = cells / 2;
     let (_, halves) = nodes.split_at(1);
     let (first, second) = halves.split_at(halves.len() / 2);
-    let below = greatest(first, height - 1, start, end);
-    let above = greatest(
+    let low = greatest_above(first, height - 1, limit, start, end);
+    let high = greatest_above(
         second,
         height - 1,
+        limit,
         start.saturating_sub(half),
         end.saturating_sub(half),
     );
-    greater(nodes[0].whole, greater(below, above))
+    greater(above(limit, nodes[0].whole), greater(low, high))
+}
+
+// A mark where it is above a limit, and else 0.
+fn above(limit: u32, mark: u32) -> u32
+    ensures { result ≡ above limit mark }
+{
+    if limit < mark { mark } else { 0 }
 }
 
 // The greater of two marks.
