@@ -53,4 +53,4 @@ abbrev pub line_of : Why → List ℕ
 line_of whys.Kept = codes "ok\n"
 line_of (whys.NotJson words) = codes "not-json\n"
 line_of (whys.BadShape m) = bad_shape_line m.command
-line_of (whys.Refused refusal) = refusal_line refusal
+line_of (whys.Refused broken) = refusal_line broken.refusal

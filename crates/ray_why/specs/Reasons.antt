@@ -1,12 +1,11 @@
 -- Why bytes are refused as a recording, or that they aren't. (Own.)
-use Rattle.std.specs.Prelude.{ℕ, ◌≡◌, List, Option, Some, None, Ok, Err, String, is_some}
+use Rattle.std.specs.Prelude.{ℕ, ◌≡◌, List, Option, Some, None, Ok, Err, String, IfSome, is_some}
 use Rattle.std.specs.declared.alloc.Global.{Global}
 use Rattle.serde_json.specs.Data.{Data}
 use Rattle.serde_json.specs.Errors.{IsMemory}
 use Rattle.serde_json.specs.declared.error.Error.{Error}
 use Rattle.ray_cmd.specs.declared.command.Command.{Command}
 use Rattle.ray_cmd.specs.declared.fault.RecordingFault.TheVariants.{BadShape}
-use Rattle.ray_cmd.specs.declared.refusal.Refusal.{Refusal}
 use Rattle.ray_cmd.specs.Json.{json_of}
 use Rattle.ray_cmd.specs.Recordings.{recording_of}
 use Rattle.ray_rules.specs.Order.{barriers}
@@ -15,6 +14,8 @@ use Rattle.ray_shape.specs.declared.explaining.ShapeFault.{ShapeFault}
 use Rattle.ray_shape.specs.declared.explaining.ShapeFault.TheVariants as faults
 use Rattle.ray_shape.specs.Faults.{IsShapeFault}
 use Rattle.ray_shape.specs.Wrong.{stands}
+use Rattle.ray_causes.specs.Causes.{IsCauseAt}
+use Rattle.ray_why.specs.declared.reasons.Broken.{Broken}
 use Rattle.ray_why.specs.declared.reasons.Misshapen.{Misshapen}
 use Rattle.ray_why.specs.declared.reasons.Unread.{Unread}
 use Rattle.ray_why.specs.declared.reasons.Unread.TheVariants as unreads
@@ -32,23 +33,29 @@ pub record IsMisshapen (m : Misshapen) (d : Data) : Type 0 where
   pub fault : IsShapeFault m.fault m.command d
   pub found : AreFound m.fault m.found d
 
+-- a command is the one for which a recording is refused, and what is told of it is so
+pub record IsBroken (broken : Broken) (commands : List Command) : Type 0 where
+  pub refusal : rule_refusal (barriers commands) commands ≡ Some broken.refusal
+  pub cause : IfSome broken.cause (λ cause. IsCauseAt commands broken.refusal cause)
+
 -- what the rules on the recording alone say of it
-abbrev pub why_of_rules : Option Refusal → Why
-why_of_rules None = whys.Kept
-why_of_rules (Some refusal) = whys.Refused refusal
+abbrev pub IsOfRules : Why → List Command → Type 0
+IsOfRules whys.Kept commands = rule_refusal (barriers commands) commands ≡ None
+IsOfRules (whys.Refused broken) commands = IsBroken broken commands
+IsOfRules why commands = ⊥
 
 -- a JSON value is a recording of which the rules say this
 pub record IsByRules (why : Why) (d : Data) : Type 0 where
   pub commands : List Command
   pub read : recording_of d ≡ Ok commands
-  pub rules : why ≡ why_of_rules (rule_refusal (barriers commands) commands)
+  pub rules : IsOfRules why commands
 
 -- why a JSON value is refused: its first command without a shape, with what is wrong in it; or by the rules
 abbrev pub IsWhyOf : Why → Data → Type 0
 IsWhyOf whys.Kept d = IsByRules whys.Kept d
 IsWhyOf (whys.NotJson words) d = ⊥
 IsWhyOf (whys.BadShape m) d = (recording_of d ≡ Err (BadShape m.command)) × IsMisshapen m d
-IsWhyOf (whys.Refused refusal) d = IsByRules (whys.Refused refusal) d
+IsWhyOf (whys.Refused broken) d = IsByRules (whys.Refused broken) d
 
 -- that something is no JSON
 abbrev pub IsNotJson : Why → Type 0

@@ -1,7 +1,80 @@
 -- What is told below the first line. (Own.)
-use Rattle.std.specs.Prelude.{ℕ, List, ◌++◌, codes}
+use Rattle.std.specs.Prelude.{ℕ, List, [], Option, ◌++◌, codes, decimal}
+use Rattle.std.specs.Option.{option_map_or}
+use Rattle.ray_rules.specs.declared.byte_range.ByteRange.{ByteRange}
+use Rattle.ray_causes.specs.declared.cause.BufferUse.{BufferUse}
+use Rattle.ray_causes.specs.declared.cause.BufferUse.TheVariants as uses
+use Rattle.ray_causes.specs.declared.cause.Cause.{Cause}
+use Rattle.ray_causes.specs.declared.cause.Cause.TheVariants as causes
+use Rattle.ray_causes.specs.declared.cause.Multiple.{Multiple}
+use Rattle.ray_causes.specs.declared.member.Member.{Member}
+use Rattle.ray_causes.specs.declared.member.Member.TheVariants as members
+use Rattle.ray_causes.specs.Pointers.{member_text}
+use Rattle.ray_why.specs.declared.reasons.Why.{Why}
+use Rattle.ray_why.specs.declared.reasons.Why.TheVariants as whys
 
 -- of a place that is wrong: its JSON pointer, what stands there, and what is wanted, in words
 abbrev pub place_of : List ℕ → List ℕ → List ℕ → List ℕ
 place_of pointer found words =
     codes "at: " ++ (pointer ++ (codes "\nfound: " ++ (found ++ (codes "\nwanted: " ++ (words ++ codes "\n")))))
+
+-- ---- by what a static rule is broken
+
+-- the member that breaks it
+abbrev pub member_of : Cause → Member
+member_of (causes.NoBuffer member id) = member
+member_of (causes.NoStructure member id) = member
+member_of (causes.BufferThere name id) = members.Own name
+member_of (causes.StructureThere name id) = members.Own name
+member_of (causes.Unusable member id wanted) = member
+member_of (causes.Outside member range size) = member
+member_of (causes.Misaligned member multiple) = member
+
+-- a use, as a recording writes it
+abbrev pub use_word : BufferUse → List ℕ
+use_word uses.Input = codes "input"
+use_word uses.Storage = codes "storage"
+use_word uses.TransferSrc = codes "transfer_src"
+use_word uses.TransferDst = codes "transfer_dst"
+use_word uses.Scratch = codes "scratch"
+use_word uses.Structure = codes "structure"
+
+-- a buffer, and the use that it lacks
+abbrev pub lacking_text : ℕ → List ℕ → List ℕ
+lacking_text id word = codes "buffer " ++ (decimal id ++ (codes ", whose usage lacks " ++ word))
+
+-- a range, and the size of its buffer
+abbrev pub outside_text : ByteRange → ℕ → List ℕ
+outside_text range size =
+    decimal range.size
+    ++ (codes " bytes from byte "
+    ++ (decimal range.from
+    ++ (codes " on of buffer " ++ (decimal range.buffer ++ (codes ", whose size is " ++ decimal size)))))
+
+-- a number, and of what it is no multiple
+abbrev pub multiple_text : Multiple → List ℕ
+multiple_text multiple = decimal multiple.number ++ (codes ", which is no multiple of " ++ decimal multiple.of)
+
+-- what was compared
+abbrev pub compared : Cause → List ℕ
+compared (causes.NoBuffer member id) = codes "no buffer " ++ (decimal id ++ codes " is live")
+compared (causes.NoStructure member id) = codes "no structure " ++ (decimal id ++ codes " is live")
+compared (causes.BufferThere name id) = codes "buffer " ++ (decimal id ++ codes " is live already")
+compared (causes.StructureThere name id) = codes "structure " ++ (decimal id ++ codes " is live already")
+compared (causes.Unusable member id wanted) = lacking_text id (use_word wanted)
+compared (causes.Outside member range size) = outside_text range size
+compared (causes.Misaligned member multiple) = multiple_text multiple
+
+-- the member of command number i that breaks it, and what was compared
+abbrev pub cause_text : ℕ → Cause → List ℕ
+cause_text i cause =
+    codes "at: " ++ (member_text i (member_of cause) ++ (codes "\ncompared: " ++ (compared cause ++ codes "\n")))
+
+-- the same where it is told
+abbrev pub cause_told : ℕ → Option Cause → List ℕ
+cause_told i cause = option_map_or (cause_text i) cause []
+
+-- what is told last of why a recording is refused
+abbrev pub told_last : Why → List ℕ
+told_last (whys.Refused broken) = cause_told broken.refusal.command broken.cause
+told_last why = []

@@ -3,12 +3,15 @@
 //! The layer above uses [`why_of`], whose clause `IsWhy` of `specs/Reasons` says that its answer is
 //! that of a check of the same bytes, by `recording_of` of ray_cmd and `rule_refusal` of ray_rules,
 //! and of a command without a shape which place is wrong; and [`told`], which makes a text of it
-//! whose first line is the one that `vkray check` writes (`line_of` of `specs/Lines`).
+//! whose first line is the one that `vkray check` writes (`line_of` of `specs/Lines`). Of a static
+//! rule it tells the member that breaks it, and what was compared.
 //!
-//! It stands on ray_cmd (the recording), ray_shape (the place that is wrong) and ray_rules (the
-//! definitions of the rules); who decides these is a [`Rules`] that the layer above brings.
+//! It stands on ray_cmd (the recording), ray_shape (the place that is wrong), ray_rules (the
+//! definitions of the rules) and ray_causes (by what a static rule is broken); who decides the rules
+//! is a [`Rules`] that the layer above brings.
 #![tactic(auto)]
 
+mod causes;
 mod line;
 mod reasons;
 mod rules;
@@ -17,7 +20,7 @@ mod telling;
 mod wanted;
 
 pub use crate::line::first_line;
-pub use crate::reasons::{Misshapen, Why, why_of};
+pub use crate::reasons::{Broken, Misshapen, Why, why_of};
 pub use crate::rules::Rules;
 pub use crate::telling::told;
 pub use std::alloc::AllocError as NoMemory;

@@ -18,7 +18,7 @@ pub fn first_line(alloc: Global, why: &Why) -> Result<String, NoMemory>
         Why::Kept => String::from_str(alloc, "ok\n"),
         Why::NotJson(_) => String::from_str(alloc, "not-json\n"),
         Why::BadShape(misshapen) => bad_shape_line(alloc, misshapen.command),
-        Why::Refused(refusal) => refusal_line(alloc, refusal),
+        Why::Refused(broken) => refusal_line(alloc, &broken.refusal),
     }
 }
 

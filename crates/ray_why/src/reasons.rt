@@ -5,9 +5,10 @@ ghost use Rattle.ray_rules.specs.Order.{barriers};
 ghost use Rattle.ray_rules.specs.Verdict.{rule_refusal};
 ghost use Rattle.ray_shape.specs.Wrong.{stands};
 ghost use Rattle.ray_why.specs.Reasons.{AreFound, IsMisshapen, IsOfError, IsUnread};
-ghost use Rattle.ray_why.specs.Reasons.{IsWhy, IsWhyOf, why_of_rules};
+ghost use Rattle.ray_why.specs.Reasons.{IsOfRules, IsWhy, IsWhyOf};
 
 use crate::rules::Rules;
+use ray_causes::{Cause, cause_of};
 use ray_cmd::{Recording, RecordingFault, Refusal, recording_of};
 use ray_shape::{ShapeFault, Step, shape_fault, value_at};
 use serde_json::{Error, Value};
@@ -22,8 +23,17 @@ pub enum Why {
     NotJson(String),
     /// A command has no shape of a command.
     BadShape(Misshapen),
-    /// A command breaks a rule, by its least rule, with its place.
-    Refused(Refusal),
+    /// A command breaks a rule.
+    Refused(Broken),
+}
+
+/// The first command that breaks a rule. (Own.)
+#[derive(Debug, Drop)]
+pub struct Broken {
+    /// Its least rule that is broken, with the place.
+    pub refusal: Refusal,
+    /// By what it breaks a static rule, where that is told: of V1, V3, V4, V5 and V12.
+    pub cause: Option<Cause>,
 }
 
 /// The first command that has no shape of a command. (Own.)
@@ -107,13 +117,21 @@ fn of_value<R: Rules>(alloc: Global, value: &Value) -> Result<Why, NoMemory>
 
 // Why a recording that was read is refused.
 fn of_recording<R: Rules>(alloc: Global, recording: &Recording) -> Result<Why, NoMemory>
-    ensures { IfOk result (λ why. why ≡ why_of_rules
-        (rule_refusal (barriers recording.now) recording.now)) }
+    ensures { IfOk result (λ why. IsOfRules why recording.now) }
 {
     match R::refusal(alloc, recording)? {
-        Some(refusal) => Ok(Why::Refused(refusal)),
+        Some(refusal) => refused_by(alloc, recording, refusal),
         None => Ok(Why::Kept),
     }
+}
+
+// The command for which a recording is refused, and by what it breaks its rule.
+fn refused_by(alloc: Global, recording: &Recording, refusal: Refusal) -> Result<Why, NoMemory>
+    requires { rule_refusal (barriers recording.now) recording.now ≡ Some refusal }
+    ensures { IfOk result (λ why. IsOfRules why recording.now) }
+{
+    let cause = cause_of(alloc, recording, refusal)?;
+    Ok(Why::Refused(Broken { refusal, cause }))
 }
 
 // What is wrong with the command of this number.

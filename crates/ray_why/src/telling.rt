@@ -1,40 +1,70 @@
 ghost use Rattle.std.specs.Prelude.{◌≡◌, ◌++◌, IfOk, List, codes, string_bytes, ℕ};
 ghost use Rattle.ray_shape.specs.Pointer.{pointer_of};
 ghost use Rattle.ray_why.specs.Lines.{line_of};
-ghost use Rattle.ray_why.specs.Told.{place_of};
+ghost use Rattle.ray_why.specs.Told.{cause_told, place_of, told_last};
 
+use crate::causes::cause_text;
 use crate::line::first_line;
 use crate::reasons::{Misshapen, Why};
 use crate::sentences::sentence;
 use crate::wanted::wanted_words;
+use ray_causes::Cause;
 use ray_shape::{ShapeFault, Wrong, pointer_text};
 use std::alloc::{AllocError as NoMemory, Global};
 
-/// What is told of a recording: the first line, and below it why. Own.
+/// What is told of a recording: the first line, below it why in words, and last by what member of
+/// the command a static rule is broken. Own.
 ///
 /// # Errors
 ///
 /// For want of memory alone.
 pub fn told(alloc: Global, why: &Why) -> Result<String, NoMemory>
-    ensures { IfOk result (λ text. (facts : List ℕ)
-        × (string_bytes text ≡ line_of why.now ++ facts)) }
+    ensures { IfOk result (λ text. (words : List ℕ)
+        × (string_bytes text ≡ line_of why.now ++ (words ++ told_last why.now))) }
 {
-    let mut text = first_line(alloc, why)?;
-    let facts = facts(alloc, why)?;
-    text.push_str(facts.as_str())?;
-    Ok(text)
+    let first = first_line(alloc, why)?;
+    let words = words_on(alloc, why)?;
+    let last = causes_of(alloc, why)?;
+    joined(alloc, first.as_str(), words.as_str(), last.as_str())
 }
 
-// What stands below the first line.
-fn facts(alloc: Global, why: &Why) -> Result<String, NoMemory> {
+// Three texts, one after the other.
+fn joined(alloc: Global, first: &str, words: &str, last: &str) -> Result<String, NoMemory>
+    ensures { IfOk result (λ text. string_bytes text ≡ first.now ++ (words.now ++ last.now)) }
+{
+    format!(in alloc; "{first}{words}{last}")
+}
+
+// What stands below the first line, in words.
+fn words_on(alloc: Global, why: &Why) -> Result<String, NoMemory> {
     match why {
         Why::Kept => Ok(String::new(alloc)),
         Why::NotJson(words) => format!(in alloc; "{words}\n"),
         Why::BadShape(misshapen) => shape_facts(alloc, misshapen),
-        Why::Refused(refusal) => {
-            let sentence = sentence(refusal.rule);
+        Why::Refused(broken) => {
+            let sentence = sentence(broken.refusal.rule);
             format!(in alloc; "{sentence}\n")
         }
+    }
+}
+
+// What is told last: by what a static rule is broken.
+fn causes_of(alloc: Global, why: &Why) -> Result<String, NoMemory>
+    ensures { IfOk result (λ text. string_bytes text ≡ told_last why.now) }
+{
+    match why {
+        Why::Refused(broken) => cause_of(alloc, broken.refusal.command, broken.cause),
+        _ => Ok(String::new(alloc)),
+    }
+}
+
+// The same of a command, where a cause is known.
+fn cause_of(alloc: Global, command: u32, cause: Option<Cause>) -> Result<String, NoMemory>
+    ensures { IfOk result (λ text. string_bytes text ≡ cause_told command cause) }
+{
+    match cause {
+        Some(cause) => cause_text(alloc, command, cause),
+        None => Ok(String::new(alloc)),
     }
 }
 
