@@ -1,5 +1,5 @@
 -- The infos, geometries and regions of a command, by number. (Own.)
-use Rattle.std.specs.Prelude.{ℕ, List, Option, None, slice_get}
+use Rattle.std.specs.Prelude.{ℕ, Option, None, slice_get}
 use Rattle.std.specs.Option.{option_and_then}
 use Rattle.ray_cmd.specs.declared.command.Command.{Command}
 use Rattle.ray_cmd.specs.declared.command.Command.TheVariants as commands

@@ -1,6 +1,7 @@
 ghost use Rattle.std.specs.Prelude.{◌≡◌};
-ghost use Rattle.ray_causes.specs.Multiples.{boxes_multiple, info_multiple, input_multiple, instances_multiple};
-ghost use Rattle.ray_causes.specs.Multiples.{multiple, multiple_at, offset_size, own_multiple};
+ghost use Rattle.ray_causes.specs.Multiples.{boxes_multiple, info_multiple, input_multiple};
+ghost use Rattle.ray_causes.specs.Multiples.{instances_multiple, multiple, multiple_at};
+ghost use Rattle.ray_causes.specs.Multiples.{offset_size, own_multiple};
 ghost use Rattle.ray_causes.specs.Multiples.{triangles_multiple};
 
 use crate::cause::Multiple;
@@ -111,8 +112,8 @@ fn triangles_multiple(
     primitive_offset: u32,
     transform_offset: u32,
 ) -> Option<Multiple>
-    ensures { result ≡ triangles_multiple name format vertex stride index transform primitive_offset
-        transform_offset }
+    ensures { result ≡ triangles_multiple name format vertex stride index transform
+        primitive_offset transform_offset }
 {
     let component = u64::from(format.component_size());
     match name {

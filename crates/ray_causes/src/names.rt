@@ -1,9 +1,10 @@
 ghost use Rattle.std.specs.Prelude.{◌≡◌, ℕ, List, slice_get};
 ghost use Rattle.std.specs.Option.{option_and_then};
-ghost use Rattle.ray_causes.specs.Names.{buffer_made, buffer_named, destroyed_buffer, destroyed_structure};
-ghost use Rattle.ray_causes.specs.Names.{info_buffer, info_structure, input_buffer, limit_at, own_buffer};
-ghost use Rattle.ray_causes.specs.Names.{own_structure, own_use, structure_item, structure_made};
-ghost use Rattle.ray_causes.specs.Names.{structure_named, triangles_buffer, use_at, use_needed};
+ghost use Rattle.ray_causes.specs.Names.{buffer_made, buffer_named, destroyed_buffer};
+ghost use Rattle.ray_causes.specs.Names.{destroyed_structure, info_buffer, info_structure};
+ghost use Rattle.ray_causes.specs.Names.{input_buffer, limit_at, own_buffer, own_structure};
+ghost use Rattle.ray_causes.specs.Names.{own_use, structure_item, structure_made, structure_named};
+ghost use Rattle.ray_causes.specs.Names.{triangles_buffer, use_at, use_needed};
 
 use crate::cause::BufferUse;
 use crate::member::{Member, Name};
