@@ -24,6 +24,16 @@
 //! known to be within them are taken unchecked by [`Tri::of_vertices`], [`Box3::of_corners`] and
 //! [`Matrix::of_words`]. [`Point32`] is a point in 12 bytes. [`Steps`] counts in contracts alone.
 //!
+//! ```rust
+//! // The one hit of a ray that goes down, by a triangle that faces it.
+//! let at = |x, y, z| Vec3 { x, y, z };
+//! let ray = Ray::new(at(1, 1, 5), at(0, 0, -1), 0, 1 << 29)?;
+//! let tri = Tri::new(at(0, 0, 0), at(4, 0, 0), at(0, 4, 0))?;
+//! assert_eq!(hit_tri(&ray, &tri)?.t.lowest(), (5, 1));
+//! ```
+//!
+//! CALLING.md has a proved caller.
+//!
 //! It stands on the standard library and on no other crate. No call takes memory.
 #![tactic(auto)]
 
