@@ -1,9 +1,8 @@
 -- One axis on which all buffers and structures stand side by side: each buffer, each structure and the
 -- scratch memory of each buffer has a stretch of numbers of its own, by the command that made it. (Own.)
-use Rattle.std.specs.Prelude.{◌≡◌, ◌≤◌, ℕ, ◌+◌, ◌*◌, ◌^◌, Option, Some, None, Bool}
+use Rattle.std.specs.Prelude.{◌≡◌, ℕ, ◌+◌, ◌*◌, ◌^◌, Option, Some, None, if◌then◌else◌, nat_lt}
 use Rattle.ray_ranges.specs.declared.range.Range.{Range}
 use Rattle.ray_ranges.specs.Meeting.{meets}
-use Rattle.ray_rules.specs.declared.access_type.AccessType.{AccessType}
 use Rattle.ray_rules.specs.declared.reach.Reach.{Reach}
 use Rattle.ray_rules.specs.declared.reach.Reach.TheVariants.{Bytes, Structure, Scratch}
 use Rattle.ray_rules.specs.declared.touch.Touch.{Touch}
@@ -21,9 +20,15 @@ memory_number memories.Bytes = 0
 memory_number memories.Structures = 1
 memory_number memories.Scratch = 2
 
+-- the number of a stretch: the stretches of one kind of memory stand side by side, as far as numbers of
+-- commands go, which are below 2^32
+abbrev pub stretch_number : Memory → ℕ → ℕ
+stretch_number memory made =
+    if nat_lt made (2 ^ 32) then memory_number memory * 2 ^ 32 + made else 3 * made + memory_number memory
+
 -- where the stretch of what a command made begins
 abbrev pub stretch_from : Memory → ℕ → ℕ
-stretch_from memory made = (3 * made + memory_number memory) * 2 ^ 70
+stretch_from memory made = stretch_number memory made * 2 ^ 70
 
 -- the numbers of a part of what a command made: none where there is no such command
 abbrev pub stretch : Memory → Option ℕ → ℕ → ℕ → Range

@@ -1,11 +1,13 @@
 -- Lists of touches, with their numbers. (Own.)
-use Rattle.std.specs.Prelude.{ℕ, ◌≡◌, ◌++◌, List, [], ◌∷◌, Option, map, All}
+use Rattle.std.specs.Prelude.{ℕ, ◌≡◌, ◌+◌, ◌*◌, ◌++◌, List, [], ◌∷◌, Option, map, All}
 use Rattle.std.specs.Option.{option_map_or}
-use Rattle.ray_rules.specs.declared.access_type.AccessType.TheVariants.{HostRead, ShaderRead}
+use Rattle.ray_cmd.specs.declared.command.Command.{Command}
+use Rattle.ray_cmd.specs.declared.spot.Spot.{Spot}
+use Rattle.ray_rules.specs.declared.access_type.AccessType.TheVariants.{HostRead, ShaderRead, ShaderWrite}
 use Rattle.ray_rules.specs.declared.byte_range.ByteRange.{ByteRange}
 use Rattle.ray_rules.specs.declared.reach.Reach.TheVariants.{Bytes}
 use Rattle.ray_rules.specs.declared.touch.Touch.{Touch}
-use Rattle.ray_rules.specs.Access.{Accesses, at_bytes}
+use Rattle.ray_rules.specs.Access.{Accesses, at_bytes, structure_reads, uses_at}
 use Rattle.ray_rules.specs.Status.{Status}
 use Rattle.ray_access.specs.declared.touched.Touched.{Touched}
 use Rattle.ray_access.specs.declared.touches.Touches.{Touches}
@@ -34,3 +36,14 @@ pub record AreOf (z : Status) (accesses : Accesses) (touches : Touches) : Type 0
 -- a list is that of the one read by the host
 abbrev pub IsHostRead : Status → ℕ → ℕ → ℕ → List Touched → Type 0
 IsHostRead z buffer from size list = AreTouched z (at_bytes HostRead buffer from size ∷ []) list
+
+-- what a trace of the top of an id reads of structures: the top, and all that it may refer to
+abbrev pub structures_traced : List Command → Status → ℕ → List Touch
+structures_traced rec z top = structure_reads (top ∷ uses_at rec z top)
+
+-- what else it reads and writes: its rays, and their hits
+abbrev pub rays_traced : Spot → Spot → ℕ → Accesses
+rays_traced rays hits count = record {
+  reads = at_bytes ShaderRead rays.buffer (rays.offset + 40 * 0) (40 * count) ∷ [];
+  writes = at_bytes ShaderWrite hits.buffer (hits.offset + 80 * 0) (80 * count) ∷ [];
+}

@@ -10,6 +10,9 @@ use ray_status::Status;
 // How many numbers each stretch has.
 const STRETCH: u128 = 1 << 70;
 
+// How many stretches each kind of memory has.
+const STRETCHES: u128 = 1 << 32;
+
 /// A kind of memory: what has a stretch of the axis. Own.
 #[derive(Clone, Copy, Debug, PartialEq, Eq)]
 pub enum Memory {
@@ -40,7 +43,7 @@ fn stretch_from(memory: Memory, made: u32) -> u128
     ensures value { result ≡ stretch_from memory made }
     ensures limit { result ≤ 2 ^ 110 }
 {
-    (3 * u128::from(made) + memory.number()) * STRETCH
+    (memory.number() * STRETCHES + u128::from(made)) * STRETCH
 }
 
 // The numbers of a part of what a command made: none where there is no such command.

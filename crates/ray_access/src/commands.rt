@@ -1,10 +1,10 @@
 ghost use Rattle.std.specs.Prelude.{◌≡◌, ◌<◌, ◌≤◌, ◌+◌, ◌*◌, ◌^◌, IfOk, [], length};
-ghost use Rattle.ray_rules.specs.declared.access_type.AccessType.TheVariants.{StructureWrite};
+ghost use Rattle.ray_rules.specs.declared.access_type.AccessType.TheVariants.{ShaderRead, ShaderWrite, StructureWrite};
 ghost use Rattle.ray_rules.specs.Access.{at_bytes, at_structure, build_accesses, copy_accesses, deserialize_accesses};
 ghost use Rattle.ray_rules.specs.Access.{property_accesses, ray_accesses};
 ghost use Rattle.ray_rules.specs.Access.{serialize_accesses, structure_copy_accesses, uses_at, write_accesses};
 ghost use Rattle.ray_access.specs.Axis.{TouchFits};
-ghost use Rattle.ray_access.specs.Lists.{AreOf, IsHostRead};
+ghost use Rattle.ray_access.specs.Lists.{AreOf, AreTouched, IsHostRead, rays_traced, structures_traced};
 
 use crate::infos::{add_info_reads, add_info_writes};
 use crate::lists::{add, add_structures, structure_read};
@@ -211,12 +211,70 @@ pub(crate) fn trace(
 {
     let mut reads = Vec::new(alloc);
     let mut writes = Vec::new(alloc);
-    let read = AccessType::ShaderRead;
-    let write = AccessType::ShaderWrite;
     add(&mut reads, status, structure_read(top))?;
     add_structures(&mut reads, status, uses_at(rec, status, top))?;
-    add(&mut reads, status, records(read, rays, 40, count))?;
-    add(&mut writes, status, records(write, hits, 80, count))?;
+    add(&mut reads, status, rays_read(rays, count))?;
+    add(&mut writes, status, hits_written(hits, count))?;
+    Ok(Touches { reads, writes })
+}
+
+// The read of the rays of a trace.
+fn rays_read(rays: Spot, count: u32) -> Touch
+    ensures value { result ≡ at_bytes ShaderRead rays.buffer (rays.offset + 40 * 0) (40 * count) }
+    ensures fits { TouchFits result }
+{
+    records(AccessType::ShaderRead, rays, 40, count)
+}
+
+// The write of its hits.
+fn hits_written(hits: Spot, count: u32) -> Touch
+    ensures value { result ≡ at_bytes ShaderWrite hits.buffer (hits.offset + 80 * 0) (80 * count) }
+    ensures fits { TouchFits result }
+{
+    records(AccessType::ShaderWrite, hits, 80, count)
+}
+
+/// What a trace of the top of an id reads of structures where a status stands: the top, and all
+/// that it may refer to.
+///
+/// # Errors
+///
+/// For want of memory alone.
+#[tactic(auto, using(crate::proofs::Joining::begun, crate::proofs::Joining::adds_then))]
+pub fn structures_traced(
+    alloc: Global,
+    rec: &Recording,
+    status: &Status,
+    top: u32,
+) -> Result<Vec<Touched>, NoMemory>
+    ensures { IfOk result (λ list.
+        AreTouched status.now (structures_traced rec.now status.now top) list.items) }
+{
+    let mut reads = Vec::new(alloc);
+    add(&mut reads, status, structure_read(top))?;
+    add_structures(&mut reads, status, uses_at(rec, status, top))?;
+    Ok(reads)
+}
+
+/// What else a trace reads and writes: so many rays, and their hits.
+///
+/// # Errors
+///
+/// For want of memory alone.
+#[tactic(auto, using(crate::proofs::Joining::begun))]
+pub fn rays_traced(
+    alloc: Global,
+    status: &Status,
+    rays: Spot,
+    count: u32,
+    hits: Spot,
+) -> Result<Touches, NoMemory>
+    ensures { IfOk result (AreOf status.now (rays_traced rays hits count)) }
+{
+    let mut reads = Vec::new(alloc);
+    let mut writes = Vec::new(alloc);
+    add(&mut reads, status, rays_read(rays, count))?;
+    add(&mut writes, status, hits_written(hits, count))?;
     Ok(Touches { reads, writes })
 }
 

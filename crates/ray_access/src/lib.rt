@@ -16,6 +16,7 @@ mod lists;
 mod touched;
 mod touches;
 
+pub use crate::commands::{rays_traced, structures_traced};
 pub use crate::laws::sharing_is_meeting;
 pub use crate::touched::Touched;
 pub use crate::touches::{Touches, host_touches_of, touches_of};

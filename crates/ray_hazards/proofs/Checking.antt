@@ -23,6 +23,8 @@ use Rattle.ray_hazards.specs.Counting.{Counted, read_in, wrote_in}
 use Rattle.ray_hazards.specs.Lanes.{MeetsUncovered, MeetsUnordered}
 use Rattle.ray_hazards.specs.Lasts.{AnyOf, ArePlaced, HaveStarts, IsLast, host_reads_at, last_number}
 use Rattle.ray_hazards.proofs.Lasts.{last-greatest}
+use Rattle.ray_hazards.specs.Reaching.{AreReached}
+use Rattle.ray_hazards.proofs.Local.{IsLocal, last-reached, local-uncovered}
 use Rattle.ray_hazards.proofs.Odds.{IsPlaced, each-placed, uncovered-from, uncovered-to, unordered-from, unordered-to}
 
 -- of the touches of a list and their images
@@ -74,15 +76,30 @@ odds-last rec starts n ts touches P odd r are placed to from last =
     (each-placed rec starts n ts placed) (λ t one e. from t i l one e) found))
     last))
 
+-- the same where a list reaches what the touches do, and it is so because of cells
+pub odds-reached :
+    (rec : List Command) (starts : List ℕ) (n : ℕ) (ts : List Touch) (touches : List Touched) (P : Touched → ℕ → Type 0)
+    (odd : Touch → ℕ → Bool) (r : ℕ) → AreReached (status_at rec n) starts ts touches → ArePlaced rec starts n ts
+    → ((i : ℕ) → IsLocal starts (λ t. P t i))
+    → ((t : Touch) (i : ℕ) → i < n → IsPlaced (status_at rec n) starts t → P (touched (status_at rec n) t) i → odd t i ≡ true)
+    → ((t : Touch) (i : ℕ) → i < n → IsPlaced (status_at rec n) starts t → odd t i ≡ true → P (touched (status_at rec n) t) i)
+    → IsLast (λ i. AnyOf (λ t. P t i) touches) n r
+    → option_map Earlier (last_number r) ≡ greatest_with odd ts n
+odds-reached rec starts n ts touches P odd r are placed local to from last =
+    let listed = map (touched (status_at rec n)) ts in
+    odds-last rec starts n ts listed P odd r (record { are = refl; fit = are.fit }) placed to from
+    (last-reached starts P listed touches n r local are.same last)
+
 -- the last command that counts and wrote what touches reach, not covered
 pub uncovered-last :
     (law : SharingIsMeeting) (counted : Counted) (starts : List ℕ) (n : ℕ) (to : Stage) (ts : List Touch)
-    (touches : List Touched) (r : ℕ) → AreTouched (status_at counted.commands n) ts touches
+    (touches : List Touched) (r : ℕ) → AreReached (status_at counted.commands n) starts ts touches
     → ArePlaced counted.commands starts n ts → HaveStarts counted.commands starts n
     → IsLast (λ i. AnyOf (λ t. MeetsUncovered counted starts n to t i) touches) n r
     → option_map Earlier (last_number r) ≡ greatest_with (wrote_in counted n to) ts n
 uncovered-last law counted starts n to ts touches r are placed have last =
-    odds-last counted.commands starts n ts touches (MeetsUncovered counted starts n to) (wrote_in counted n to) r are placed
+    odds-reached counted.commands starts n ts touches (MeetsUncovered counted starts n to) (wrote_in counted n to) r are placed
+    (local-uncovered counted starts n to)
     (λ t i l one p. uncovered-to law counted starts n i to t one (have.writes i l) p)
     (λ t i l one e. uncovered-from law counted starts n i to t one (have.writes i l) e) last
 

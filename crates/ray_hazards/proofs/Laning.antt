@@ -12,6 +12,8 @@ use Rattle.ray_hazards.specs.declared.limits.Accessed.{Accessed}
 use Rattle.ray_hazards.specs.Counting.{Counted, stage_in}
 use Rattle.ray_hazards.specs.Lanes.{AnyUncovered, AnyUnordered, AreBelow, AreEnough, AreLanes, AreReads, AreWrites, IsCoveredBelow, IsOrderedBelow, LanesBelow, NoneCounts}
 use Rattle.ray_hazards.specs.Lasts.{IsLast, ReadCell, UncoveredIn, UnorderedIn, WroteCell, marked_if, has_it, is_by, reads_at, writes_at}
+use Rattle.ray_hazards.specs.Reaching.{ReachSame}
+use Rattle.ray_hazards.proofs.Reaching.{reach-cells}
 use Rattle.ray_hazards.proofs.Lasts.{last-cells, last-like, last-nothing, last-step}
 
 -- the last command of a lane that isn't covered
@@ -92,15 +94,15 @@ writes-same counted starts stage access n marks other are = record {
 -- and what it read
 pub reads-more :
     (counted : Counted) (starts : List ℕ) (stage : Stage) (n : ℕ) (ts : List Touched) (old new : List ℕ)
-    → stage_in counted n ≡ Some stage → ts ≡ reads_at counted.commands n → length new ≡ length old
+    → stage_in counted n ≡ Some stage → ReachSame starts (reads_at counted.commands n) ts → length new ≡ length old
     → ((c : ℕ) → mark_of new c ≡ marked_if (has_it starts) ts (suc n) (mark_of old c) c)
     → AreReads counted starts stage n old → AreReads counted starts stage (suc n) new
 reads-more counted starts stage n ts old new by same cells marks are = record {
   cells = cells ∙ are.cells;
   last = λ c.
       last-step (ReadCell counted starts stage c) n (mark_of old c) (mark_of new c) (list_any (has_it starts c) ts)
-      (λ w. ap (list_any (has_it starts c)) same ∙ w.touch)
-      (λ t. record { by = by; touch = ap (list_any (has_it starts c)) (sym same) ∙ t }) (marks c) (are.last c);
+      (λ w. sym (reach-cells starts (reads_at counted.commands n) ts c same) ∙ w.touch)
+      (λ t. record { by = by; touch = reach-cells starts (reads_at counted.commands n) ts c same ∙ t }) (marks c) (are.last c);
 }
 
 pub reads-same :

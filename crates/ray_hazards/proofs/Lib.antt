@@ -1,9 +1,12 @@
 pub mod Lasts
 pub mod Cellular
+pub mod Reaching
 pub mod Laning
 pub mod Ways
 pub mod Finds
+pub mod Local
 pub mod Odds
 pub mod Starting
+pub mod Tracing
 pub mod Carrying
 pub mod Checking

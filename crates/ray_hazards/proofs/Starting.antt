@@ -19,9 +19,8 @@ use Rattle.ray_rules.specs.declared.touch.Touch.{Touch}
 use Rattle.std.specs.Prelude.{slice_get, Some}
 use Rattle.ray_rules.specs.Hazards.{accesses_at, after_if, status_at}
 use Rattle.ray_rules.specs.Status.{Status, after}
-use Rattle.ray_hazards.specs.declared.doing.Doing.{Doing}
 use Rattle.ray_hazards.specs.Cells.{is_start}
-use Rattle.ray_hazards.specs.Checks.{AreStarted, HasStarts, IsDoing}
+use Rattle.ray_hazards.specs.Checks.{AreStarted, HasAll, HasStarts, IsPlacedAt}
 use Rattle.ray_hazards.specs.Lasts.{ArePlaced, HaveStarts, host_reads_at}
 
 twice : (a b : Bool) → (a || b) ≡ (a || (a || b))
@@ -107,7 +106,7 @@ wider rec old new i ts kept are = record {
 }
 
 -- those of the command are
-placed-now :
+pub placed-now :
     (rec : List Command) (keys : List ℕ) (n : ℕ) (ts : List Touch) (list : List Touched)
     → AreTouched (status_at rec n) ts list → AreStarted keys list → ArePlaced rec keys n ts
 placed-now rec keys n ts list are started = record {
@@ -118,30 +117,23 @@ placed-now rec keys n ts list are started = record {
 }
 
 -- those of a list stay started in a greater set
-further-started :
+pub further-started :
     (old new : List ℕ) (list : List Touched) → ((p : ℕ) → is_start old p ≡ true → is_start new p ≡ true)
     → AreStarted old list → AreStarted new list
 further-started old new list kept started = λ k d below. kept _ (started k d below)
 
 -- a command more
 pub starts-next :
-    (rec : List Command) (n : ℕ) (doing : Doing) (a b c d : List ℕ) → IsDoing rec n doing
-    → HasStarts doing.touches.reads.items a b → HasStarts doing.touches.writes.items b c
-    → HasStarts doing.host.items c d → HaveStarts rec a n → HaveStarts rec d (suc n)
-starts-next rec n doing a b c d is first second third have =
-    let from-b : (p : ℕ) → is_start b p ≡ true → is_start d p ≡ true = λ p e. third.kept p (second.kept p e) in
-    let all : (p : ℕ) → is_start a p ≡ true → is_start d p ≡ true = λ p e. from-b p (first.kept p e) in
-    record {
-      reads = λ i l.
-          next (λ j. ArePlaced rec d j (accesses_at rec j).reads) i l (λ m. wider rec a d i _ all (have.reads i m))
-          (placed-now rec d n _ _ is.reads (further-started b d _ from-b first.added));
-      writes = λ i l.
-          next (λ j. ArePlaced rec d j (accesses_at rec j).writes) i l (λ m. wider rec a d i _ all (have.writes i m))
-          (placed-now rec d n _ _ is.writes (further-started c d _ third.kept second.added));
-      host_reads = λ i l.
-          next (λ j. ArePlaced rec d j (host_reads_at rec j)) i l (λ m. wider rec a d i _ all (have.host_reads i m))
-          (placed-now rec d n _ _ is.host third.added);
-    }
+    (rec : List Command) (n : ℕ) (old new : List ℕ) → HasAll old new → IsPlacedAt rec new n → HaveStarts rec old n
+    → HaveStarts rec new (suc n)
+starts-next rec n old new all placed have = record {
+  reads = λ i l.
+      next (λ j. ArePlaced rec new j (accesses_at rec j).reads) i l (λ m. wider rec old new i _ all (have.reads i m)) placed.reads;
+  writes = λ i l.
+      next (λ j. ArePlaced rec new j (accesses_at rec j).writes) i l (λ m. wider rec old new i _ all (have.writes i m)) placed.writes;
+  host_reads = λ i l.
+      next (λ j. ArePlaced rec new j (host_reads_at rec j)) i l (λ m. wider rec old new i _ all (have.host_reads i m)) placed.host_reads;
+}
   where
     next : (P : ℕ → Type 0) (i : ℕ) → i < suc n → (i < n → P i) → P n → P i
     next P i l before at =

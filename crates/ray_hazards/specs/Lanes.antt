@@ -14,6 +14,7 @@ use Rattle.ray_hazards.specs.declared.limits.Accessed.{Accessed}
 use Rattle.ray_hazards.specs.declared.limits.PerStage.{PerStage}
 use Rattle.ray_hazards.specs.declared.limits.PerWay.{PerWay}
 use Rattle.ray_hazards.specs.Counting.{Counted, stage_in}
+use Rattle.ray_hazards.specs.Reaching.{ReachSame}
 use Rattle.ray_hazards.specs.Lasts.{IsLast, ReadCell, UncoveredIn, UnorderedIn, WroteCell, reads_at, writes_at}
 
 -- marks of cells are the last writes by commands of a stage with an access, below command number n
@@ -127,7 +128,7 @@ pub record LanesBelow (cells value : ℕ) (lanes : Lanes) : Type 0 where
 -- what is marked once command number n, of a stage where it counts, is done
 abbrev pub MarksNext : ℕ → Option Stage → Touches → List ℕ → Lanes → Lanes → Type 0
 MarksNext n stage touches starts old new =
-    (counted : Counted) → stage_in counted n ≡ stage → touches.reads.items ≡ reads_at counted.commands n
+    (counted : Counted) → stage_in counted n ≡ stage → ReachSame starts (reads_at counted.commands n) touches.reads.items
     → touches.writes.items ≡ writes_at counted.commands n → AreLanes counted starts n old
     → AreLanes counted starts (suc n) new
 

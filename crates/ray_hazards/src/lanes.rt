@@ -1,4 +1,4 @@
-ghost use Rattle.std.specs.Prelude.{◌≡◌, ◌≤◌, ◌^◌, ℕ, List, IfOk, length};
+ghost use Rattle.std.specs.Prelude.{◌≡◌, ◌≤◌, ◌^◌, ℕ, List, length};
 ghost use Rattle.ray_rules.specs.declared.stage.Stage.{Stage as AStage};
 ghost use Rattle.ray_hazards.specs.declared.limits.Accessed.{Accessed as AnAccessed};
 ghost use Rattle.ray_hazards.specs.Counting.{Counted};
@@ -9,7 +9,6 @@ ghost use Rattle.ray_hazards.specs.Lasts.{IsLast};
 use crate::lane::greater;
 use crate::limits::{PerStage, PerWay};
 use ray_marks::Marks;
-use std::alloc::{AllocError as NoMemory, Global};
 
 /// What is kept of the commands that count: for each way of writing and each cell one more than the
 /// last command that wrote it so, and for each stage and each cell one more than the last command
@@ -29,27 +28,24 @@ pub struct Lanes {
 }
 
 impl Lanes {
-    /// No command that counts has read or written.
-    ///
-    /// # Errors
-    ///
-    /// For want of memory alone.
-    pub fn new(alloc: Global, cells: usize) -> Result<Lanes, NoMemory>
+    /// No command that counts has read or written. Memory is taken by what is marked: for each way
+    /// of writing and each stage of reading when a command first does so.
+    pub fn new(cells: usize) -> Lanes
         requires { cells ≤ 2 ^ 32 }
-        ensures { IfOk result (λ lanes. (counted : Counted) (starts : List ℕ) (n : ℕ)
-            → length starts ≡ cells → NoneCounts counted n → AreLanes counted starts n lanes) }
+        ensures { (counted : Counted) (starts : List ℕ) (n : ℕ) → length starts ≡ cells
+            → NoneCounts counted n → AreLanes counted starts n result }
     {
-        let transfers = Marks::new(alloc, cells)?;
-        let builds = Marks::new(alloc, cells)?;
-        let properties = Marks::new(alloc, cells)?;
-        let copies = Marks::new(alloc, cells)?;
-        let serialized = Marks::new(alloc, cells)?;
-        let traces = Marks::new(alloc, cells)?;
-        let transfer_reads = Marks::new(alloc, cells)?;
-        let build_reads = Marks::new(alloc, cells)?;
-        let copy_reads = Marks::new(alloc, cells)?;
-        let trace_reads = Marks::new(alloc, cells)?;
-        Ok(Lanes {
+        let transfers = Marks::new(cells);
+        let builds = Marks::new(cells);
+        let properties = Marks::new(cells);
+        let copies = Marks::new(cells);
+        let serialized = Marks::new(cells);
+        let traces = Marks::new(cells);
+        let transfer_reads = Marks::new(cells);
+        let build_reads = Marks::new(cells);
+        let copy_reads = Marks::new(cells);
+        let trace_reads = Marks::new(cells);
+        Lanes {
             transfers,
             builds,
             properties,
@@ -60,7 +56,7 @@ impl Lanes {
             build_reads,
             copy_reads,
             trace_reads,
-        })
+        }
     }
 
     /// One more than the last command that counts and wrote in cells from `start` on and below

@@ -3,12 +3,14 @@
 //!
 //! [`Marks`] is the one type. Contracts see it as the list of the cells' marks. The layer above
 //! uses the clauses of [`Marks::mark`] and [`Marks::greatest_above`]: `is_marked` and `IsGreatest`,
-//! which go over that list. Each takes a number of steps that is logarithmic in the number of cells, and
-//! the second goes nowhere where no mark is above the limit.
+//! which go over that list. Each takes a number of steps that is logarithmic in the number of
+//! cells, and the second goes nowhere where no mark is above the limit. Memory is taken by the first
+//! mark alone: cells without one cost none.
 //!
 //! It stands on std alone.
 #![tactic(auto)]
 
+mod mark_tree;
 mod marks;
 mod node;
 

@@ -1,57 +1,38 @@
-ghost use Rattle.std.specs.Prelude.{◌≡◌, ◌≤◌, ◌^◌, ℕ, IfOk, length, replicate};
+ghost use Rattle.std.specs.Prelude.{◌≡◌, ◌≤◌, ◌^◌, ℕ, IfOk, OnOk, length};
 ghost use Rattle.ray_marks.specs.Rising.{IsGreatest, is_marked, mark_of};
-ghost use Rattle.ray_marks.specs.Tree.{IsOver, cells_of, size_of, marks_of, no_mark};
+ghost use Rattle.ray_marks.specs.Making.{IsMade, marks_in};
 
-use crate::node::{Node, greatest_above, mark};
+use crate::mark_tree::MarkTree;
 use std::alloc::{AllocError as NoMemory, Global};
 use std::marker::Model;
 
-/// So many cells, each with a mark that only rises. Contracts see it as the list of the
-/// cells' marks.
+/// So many cells, each with a mark that only rises. Contracts see it as the list of the cells'
+/// marks. Memory is taken by the first mark.
 #[derive(Drop)]
 pub struct Marks {
-    nodes: Vec<Node>,
-    height: usize,
+    tree: Option<MarkTree>,
     cells: usize,
 }
 
 impl Model for Marks {
     ghost use Rattle.std.specs.Prelude.{List, ℕ};
-    ghost use Rattle.ray_marks.specs.Tree.{IsOver, marks_of};
+    ghost use Rattle.ray_marks.specs.Making.{IsMade, marks_in};
 
     ghost Value = { List ℕ };
 
-    ghost view = { λ m. marks_of m.height m.cells m.nodes.items };
+    ghost view = { λ m. marks_in m.cells m.tree };
 
-    ghost invariant = { λ m. IsOver m.height m.cells m.nodes.items };
+    ghost invariant = { λ m. IsMade m.cells m.tree };
 }
 
 impl Marks {
-    /// So many cells, each with the mark 0.
-    ///
-    /// # Errors
-    ///
-    /// For want of memory alone.
-    pub fn new(alloc: Global, cells: usize) -> Result<Marks, NoMemory>
+    /// So many cells, each with the mark 0. It takes no memory.
+    pub fn new(cells: usize) -> Marks
         requires { cells ≤ 2 ^ 32 }
-        ensures cells { IfOk result (λ marks. length marks ≡ cells) }
-        ensures marks { IfOk result (λ marks. (c : ℕ) → mark_of marks c ≡ 0) }
+        ensures cells { length result ≡ cells }
+        ensures marks { (c : ℕ) → mark_of result c ≡ 0 }
     {
-        let (height, many) = shape_over(cells);
-        let nodes = blank(alloc, many)?;
-        Ok(Marks::over(nodes, height, cells))
-    }
-
-    // The marks that these nodes have.
-    fn over(nodes: Vec<Node>, height: usize, cells: usize) -> Marks
-        requires { IsOver height cells nodes.items }
-        ensures { result ≡ marks_of height cells nodes.items }
-    {
-        Marks {
-            nodes,
-            height,
-            cells,
-        }
+        Marks { tree: None, cells }
     }
 
     /// How many cells there are.
@@ -62,13 +43,32 @@ impl Marks {
     }
 
     /// Gives the cells from `start` on and below `end` a mark that is at least all marks so far.
-    pub fn mark(&mut self, start: usize, end: usize, value: u32)
+    /// Memory is taken where there was no mark, and for as many cells as there are.
+    ///
+    /// # Errors
+    ///
+    /// For want of memory alone.
+    pub fn mark(
+        &mut self,
+        alloc: Global,
+        start: usize,
+        end: usize,
+        value: u32,
+    ) -> Result<(), NoMemory>
         requires inside { end ≤ length self.old }
         requires rising { (c : ℕ) → mark_of self.old c ≤ value }
         ensures cells { length self.new ≡ length self.old }
-        ensures marks { (c : ℕ) → mark_of self.new c ≡ is_marked start end value (mark_of self.old c) c }
+        ensures marks { OnOk result ((c : ℕ) → mark_of self.new c
+            ≡ is_marked start end value (mark_of self.old c) c) }
     {
-        mark(self.nodes.as_mut_slice(), self.height, start, end, value);
+        if end <= start {
+            return Ok(());
+        }
+        let marked = self.tree.take();
+        let mut tree = made(marked, alloc, self.cells)?;
+        tree.mark(start, end, value);
+        self.tree = Some(tree);
+        Ok(())
     }
 
     /// The greatest mark above `limit` of the cells from `start` on and below `end`: 0 where there
@@ -77,28 +77,22 @@ impl Marks {
         requires { end ≤ length self.now }
         ensures { IsGreatest self.now limit start end result }
     {
-        greatest_above(self.nodes.as_slice(), self.height, limit, start, end)
+        match &self.tree {
+            Some(tree) => tree.greatest_above(limit, start, end),
+            None => 0,
+        }
     }
 }
 
-// So many nodes without marks.
-fn blank(alloc: Global, many: usize) -> Result<Vec<Node>, NoMemory>
-    ensures { IfOk result (λ nodes. nodes.items ≡ replicate many no_mark) }
+// A tree over so many cells, made where there is none.
+fn made(tree: Option<MarkTree>, alloc: Global, cells: usize) -> Result<MarkTree, NoMemory>
+    requires { IsMade cells tree }
+    ensures cells { IfOk result (λ made. length made ≡ cells) }
+    ensures marks { IfOk result (λ made.
+        (c : ℕ) → mark_of made c ≡ mark_of (marks_in cells tree) c) }
 {
-    vec![in alloc; Node { whole: 0, part: 0 }; many]
-}
-
-// The least height of a tree that has at least so many cells, and how many nodes it has.
-fn shape_over(cells: usize) -> (usize, usize)
-    requires { cells ≤ 2 ^ 32 }
-    ensures over { cells ≤ cells_of result.0 }
-    ensures nodes { result.1 ≡ size_of result.0 }
-{
-    let mut height = 0;
-    let mut many: usize = 1;
-    while many < cells {
-        many *= 2;
-        height += 1;
+    match tree {
+        Some(tree) => Ok(tree),
+        None => MarkTree::new(alloc, cells),
     }
-    (height, 2 * many - 1)
 }

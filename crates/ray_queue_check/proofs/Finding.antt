@@ -10,9 +10,12 @@ use Rattle.ray_access.specs.Lists.{AreTouched}
 use Rattle.ray_cmd.specs.declared.command.Command.{Command}
 use Rattle.ray_cmd.specs.declared.place.Place.TheVariants.{Earlier}
 use Rattle.ray_hazards.specs.declared.doing.Doing.{Doing}
+use Rattle.ray_hazards.specs.declared.tops.Tops.{Tops}
 use Rattle.ray_hazards.specs.Checks.{IsDoing}
 use Rattle.ray_hazards.specs.Lasts.{AnyOf, ArePlaced, HaveStarts, IsLast, last_number}
-use Rattle.ray_hazards.proofs.Checking.{odds-last}
+use Rattle.ray_hazards.specs.Reaching.{AreReached, AreTops}
+use Rattle.ray_hazards.proofs.Checking.{odds-last, odds-reached}
+use Rattle.ray_hazards.proofs.Local.{IsLocal, local-either, local-uncovered}
 use Rattle.ray_hazards.proofs.Odds.{IsPlaced, uncovered-from, uncovered-to, unordered-from, unordered-to}
 use Rattle.ray_queues.specs.QueueOrder.{queue_order}
 use Rattle.ray_queues.proofs.Named.{queue-below}
@@ -111,15 +114,24 @@ written-from law q starts n i to t have one others odd =
         → option_map_or (wrote_at q n to t i) (if queue_of q i == from then stage_at q.commands i else None) false ≡ true
     own from e = if-own (wrote_at q n to t i) (queue_of q i == from) (stage_at q.commands i) e odd
 
+-- of some queue it is so because of a cell
+local-written :
+    (q : QueueCommands) (starts : List ℕ) (n : ℕ) (to : Stage) (i : ℕ)
+    → IsLocal starts (λ t. MeetsWritten q starts n to t i)
+local-written q starts n to i =
+    local-either starts _ _
+    (local-either starts _ _ (local-uncovered (from_queue q 0) starts n to i) (local-uncovered (from_queue q 1) starts n to i))
+    (local-either starts _ _ (local-uncovered (from_queue q 2) starts n to i) (local-uncovered (from_queue q 3) starts n to i))
+
 pub written-last :
     (law : SharingIsMeeting) (q : QueueCommands) (starts : List ℕ) (n : ℕ) (to : Stage) (ts : List Touch)
-    (touches : List Touched) (r : ℕ) → HaveQueues q.submits → AreTouched (status_at q.commands n) ts touches
+    (touches : List Touched) (r : ℕ) → HaveQueues q.submits → AreReached (status_at q.commands n) starts ts touches
     → ArePlaced q.commands starts n ts → HaveStarts q.commands starts n
     → IsLast (λ i. AnyOf (λ t. MeetsWritten q starts n to t i) touches) n r
     → option_map Earlier (last_number r) ≡ greatest_with (wrote_uncovered (queue_order q) q.commands n to) ts n
 written-last law q starts n to ts touches r queues are placed have last =
-    odds-last q.commands starts n ts touches (MeetsWritten q starts n to) (wrote_uncovered (queue_order q) q.commands n to) r
-    are placed (λ t i l one p. written-to law q starts n i to t one (have.writes i l) p)
+    odds-reached q.commands starts n ts touches (MeetsWritten q starts n to) (wrote_uncovered (queue_order q) q.commands n to) r
+    are placed (local-written q starts n to) (λ t i l one p. written-to law q starts n i to t one (have.writes i l) p)
     (λ t i l one e. written-from law q starts n i to t queues one (have.writes i l) e) last
 
 -- ---- reads
@@ -202,8 +214,16 @@ moved-read q starts n to first end a b r last e f =
 
 -- what a command does, told of the same commands
 pub doing-here :
-    (cs ds : List Command) (n : ℕ) (doing : Doing) (c : Command) (z : Status) → ds ≡ cs
-    → ((m : ℕ) → slice_get ds m ≡ Some c → z ≡ status_at ds m → IsDoing ds m doing) → slice_get cs n ≡ Some c
-    → z ≡ status_at cs n → IsDoing cs n doing
-doing-here cs ds n doing c z e is there at =
-    subst (λ xs. (m : ℕ) → slice_get xs m ≡ Some c → z ≡ status_at xs m → IsDoing xs m doing) e is n there at
+    (cs ds : List Command) (starts : List ℕ) (n : ℕ) (doing : Doing) (c : Command) (z : Status) (tops : Tops) → ds ≡ cs
+    → ((m : ℕ) → slice_get ds m ≡ Some c → z ≡ status_at ds m → AreTops ds starts z tops → IsDoing ds starts m doing)
+    → slice_get cs n ≡ Some c → z ≡ status_at cs n → AreTops cs starts z tops → IsDoing cs starts n doing
+doing-here cs ds starts n doing c z tops e is there at are =
+    subst (λ xs. (m : ℕ) → slice_get xs m ≡ Some c → z ≡ status_at xs m → AreTops xs starts z tops → IsDoing xs starts m doing) e
+    is n there at are
+
+-- and what is kept of tops
+pub tops-here :
+    (cs ds : List Command) (starts : List ℕ) (z : Status) (old new : Tops) → ds ≡ cs
+    → (AreTops ds starts z old → AreTops ds starts z new) → AreTops cs starts z old → AreTops cs starts z new
+tops-here cs ds starts z old new e kept are =
+    subst (λ xs. AreTops xs starts z old → AreTops xs starts z new) e kept are

@@ -3,6 +3,7 @@ ghost use Rattle.std.specs.Option.{option_map_or};
 ghost use Rattle.ray_access.specs.Lists.{AreTouched};
 ghost use Rattle.ray_hazards.specs.Checks.{IsDoing};
 ghost use Rattle.ray_hazards.specs.Lasts.{ArePlaced, HaveStarts};
+ghost use Rattle.ray_hazards.specs.Reaching.{AreReached};
 ghost use Rattle.ray_queues.specs.QueueOrder.{queue_order};
 ghost use Rattle.ray_queues.specs.Refusals.{first_queue_refusal};
 ghost use Rattle.ray_rules.specs.declared.touch.Touch.{Touch as ATouch};
@@ -18,7 +19,7 @@ use crate::kept::Kept;
 use crate::sooner::sooner;
 use ray_access::{Touched, sharing_is_meeting};
 use ray_cmd::{Place, Refusal};
-use ray_hazards::{Cells, Doing, doing_of, earlier, least, starts_of};
+use ray_hazards::{Cells, Doing, Tops, doing_of, earlier, least, starts_of};
 use ray_queues::{QueueOrder, QueueRecording, check_semaphores};
 use ray_rules::Stage;
 use ray_status::Status;
@@ -75,15 +76,17 @@ fn checked(
 {
     rec.queues_law();
     let mut kept = Kept::new(alloc);
+    let mut tops = Tops::none(alloc);
     let mut status = Status::new(alloc);
     for n in 0..until {
         let command = rec.recording().command(n);
         let queue = rec.queue_of(n);
-        let doing = doing_of(alloc, rec.recording(), &status, command)?;
+        let doing = doing_of(alloc, rec.recording(), &status, command, &mut tops, cells)?;
         if let Some(refusal) = hazard_of(n, queue, &doing, &kept, cells) {
             return Ok(Some(refusal));
         }
         kept.pass(alloc, rec, n, &doing, &status, cells)?;
+        tops.pass(alloc, command);
         status.step(n, command)?;
     }
     Ok(None)
@@ -93,7 +96,7 @@ fn checked(
 fn hazard_of(n: u32, queue: u32, doing: &Doing, kept: &Kept, cells: &Cells) -> Option<Refusal>
     requires { AllRoomy (length cells.now) kept.now.lanes }
     ensures { (q : QueueCommands) → IsOf q n queue → IsKept q cells.now n kept.now
-        → IsDoing q.commands n doing.now → HaveStarts q.commands cells.now (suc n)
+        → IsDoing q.commands cells.now n doing.now → HaveStarts q.commands cells.now (suc n)
         → result ≡ hazard_of (queue_order q) q.commands n }
 {
     let read = v25(queue, doing, kept, cells);
@@ -107,7 +110,7 @@ fn hazard_of(n: u32, queue: u32, doing: &Doing, kept: &Kept, cells: &Cells) -> O
 fn v25(queue: u32, doing: &Doing, kept: &Kept, cells: &Cells) -> Option<Place>
     requires { AllRoomy (length cells.now) kept.now.lanes }
     ensures { (q : QueueCommands) (n : ℕ) → IsOf q n queue → IsKept q cells.now n kept.now
-        → IsDoing q.commands n doing.now → HaveStarts q.commands cells.now (suc n)
+        → IsDoing q.commands cells.now n doing.now → HaveStarts q.commands cells.now (suc n)
         → result ≡ v25 (queue_order q) q.commands n }
 {
     uncovered_at(
@@ -123,7 +126,7 @@ fn v25(queue: u32, doing: &Doing, kept: &Kept, cells: &Cells) -> Option<Place>
 fn v26(queue: u32, doing: &Doing, kept: &Kept, cells: &Cells) -> Option<Place>
     requires { AllRoomy (length cells.now) kept.now.lanes }
     ensures { (q : QueueCommands) (n : ℕ) → IsOf q n queue → IsKept q cells.now n kept.now
-        → IsDoing q.commands n doing.now → HaveStarts q.commands cells.now (suc n)
+        → IsDoing q.commands cells.now n doing.now → HaveStarts q.commands cells.now (suc n)
         → result ≡ v26 (queue_order q) q.commands n }
 {
     uncovered_at(
@@ -139,7 +142,7 @@ fn v26(queue: u32, doing: &Doing, kept: &Kept, cells: &Cells) -> Option<Place>
 fn v27(queue: u32, doing: &Doing, kept: &Kept, cells: &Cells) -> Option<Place>
     requires { AllRoomy (length cells.now) kept.now.lanes }
     ensures { (q : QueueCommands) (n : ℕ) → IsOf q n queue → IsKept q cells.now n kept.now
-        → IsDoing q.commands n doing.now → HaveStarts q.commands cells.now (suc n)
+        → IsDoing q.commands cells.now n doing.now → HaveStarts q.commands cells.now (suc n)
         → result ≡ v27 (queue_order q) q.commands n }
 {
     unordered_at(
@@ -155,7 +158,7 @@ fn v27(queue: u32, doing: &Doing, kept: &Kept, cells: &Cells) -> Option<Place>
 fn v32(queue: u32, doing: &Doing, kept: &Kept, cells: &Cells) -> Option<Place>
     requires { AllRoomy (length cells.now) kept.now.lanes }
     ensures { (q : QueueCommands) (n : ℕ) → IsOf q n queue → IsKept q cells.now n kept.now
-        → IsDoing q.commands n doing.now → HaveStarts q.commands cells.now (suc n)
+        → IsDoing q.commands cells.now n doing.now → HaveStarts q.commands cells.now (suc n)
         → result ≡ v32 (queue_order q) q.commands n }
 {
     uncovered(queue, Stage::Host, doing.host.as_slice(), kept, cells)
@@ -171,7 +174,7 @@ fn uncovered_at(
 ) -> Option<Place>
     requires { AllRoomy (length cells.now) kept.now.lanes }
     ensures { (q : QueueCommands) (n : ℕ) (ts : List ATouch) → IsOf q n queue
-        → IsKept q cells.now n kept.now → AreTouched (status_at q.commands n) ts touches.now
+        → IsKept q cells.now n kept.now → AreReached (status_at q.commands n) cells.now ts touches.now
         → ArePlaced q.commands cells.now n ts
         → HaveStarts q.commands cells.now n
         → result ≡ option_map_or
@@ -193,7 +196,7 @@ fn uncovered(
 ) -> Option<Place>
     requires { AllRoomy (length cells.now) kept.now.lanes }
     ensures { (q : QueueCommands) (n : ℕ) (ts : List ATouch) → IsOf q n queue
-        → IsKept q cells.now n kept.now → AreTouched (status_at q.commands n) ts touches.now
+        → IsKept q cells.now n kept.now → AreReached (status_at q.commands n) cells.now ts touches.now
         → ArePlaced q.commands cells.now n ts
         → HaveStarts q.commands cells.now n
         → result ≡ greatest_with (wrote_uncovered (queue_order q) q.commands n to) ts n }

@@ -49,7 +49,7 @@ impl Kept {
         requires cells { length cells.now ≤ 2 ^ 32 }
         requires below { AllLow (length cells.now) (n + 1) self.old.lanes }
         ensures { OnOk result (status.now ≡ status_at rec.now.commands n
-            → IsDoing rec.now.commands n doing.now → IsKept rec.now cells.now n self.old
+            → IsDoing rec.now.commands cells.now n doing.now → IsKept rec.now cells.now n self.old
             → IsKept rec.now cells.now (suc n) self.new) }
     {
         rec.queues_law();

@@ -82,7 +82,7 @@ impl QueueLanes {
         requires cells { length cells.now ≤ 2 ^ 32 }
         requires below { AllLow (length cells.now) (n + 1) self.old }
         ensures { OnOk result ((q : QueueCommands) → queue ≡ queue_of q n
-            → IsDoing q.commands n doing.now → AreUsed q cells.now n self.old
+            → IsDoing q.commands cells.now n doing.now → AreUsed q cells.now n self.old
             → AreUsed q cells.now (suc n) self.new) }
     {
         let zero = self.zero.take();
@@ -150,7 +150,7 @@ fn marked(
     requires cells { length cells.now ≤ 2 ^ 32 }
     requires below { AreLow (length cells.now) (n + 1) lanes }
     ensures { IfOk result (λ after. (q : QueueCommands) (from : ℕ) → own ≡ (queue_of q n == from)
-        → IsDoing q.commands n doing.now → IsUsed q from cells.now n lanes
+        → IsDoing q.commands cells.now n doing.now → IsUsed q from cells.now n lanes
         → IsUsed q from cells.now (suc n) after) }
 {
     if own {
@@ -172,13 +172,13 @@ fn marked_own(
     requires cells { length cells.now ≤ 2 ^ 32 }
     requires below { AreLow (length cells.now) (n + 1) lanes }
     ensures { IfOk result (λ after. (q : QueueCommands) (from : ℕ) → (queue_of q n == from) ≡ true
-        → IsDoing q.commands n doing.now → IsUsed q from cells.now n lanes
+        → IsDoing q.commands cells.now n doing.now → IsUsed q from cells.now n lanes
         → IsUsed q from cells.now (suc n) after) }
 {
     match doing.stage {
         Some(stage) => {
-            let mut used = lanes_or_new(lanes, alloc, cells)?;
-            used.mark(n, Some(stage), &doing.touches, cells);
+            let mut used = lanes_or_new(lanes, cells);
+            used.mark(alloc, n, Some(stage), &doing.touches, cells)?;
             Ok(Some(used))
         }
         None => Ok(lanes),
@@ -186,16 +186,16 @@ fn marked_own(
 }
 
 // The lanes of a queue, made where there are none.
-fn lanes_or_new(lanes: Option<Lanes>, alloc: Global, cells: &Cells) -> Result<Lanes, NoMemory>
+fn lanes_or_new(lanes: Option<Lanes>, cells: &Cells) -> Lanes
     requires { length cells.now ≤ 2 ^ 32 }
-    ensures below { IfOk result (λ used. (n : ℕ) → AreLow (length cells.now) (n + 1) lanes
-        → LanesBelow (length cells.now) (n + 1) used) }
-    ensures used { IfOk result (λ used. (q : QueueCommands) (from n : ℕ)
-        → IsUsed q from cells.now n lanes → AreLanes (from_queue q from) cells.now n used) }
+    ensures below { (n : ℕ) → AreLow (length cells.now) (n + 1) lanes
+        → LanesBelow (length cells.now) (n + 1) result }
+    ensures used { (q : QueueCommands) (from n : ℕ) → IsUsed q from cells.now n lanes
+        → AreLanes (from_queue q from) cells.now n result }
 {
     match lanes {
-        Some(lanes) => Ok(lanes),
-        None => Lanes::new(alloc, cells.count()),
+        Some(lanes) => lanes,
+        None => Lanes::new(cells.count()),
     }
 }
 

@@ -13,6 +13,7 @@ ghost use Rattle.ray_sync.specs.Kinds.{AreFronts};
 ghost use Rattle.ray_sync.specs.OneQueue.{in_order, one_queue};
 ghost use Rattle.ray_hazards.specs.Lanes.{AreEnough, AreLanes};
 ghost use Rattle.ray_hazards.specs.Lasts.{ArePlaced, HaveStarts};
+ghost use Rattle.ray_hazards.specs.Reaching.{AreReached};
 
 use crate::fronts::Fronts;
 use crate::hazards::{last_uncovered, last_unordered};
@@ -20,7 +21,7 @@ use crate::order::Order;
 use crate::passing::pass;
 use ray_access::{Touched, sharing_is_meeting};
 use ray_cmd::{Place, Recording, Refusal};
-use ray_hazards::{Cells, Coverage, Doing, Lanes, doing_of, earlier, least, starts_of};
+use ray_hazards::{Cells, Coverage, Doing, Lanes, Tops, doing_of, earlier, least, starts_of};
 use ray_rules::Stage;
 use ray_status::Status;
 use std::alloc::{AllocError as NoMemory, Global};
@@ -69,19 +70,21 @@ fn checked(
     requires starts { HaveStarts rec.now cells.now until }
     ensures { IfOk result (λ hazard. hazard ≡ first_hazard (barriers rec.now) rec.now until) }
 {
-    let mut lanes = Lanes::new(alloc, cells.count())?;
+    let mut lanes = Lanes::new(cells.count());
+    let mut tops = Tops::none(alloc);
     let mut coverage = Coverage::new(alloc);
     let mut fronts = Fronts::none();
     let mut status = Status::new(alloc);
     for n in 0..until {
         let command = rec.command(n);
-        let doing = doing_of(alloc, rec, &status, command)?;
+        let doing = doing_of(alloc, rec, &status, command, &mut tops, cells)?;
         if let Some(refusal) = hazard_of(n, &doing, &lanes, &coverage, fronts, cells) {
             return Ok(Some(refusal));
         }
-        lanes.mark(n, doing.stage, &doing.touches, cells);
+        lanes.mark(alloc, n, doing.stage, &doing.touches, cells)?;
         pass(alloc, &mut coverage, n, command, &status)?;
         fronts = fronts.after(n, command);
+        tops.pass(alloc, command);
         status.step(n, command)?;
     }
     Ok(None)
@@ -99,7 +102,7 @@ fn hazard_of(
     requires { AreEnough (length cells.now) lanes.now }
     ensures { (rec : List ACommand) → AreLanes (in_order rec) cells.now n lanes.now
         → AreCarried (one_queue rec) 0 n coverage.now
-        → AreFronts rec n fronts → IsDoing rec n doing.now → HaveStarts rec cells.now (suc n)
+        → AreFronts rec n fronts → IsDoing rec cells.now n doing.now → HaveStarts rec cells.now (suc n)
         → result ≡ hazard_of (barriers rec) rec n }
 {
     let read = v25(doing, lanes, coverage, cells);
@@ -113,7 +116,7 @@ fn hazard_of(
 fn v25(doing: &Doing, lanes: &Lanes, coverage: &Coverage, cells: &Cells) -> Option<Place>
     requires { AreEnough (length cells.now) lanes.now }
     ensures { (rec : List ACommand) (n : ℕ) → AreLanes (in_order rec) cells.now n lanes.now
-        → AreCarried (one_queue rec) 0 n coverage.now → IsDoing rec n doing.now
+        → AreCarried (one_queue rec) 0 n coverage.now → IsDoing rec cells.now n doing.now
         → HaveStarts rec cells.now (suc n) → result ≡ v25 (barriers rec) rec n }
 {
     let reads = doing.touches.reads.as_slice();
@@ -124,7 +127,7 @@ fn v25(doing: &Doing, lanes: &Lanes, coverage: &Coverage, cells: &Cells) -> Opti
 fn v26(doing: &Doing, lanes: &Lanes, coverage: &Coverage, cells: &Cells) -> Option<Place>
     requires { AreEnough (length cells.now) lanes.now }
     ensures { (rec : List ACommand) (n : ℕ) → AreLanes (in_order rec) cells.now n lanes.now
-        → AreCarried (one_queue rec) 0 n coverage.now → IsDoing rec n doing.now
+        → AreCarried (one_queue rec) 0 n coverage.now → IsDoing rec cells.now n doing.now
         → HaveStarts rec cells.now (suc n) → result ≡ v26 (barriers rec) rec n }
 {
     let writes = doing.touches.writes.as_slice();
@@ -135,7 +138,7 @@ fn v26(doing: &Doing, lanes: &Lanes, coverage: &Coverage, cells: &Cells) -> Opti
 fn v27(n: u32, doing: &Doing, lanes: &Lanes, fronts: Fronts, cells: &Cells) -> Option<Place>
     requires { AreEnough (length cells.now) lanes.now }
     ensures { (rec : List ACommand) → AreLanes (in_order rec) cells.now n lanes.now
-        → AreFronts rec n fronts → IsDoing rec n doing.now → HaveStarts rec cells.now (suc n)
+        → AreFronts rec n fronts → IsDoing rec cells.now n doing.now → HaveStarts rec cells.now (suc n)
         → result ≡ v27 (barriers rec) rec n }
 {
     let writes = doing.touches.writes.as_slice();
@@ -146,7 +149,7 @@ fn v27(n: u32, doing: &Doing, lanes: &Lanes, fronts: Fronts, cells: &Cells) -> O
 fn v32(doing: &Doing, lanes: &Lanes, coverage: &Coverage, cells: &Cells) -> Option<Place>
     requires { AreEnough (length cells.now) lanes.now }
     ensures { (rec : List ACommand) (n : ℕ) → AreLanes (in_order rec) cells.now n lanes.now
-        → AreCarried (one_queue rec) 0 n coverage.now → IsDoing rec n doing.now
+        → AreCarried (one_queue rec) 0 n coverage.now → IsDoing rec cells.now n doing.now
         → HaveStarts rec cells.now (suc n) → result ≡ v32 (barriers rec) rec n }
 {
     uncovered(Stage::Host, doing.host.as_slice(), lanes, coverage, cells)
@@ -163,7 +166,7 @@ fn uncovered_at(
     requires { AreEnough (length cells.now) lanes.now }
     ensures { (rec : List ACommand) (n : ℕ) (ts : List ATouch)
         → AreLanes (in_order rec) cells.now n lanes.now
-        → AreCarried (one_queue rec) 0 n coverage.now → AreTouched (status_at rec n) ts touches.now
+        → AreCarried (one_queue rec) 0 n coverage.now → AreReached (status_at rec n) cells.now ts touches.now
         → ArePlaced rec cells.now n ts
         → HaveStarts rec cells.now n
         → result ≡ option_map_or
@@ -186,7 +189,7 @@ fn uncovered(
     requires { AreEnough (length cells.now) lanes.now }
     ensures { (rec : List ACommand) (n : ℕ) (ts : List ATouch)
         → AreLanes (in_order rec) cells.now n lanes.now
-        → AreCarried (one_queue rec) 0 n coverage.now → AreTouched (status_at rec n) ts touches.now
+        → AreCarried (one_queue rec) 0 n coverage.now → AreReached (status_at rec n) cells.now ts touches.now
         → ArePlaced rec cells.now n ts
         → HaveStarts rec cells.now n → result
         ≡ greatest_with (wrote_uncovered (barriers rec) rec n to) ts n }

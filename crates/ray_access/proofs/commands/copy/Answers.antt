@@ -1,7 +1,7 @@
 use Rattle.std.proofs.Common.{arith}
 use Rattle.std.proofs.lemmas.Bool.Decides.{nat_tests}
 use Rattle.ray_rules.specs.Access.{region_accesses}
-use Rattle.ray_access.proofs.Joining.{adds_next, parts_done}
+use Rattle.ray_access.proofs.Joining.{parts_done}
 use Rattle.ray_access.proofs.commands.copy.Goals as goal
 
 pub returns : goal.returns

@@ -1,6 +1,7 @@
 use Rattle.std.proofs.Common.{arith, subst, sym}
 use Rattle.ray_access.specs.Lists.{AreTouched}
 use Rattle.ray_hazards.proofs.Checking.{v26-is}
+use Rattle.ray_hazards.proofs.Reaching.{reach-touched}
 use Rattle.ray_hazards.proofs.Starting.{starts-fewer}
 use Rattle.ray_queues.specs.QueueOrder.{queue_order}
 use Rattle.ray_rules.specs.Hazards.{accesses_at, status_at}
@@ -9,6 +10,9 @@ use Rattle.ray_queue_check.proofs.check.v26.Goals as goal
 pub returns : goal.returns
 returns c = λ q n of kept is have.
     let rec = q.commands in
-    let are = subst (AreTouched (status_at rec n) (accesses_at rec n).writes) (sym c.as_slice.ensures.value) is.writes in
+    let are =
+    reach-touched (status_at rec n) c.args.cells.now (accesses_at rec n).writes _
+    (subst (AreTouched (status_at rec n) (accesses_at rec n).writes) (sym c.as_slice.ensures.value) is.writes)
+    in
     v26-is (queue_order q) rec n c.args.doing.now.stage c.uncovered_at.result is.at
     (c.uncovered_at.ensures q n _ of kept are (have.writes n (omega arith)) (starts-fewer rec c.args.cells.now n have))

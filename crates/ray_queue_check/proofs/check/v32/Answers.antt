@@ -2,6 +2,7 @@ use Rattle.std.proofs.Common.{arith, subst, sym}
 use Rattle.ray_access.specs.Lists.{AreTouched}
 use Rattle.ray_hazards.specs.Lasts.{host_reads_at}
 use Rattle.ray_hazards.proofs.Checking.{v32-is}
+use Rattle.ray_hazards.proofs.Reaching.{reach-touched}
 use Rattle.ray_hazards.proofs.Starting.{starts-fewer}
 use Rattle.ray_queues.specs.QueueOrder.{queue_order}
 use Rattle.ray_rules.specs.Hazards.{status_at}
@@ -10,6 +11,9 @@ use Rattle.ray_queue_check.proofs.check.v32.Goals as goal
 pub returns : goal.returns
 returns c = λ q n of kept is have.
     let rec = q.commands in
-    let are = subst (AreTouched (status_at rec n) (host_reads_at rec n)) (sym c.as_slice.ensures.value) is.host in
+    let are =
+    reach-touched (status_at rec n) c.args.cells.now (host_reads_at rec n) _
+    (subst (AreTouched (status_at rec n) (host_reads_at rec n)) (sym c.as_slice.ensures.value) is.host)
+    in
     v32-is (queue_order q) rec n c.uncovered.result
     (c.uncovered.ensures q n _ of kept are (have.host_reads n (omega arith)) (starts-fewer rec c.args.cells.now n have))

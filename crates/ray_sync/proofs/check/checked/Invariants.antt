@@ -7,6 +7,7 @@ use Rattle.ray_hazards.specs.Carrying.{AreCarried}
 use Rattle.ray_sync.specs.Kinds.{AreFronts}
 use Rattle.ray_sync.specs.OneQueue.{in_order, one_queue}
 use Rattle.ray_hazards.specs.Lanes.{AreLanes}
+use Rattle.ray_hazards.specs.Reaching.{AreTops}
 use Rattle.ray_sync.proofs.check.checked.Given as goal
 
 abbrev pub invariant-loop-n : goal.invariant-loop-n
@@ -15,5 +16,6 @@ invariant-loop-n l = record {
   lanes : AreLanes (in_order l.rec) l.cells l.n l.lanes;
   coverage : AreCarried (one_queue l.rec) 0 l.n l.coverage;
   fronts : AreFronts l.rec l.n l.fronts;
+  tops : AreTops l.rec l.cells l.status l.tops;
   none : first_hazard (barriers l.rec) l.rec l.n ≡ None;
 }

@@ -1,8 +1,9 @@
-use Rattle.std.proofs.Common.{◌≡◌, ◌∙◌, ◌+◌, suc, refl, ap, arith}
+use Rattle.std.proofs.Common.{◌≡◌, ◌∙◌, ◌+◌, suc, refl, sym, ap, subst, arith}
 use Rattle.ray_marks.specs.Rising.{mark_of}
 use Rattle.ray_rules.specs.declared.access_type.AccessType.TheVariants.{StructureWrite, TransferWrite, ShaderWrite}
 use Rattle.ray_rules.specs.declared.stage.Stage.TheVariants.{Build, Compute, StructureCopy, Transfer}
-use Rattle.ray_hazards.specs.Lasts.{has_it, is_by, marked_if}
+use Rattle.ray_hazards.specs.Lasts.{has_it, is_by, marked_if, reads_at}
+use Rattle.ray_hazards.specs.Reaching.{ReachSame}
 use Rattle.ray_hazards.proofs.Laning.{reads-more, reads-same, stages-differ, writes-more, writes-same}
 use Rattle.ray_hazards.proofs.lanes.Lanes.mark_transfer.Goals as goal
 
@@ -14,8 +15,8 @@ returns c = λ counted by reads writes are.
     record {
       transfers =
           writes-more counted starts Transfer TransferWrite n c.as_slice-writes.result.now c.args.self.now.transfers c.mark_writes.new.marks by
-          (c.as_slice-writes.ensures.value ∙ writes) c.mark_writes.ensures.cells
-          (λ k. c.mark_writes.ensures.marks k
+          (c.as_slice-writes.ensures.value ∙ writes) c.in_ok-mark_writes.ensures.cells
+          (λ k. c.in_ok-mark_writes.ensures.marks k
           ∙ ap (λ v. marked_if (is_by starts TransferWrite) c.as_slice-writes.result.now v (mark_of c.args.self.now.transfers k) k) more)
           are.transfers;
       builds = writes-same counted starts Build StructureWrite n _ (λ e. stages-differ Transfer Build refl refl by e) are.builds;
@@ -24,10 +25,10 @@ returns c = λ counted by reads writes are.
       serialized = writes-same counted starts StructureCopy TransferWrite n _ (λ e. stages-differ Transfer StructureCopy refl refl by e) are.serialized;
       traces = writes-same counted starts Compute ShaderWrite n _ (λ e. stages-differ Transfer Compute refl refl by e) are.traces;
       transfer_reads =
-          reads-more counted starts Transfer n c.as_slice.result.now c.args.self.now.transfer_reads c.mark_reads.new.marks by
-          (c.as_slice.ensures.value ∙ reads) c.mark_reads.ensures.cells
-          (λ k. c.mark_reads.ensures.marks k
-          ∙ ap (λ v. marked_if (has_it starts) c.as_slice.result.now v (mark_of c.args.self.now.transfer_reads k) k) more)
+          reads-more counted starts Transfer n c.as_slice-reads.result.now c.args.self.now.transfer_reads c.mark_reads.new.marks by
+          (subst (ReachSame starts (reads_at counted.commands n)) (sym c.as_slice-reads.ensures.value) reads) c.in_ok-mark_reads.ensures.cells
+          (λ k. c.in_ok-mark_reads.ensures.marks k
+          ∙ ap (λ v. marked_if (has_it starts) c.as_slice-reads.result.now v (mark_of c.args.self.now.transfer_reads k) k) more)
           are.transfer_reads;
       build_reads = reads-same counted starts Build n _ (λ e. stages-differ Transfer Build refl refl by e) are.build_reads;
       copy_reads = reads-same counted starts StructureCopy n _ (λ e. stages-differ Transfer StructureCopy refl refl by e) are.copy_reads;

@@ -1,6 +1,6 @@
 use Rattle.std.proofs.Common.{◌-◌, ◌≡◌, ◌≤◌, ◌<◌, ◌^◌, ◌*◌}
 use Rattle.ray_marks.specs.Tree.{cells_of}
-use Rattle.ray_marks.proofs.marks.shape_over.Given as goal
+use Rattle.ray_marks.proofs.mark_tree.shape_over.Given as goal
 
 abbrev pub invariant-loop-many : goal.invariant-loop-many
 invariant-loop-many l = record {

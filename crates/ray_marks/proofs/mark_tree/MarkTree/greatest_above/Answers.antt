@@ -2,7 +2,7 @@ use Rattle.std.proofs.Common.{length, sym, ◌∙◌, ap, subst, arith}
 use Rattle.ray_marks.specs.Rising.{IsGreatest}
 use Rattle.ray_marks.specs.Tree.{IsGreatestOf}
 use Rattle.ray_marks.proofs.Lists.{length-marks_of, over-greatest}
-use Rattle.ray_marks.proofs.marks.Marks.greatest_above.Goals as goal
+use Rattle.ray_marks.proofs.mark_tree.MarkTree.greatest_above.Goals as goal
 
 pub returns : goal.returns
 returns c =

@@ -3,7 +3,7 @@ use Rattle.ray_marks.specs.declared.node.Node.{Node}
 use Rattle.ray_marks.specs.Rising.{mark_of, is_marked}
 use Rattle.ray_marks.specs.Tree.{IsMarked, IsOver, marks_of, root}
 use Rattle.ray_marks.proofs.Lists.{length-marks_of, over-rising, over-marked, whole-slice, IsMarkedOver}
-use Rattle.ray_marks.proofs.marks.Marks.mark.Goals as goal
+use Rattle.ray_marks.proofs.mark_tree.MarkTree.mark.Goals as goal
 
 pub mark-requires-clause-rising : goal.mark-requires-clause-rising
 mark-requires-clause-rising c =

@@ -2,7 +2,7 @@ use Rattle.std.proofs.Common.{length, replicate, sym, ◌∙◌, ap, subst}
 use Rattle.ray_marks.specs.Rising.{mark_of}
 use Rattle.ray_marks.specs.Tree.{IsOver, marks_of, no_mark}
 use Rattle.ray_marks.proofs.Lists.{length-marks_of, over-none, mark_of-none_at}
-use Rattle.ray_marks.proofs.marks.Marks.new.Goals as goal
+use Rattle.ray_marks.proofs.mark_tree.MarkTree.new.Goals as goal
 
 pub over-requires : goal.over-requires
 over-requires c =
