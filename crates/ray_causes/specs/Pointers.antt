@@ -29,6 +29,10 @@ name_of names.TransformOffset = codes "transform_offset"
 name_of names.Uses = codes "uses"
 name_of names.Structures = codes "structures"
 name_of names.Buffers = codes "buffers"
+name_of names.Op = codes "op"
+name_of names.Flags = codes "flags"
+name_of names.SrcAccess = codes "src_access"
+name_of names.DstAccess = codes "dst_access"
 
 -- a member of command number i
 abbrev pub member_text : ℕ → Member → List ℕ

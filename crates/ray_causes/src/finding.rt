@@ -27,6 +27,28 @@ pub fn cause_of(alloc: Global, rec: &Recording, refusal: Refusal) -> Result<Opti
     Ok(cause_there(rec, &status, refusal))
 }
 
+/// What stands where the command of the refusal of a recording does, where it is one of its commands
+/// and not its end. Own.
+///
+/// # Errors
+///
+/// For want of memory alone.
+pub fn status_there(
+    alloc: Global,
+    rec: &Recording,
+    refusal: Refusal,
+) -> Result<Option<Status>, NoMemory>
+    requires refused { rule_refusal (barriers rec.now) rec.now ≡ Some refusal }
+    ensures { IfOk result (λ found. IfSome found (λ status. status
+        ≡ status_at rec.now refusal.command)) }
+{
+    if rec.len() <= refusal.command {
+        return Ok(None);
+    }
+    let status = status_before(alloc, rec, refusal.command)?;
+    Ok(Some(status))
+}
+
 // The same where this status stands before the command.
 fn cause_there(rec: &Recording, status: &Status, refusal: Refusal) -> Option<Cause>
     requires there { refusal.command < length rec.now }

@@ -45,6 +45,14 @@ pub enum Name {
     Structures,
     /// `buffers`.
     Buffers,
+    /// `op`.
+    Op,
+    /// `flags`.
+    Flags,
+    /// `src_access`.
+    SrcAccess,
+    /// `dst_access`.
+    DstAccess,
 }
 
 /// A member of a command, by the way to it. Numbers count from 0. Own.

@@ -154,9 +154,9 @@ fn info_buffer(command: &Command, info: u32, name: Name) -> Option<u32>
     }
 }
 
-// The id of the structure that a member names.
+/// The id of the structure that a member names. Own.
 #[tactic(auto, unfolding(crate::specs::Names::structure_named))]
-pub(crate) fn structure_named(command: &Command, member: Member) -> Option<u32>
+pub fn structure_named(command: &Command, member: Member) -> Option<u32>
     ensures { result ≡ structure_named command.now member }
 {
     match member {

@@ -67,5 +67,9 @@ fn name_of(name: Name) -> &'static str
         Name::Uses => "uses",
         Name::Structures => "structures",
         Name::Buffers => "buffers",
+        Name::Op => "op",
+        Name::Flags => "flags",
+        Name::SrcAccess => "src_access",
+        Name::DstAccess => "dst_access",
     }
 }

@@ -148,8 +148,8 @@ fn input_at(name: Name, geometry: &Geometry) -> Option<ByteRange>
     }
 }
 
-// Info number `number` of a build.
-pub(crate) fn info_at(command: &Command, number: u32) -> Option<&Info>
+/// Info number `number` of a build. Own.
+pub fn info_at(command: &Command, number: u32) -> Option<&Info>
     ensures { option_copied result ≡ info_at command.now number }
 {
     match command {

@@ -1,3 +1,4 @@
+pub mod Grounds
 pub mod Lines
 pub mod Reasons
 pub mod Told

@@ -15,6 +15,7 @@ use Rattle.ray_shape.specs.declared.explaining.ShapeFault.TheVariants as faults
 use Rattle.ray_shape.specs.Faults.{IsShapeFault}
 use Rattle.ray_shape.specs.Wrong.{stands}
 use Rattle.ray_causes.specs.Causes.{IsCauseAt}
+use Rattle.ray_grounds.specs.Grounds.{IsGroundAt}
 use Rattle.ray_why.specs.declared.reasons.Broken.{Broken}
 use Rattle.ray_why.specs.declared.reasons.Misshapen.{Misshapen}
 use Rattle.ray_why.specs.declared.reasons.Unread.{Unread}
@@ -37,6 +38,7 @@ pub record IsMisshapen (m : Misshapen) (d : Data) : Type 0 where
 pub record IsBroken (broken : Broken) (commands : List Command) : Type 0 where
   pub refusal : rule_refusal (barriers commands) commands ≡ Some broken.refusal
   pub cause : IfSome broken.cause (λ cause. IsCauseAt commands broken.refusal cause)
+  pub grounds : IfSome broken.grounds (λ basis. IsGroundAt commands broken.refusal basis)
 
 -- what the rules on the recording alone say of it
 abbrev pub IsOfRules : Why → List Command → Type 0

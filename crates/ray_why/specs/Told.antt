@@ -10,6 +10,8 @@ use Rattle.ray_causes.specs.declared.cause.Multiple.{Multiple}
 use Rattle.ray_causes.specs.declared.member.Member.{Member}
 use Rattle.ray_causes.specs.declared.member.Member.TheVariants as members
 use Rattle.ray_causes.specs.Pointers.{member_text}
+use Rattle.ray_why.specs.Grounds.{ground_told}
+use Rattle.ray_why.specs.declared.reasons.Broken.{Broken}
 use Rattle.ray_why.specs.declared.reasons.Why.{Why}
 use Rattle.ray_why.specs.declared.reasons.Why.TheVariants as whys
 
@@ -74,7 +76,12 @@ cause_text i cause =
 abbrev pub cause_told : ℕ → Option Cause → List ℕ
 cause_told i cause = option_map_or (cause_text i) cause []
 
+-- what is told of the command for which a recording is refused
+abbrev pub rule_told : Broken → List ℕ
+rule_told broken =
+    cause_told broken.refusal.command broken.cause ++ ground_told broken.refusal.command broken.grounds
+
 -- what is told last of why a recording is refused
 abbrev pub told_last : Why → List ℕ
-told_last (whys.Refused broken) = cause_told broken.refusal.command broken.cause
+told_last (whys.Refused broken) = rule_told broken
 told_last why = []

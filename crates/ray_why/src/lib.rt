@@ -7,11 +7,12 @@
 //! rule it tells the member that breaks it, and what was compared.
 //!
 //! It stands on ray_cmd (the recording), ray_shape (the place that is wrong), ray_rules (the
-//! definitions of the rules) and ray_causes (by what a static rule is broken); who decides these
-//! rules is a [`Rules`] that the layer above brings.
+//! definitions of the rules), ray_causes and ray_grounds (by what a static rule is broken); who
+//! decides these rules is a [`Rules`] that the layer above brings.
 #![tactic(auto)]
 
 mod causes;
+mod grounds;
 mod line;
 mod reasons;
 mod rules;

@@ -10,6 +10,7 @@ ghost use Rattle.ray_why.specs.Reasons.{IsOfRules, IsWhy, IsWhyOf};
 use crate::rules::Rules;
 use ray_causes::{Cause, cause_of};
 use ray_cmd::{Recording, RecordingFault, Refusal, recording_of};
+use ray_grounds::{Ground, ground_of};
 use ray_shape::{ShapeFault, Step, shape_fault, value_at};
 use serde_json::{Error, Value};
 use std::alloc::{AllocError as NoMemory, Global};
@@ -34,6 +35,8 @@ pub struct Broken {
     pub refusal: Refusal,
     /// By what it breaks a static rule, where that is told: of V1, V3, V4, V5 and V12.
     pub cause: Option<Cause>,
+    /// The same of V13, V17, V20, V28, V29 and V30.
+    pub grounds: Option<Ground>,
 }
 
 /// The first command that has no shape of a command. (Own.)
@@ -131,7 +134,12 @@ fn refused_by(alloc: Global, recording: &Recording, refusal: Refusal) -> Result<
     ensures { IfOk result (λ why. IsOfRules why recording.now) }
 {
     let cause = cause_of(alloc, recording, refusal)?;
-    Ok(Why::Refused(Broken { refusal, cause }))
+    let grounds = ground_of(alloc, recording, refusal)?;
+    Ok(Why::Refused(Broken {
+        refusal,
+        cause,
+        grounds,
+    }))
 }
 
 // What is wrong with the command of this number.

@@ -1,14 +1,17 @@
 ghost use Rattle.std.specs.Prelude.{◌≡◌, ◌++◌, IfOk, List, codes, string_bytes, ℕ};
 ghost use Rattle.ray_shape.specs.Pointer.{pointer_of};
 ghost use Rattle.ray_why.specs.Lines.{line_of};
-ghost use Rattle.ray_why.specs.Told.{cause_told, place_of, told_last};
+ghost use Rattle.ray_why.specs.Grounds.{ground_told};
+ghost use Rattle.ray_why.specs.Told.{cause_told, place_of, rule_told, told_last};
 
 use crate::causes::cause_text;
+use crate::grounds::ground_text;
 use crate::line::first_line;
-use crate::reasons::{Misshapen, Why};
+use crate::reasons::{Broken, Misshapen, Why};
 use crate::sentences::sentence;
 use crate::wanted::wanted_words;
 use ray_causes::Cause;
+use ray_grounds::Ground;
 use ray_shape::{ShapeFault, Wrong, pointer_text};
 use std::alloc::{AllocError as NoMemory, Global};
 
@@ -53,9 +56,25 @@ fn causes_of(alloc: Global, why: &Why) -> Result<String, NoMemory>
     ensures { IfOk result (λ text. string_bytes text ≡ told_last why.now) }
 {
     match why {
-        Why::Refused(broken) => cause_of(alloc, broken.refusal.command, broken.cause),
+        Why::Refused(broken) => by_rule(alloc, broken),
         _ => Ok(String::new(alloc)),
     }
+}
+
+// The same of the command for which a recording is refused.
+fn by_rule(alloc: Global, broken: &Broken) -> Result<String, NoMemory>
+    ensures { IfOk result (λ text. string_bytes text ≡ rule_told broken.now) }
+{
+    let cause = cause_of(alloc, broken.refusal.command, broken.cause)?;
+    let ground = ground_of(alloc, broken.refusal.command, broken.grounds)?;
+    both(alloc, cause.as_str(), ground.as_str())
+}
+
+// Two texts, one after the other.
+fn both(alloc: Global, first: &str, second: &str) -> Result<String, NoMemory>
+    ensures { IfOk result (λ text. string_bytes text ≡ first.now ++ second.now) }
+{
+    format!(in alloc; "{first}{second}")
 }
 
 // The same of a command, where a cause is known.
@@ -64,6 +83,16 @@ fn cause_of(alloc: Global, command: u32, cause: Option<Cause>) -> Result<String,
 {
     match cause {
         Some(cause) => cause_text(alloc, command, cause),
+        None => Ok(String::new(alloc)),
+    }
+}
+
+// The same of a ground, where one is known.
+fn ground_of(alloc: Global, command: u32, basis: Option<Ground>) -> Result<String, NoMemory>
+    ensures { IfOk result (λ text. string_bytes text ≡ ground_told command basis) }
+{
+    match basis {
+        Some(basis) => ground_text(alloc, command, basis),
         None => Ok(String::new(alloc)),
     }
 }

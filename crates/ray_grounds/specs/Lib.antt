@@ -1,0 +1,4 @@
+pub mod Asking
+pub mod Facts
+pub mod Grounds
+pub mod Submits
