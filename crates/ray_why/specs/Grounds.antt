@@ -15,12 +15,12 @@ use Rattle.ray_grounds.specs.declared.grounds.Ground.TheVariants as grounds
 -- ---- the member that breaks it
 
 abbrev pub fact_member : Fact → Member
-fact_member (facts.Unbuilt member id made) = member
-fact_member (facts.WrongPhase needed found) = members.Own names.Op
+fact_member (facts.Unbuilt member _ _) = member
+fact_member (facts.WrongPhase _ _) = members.Own names.Op
 
 abbrev pub ground_member : Ground → Member
 ground_member (grounds.Standing fact) = fact_member fact
-ground_member (grounds.InFlight submit) = members.Own names.Op
+ground_member (grounds.InFlight _) = members.Own names.Op
 
 -- ---- what was compared
 
@@ -30,10 +30,10 @@ phase_word phases.Idle = codes "idle"
 phase_word phases.Recording = codes "begun"
 phase_word phases.Ended = codes "ended"
 
--- the state in which the command buffer is, and the one that is needed
+-- the state in which the command buffer is, and the one that is wanted
 abbrev pub phases_text : List ℕ → List ℕ → List ℕ
-phases_text found needed =
-    codes "the command buffer is " ++ (found ++ (codes ", and this command needs it " ++ needed))
+phases_text found wanted =
+    codes "the command buffer is " ++ (found ++ (codes ", and this command needs it " ++ wanted))
 
 -- a structure, and the command that made it
 abbrev pub unbuilt_text : ℕ → ℕ → List ℕ
@@ -42,7 +42,7 @@ unbuilt_text id made =
 
 abbrev pub fact_text : Fact → List ℕ
 fact_text (facts.Unbuilt member id made) = unbuilt_text id made
-fact_text (facts.WrongPhase needed found) = phases_text (phase_word found) (phase_word needed)
+fact_text (facts.WrongPhase wanted found) = phases_text (phase_word found) (phase_word wanted)
 
 -- the command that submits
 abbrev pub flight_text : ℕ → List ℕ
