@@ -109,13 +109,16 @@ impl Scene {
         requires { ¬ AsksBoth sent.now.flags }
     {
         let mut steps: Steps<Brand> = Steps::zero();
+        let options = QueryOptions {
+            number: 0,
+            flags: sent.flags,
+            mask: sent.mask,
+        };
         trace_ray(
             &self.top,
             &self.bottoms,
             &sent.ray,
-            0,
-            sent.flags,
-            sent.mask,
+            options,
             client,
             turns,
             &mut steps,
@@ -132,14 +135,17 @@ impl Scene {
         requires { ¬ AsksBoth sent.now.flags }
     {
         let mut steps: Steps<Brand> = Steps::zero();
+        let options = QueryOptions {
+            number: 0,
+            flags: sent.flags,
+            mask: sent.mask,
+        };
         trace_plain(
             alloc,
             &self.top,
             &self.bottoms,
             &sent.ray,
-            0,
-            sent.flags,
-            sent.mask,
+            options,
             client,
             &mut steps,
         )

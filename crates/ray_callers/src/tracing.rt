@@ -10,7 +10,7 @@ use ray_flags::RayFlags;
 use ray_geom::{Ray, Steps};
 use ray_query::{Candidate, Client, Commit, Decision};
 use ray_top::Top;
-use ray_walk::{NoMemory, Turns, trace_ray};
+use ray_walk::{NoMemory, QueryOptions, Turns, trace_ray};
 use std::marker::Brand;
 
 /// A client that confirms every triangle that it is asked about.
@@ -45,15 +45,10 @@ pub fn closest(
         top.now.contents (structures_in bottoms.now) ray.now 0 flags 255) }
 {
     let mut steps: Steps<Brand> = Steps::zero();
-    trace_ray(
-        top,
-        bottoms,
-        ray,
-        0,
+    let options = QueryOptions {
+        number: 0,
         flags,
-        255,
-        &Confirming,
-        turns,
-        &mut steps,
-    )
+        mask: 255,
+    };
+    trace_ray(top, bottoms, ray, options, &Confirming, turns, &mut steps)
 }

@@ -1,4 +1,4 @@
-ghost use Rattle.std.specs.Prelude.{◌≡◌, ◌+◌, IfSome, All};
+ghost use Rattle.std.specs.Prelude.{IfSome, All};
 ghost use Rattle.ray_contents.specs.Bounds.{KeepsBounds};
 ghost use Rattle.ray_geometries.specs.Contents.{bounds_of};
 ghost use Rattle.ray_bottom.specs.Meeting.{meet_of};
@@ -10,7 +10,7 @@ ghost use Rattle.ray_candidates.specs.Standing.{AreStanding, IsHere, structures_
 use ray_bottom::{Bottom, Bottoms, PrimPlace};
 use ray_geom::{Matrix, Ray, Steps};
 use ray_top::Top;
-use std::sync::ledger::Ledger;
+use std::marker::Brand;
 
 /// The law of candidates: their keys rise, and they are exactly what the ray finds; and no other
 /// list is so. A triangle that is hit shows its front, before the instance's flip, exactly where
@@ -30,18 +30,12 @@ pub fn agreeing_law()
 
 /// The law of numbers: what is found has the numerators and denominators of what is met, which are
 /// those of fractions within the limits, in lowest terms. (Own.)
-pub fn numbers_law<L: Ledger>(
-    bottom: &Bottom,
-    place: PrimPlace,
-    ray: &Ray,
-    m: &Matrix,
-    steps: &mut Steps<L>,
-)
+pub fn numbers_law(bottom: &Bottom, place: PrimPlace, ray: &Ray, m: &Matrix)
     requires { KeepsBounds m.now (bounds_of bottom.now.geometries) }
-    ensures numbers { IfSome (meet_of bottom.now.geometries place ray.now m.now) KeepsAllNumbers }
-    ensures step { steps.new ≡ steps.old + 1 }
+    ensures { IfSome (meet_of bottom.now.geometries place ray.now m.now) KeepsAllNumbers }
 {
-    let _meet = bottom.test_prim(place, ray, m, steps);
+    let mut steps: Steps<Brand> = Steps::zero();
+    let _meet = bottom.test_prim(place, ray, m, &mut steps);
 }
 
 /// The law of standing: where each structure that was in use stands under its id with the bounds

@@ -6,8 +6,8 @@ ghost use Rattle.ray_candidates.specs.Candidates.{trace_answer};
 ghost use Rattle.ray_candidates.specs.Standing.{AreStanding, structures_in};
 
 use crate::gathering::gather;
+use crate::options::QueryOptions;
 use ray_bottom::Bottoms;
-use ray_flags::RayFlags;
 use ray_geom::{Ray, Steps};
 use ray_query::{Client, Commit, Found, Query};
 use ray_top::Top;
@@ -17,30 +17,28 @@ use std::sync::ledger::Ledger;
 /// What the trace of a ray commits, by testing every primitive: it gathers the candidates, puts
 /// them in key order and plays them by a query. None exactly where the play commits nothing. The
 /// structure of each active instance stands under its id, with the bounds that stood beside the id
-/// when `top` was built or last updated, and `flags` doesn't ask that everything counts as opaque
-/// and that nothing does. `number` is the ray's in its trace. A step is taken for each primitive
-/// that is tested, and memory for what is found alone. (Vulkan, "Ray Traversal";
-/// SPV_KHR_ray_query.)
+/// when `top` was built or last updated, and the flags don't ask that everything counts as opaque
+/// and that nothing does. A step is taken for each primitive that is tested, and memory for what is
+/// found alone. (Vulkan, "Ray Traversal"; SPV_KHR_ray_query.)
 pub fn trace_plain<C: Client, L: Ledger>(
     alloc: Global,
     top: &Top,
     bottoms: &Bottoms,
     ray: &Ray,
-    number: u32,
-    flags: RayFlags,
-    mask: u8,
+    options: QueryOptions,
     client: &C,
     steps: &mut Steps<L>,
 ) -> Result<Option<Commit>, NoMemory>
     requires standing { AreStanding (without_tree top.now) (structures_in bottoms.now) }
-    requires flags_agree { ¬ AsksBoth flags }
+    requires flags_agree { ¬ AsksBoth options.flags }
     ensures answer { IfOk result (λ answer. answer ≡ trace_answer (C.meaning client.now)
-        top.now.contents (structures_in bottoms.now) ray.now number flags mask) }
+        top.now.contents (structures_in bottoms.now) ray.now options.number
+        options.flags options.mask) }
     ensures rising { steps.old ≤ steps.new }
 {
-    let mut found = gather(alloc, top, bottoms, ray, flags, mask, steps)?;
+    let mut found = gather(alloc, top, bottoms, ray, options.flags, options.mask, steps)?;
     put_in_order(&mut found);
-    let mut query = Query::initialize(number, flags);
+    let mut query = Query::initialize(options.number, options.flags);
     query.play(client, found.as_slice());
     Ok(query.committed())
 }

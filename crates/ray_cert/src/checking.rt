@@ -12,8 +12,9 @@ ghost use Rattle.ray_cert.specs.Parts.{AreStatedFor};
 use crate::cert::Cert;
 use crate::gathering::gather_tested;
 use crate::named::{Named, is_named};
-use crate::stated::Stated;
-use ray_bottom::Bottoms;
+use crate::stated::StatedBottoms;
+use crate::told_ray::ToldRay;
+use ray_candidates::QueryOptions;
 use ray_flags::RayFlags;
 use ray_geom::{Ratio, Ray, Steps};
 use ray_query::{Client, Commit, Found, Query};
@@ -72,12 +73,12 @@ fn name_played<C: Client>(
     name_of(query.committed())
 }
 
-/// Whether a certificate supports its hit, for the ray of this number with these flags and this
-/// cull mask, and for this client. Where it does, what it names is what testing every primitive
+/// Whether a certificate supports its hit, for a ray with its number, flags and cull mask, and for
+/// this client. Where it does, what it names is what testing every primitive
 /// commits. The structure of each active instance stands under its id, with the bounds that stood
-/// beside the id when `top` was built or last updated, `trees` are the stated trees of these
-/// structures, and `flags` doesn't ask that everything counts as opaque and that nothing does. A
-/// step is taken for each box that is tested, at most one for a digit, and for each primitive that
+/// beside the id when `top` was built or last updated, `trees` of `stated` are the stated trees of
+/// these structures, and the flags don't ask that everything counts as opaque and that nothing does.
+/// A step is taken for each box that is tested, at most one for a digit, and for each primitive that
 /// is tested, at most four for a digit. (Own.)
 ///
 /// # Errors
@@ -86,39 +87,45 @@ fn name_played<C: Client>(
 pub fn check_cert<C: Client, L: Ledger>(
     alloc: Global,
     top: &Top,
-    bottoms: &Bottoms,
-    trees: &Stated,
+    stated: StatedBottoms<'_>,
     ray: &Ray,
-    number: u32,
-    flags: RayFlags,
-    mask: u8,
+    options: QueryOptions,
     client: &C,
     cert: &Cert,
     steps: &mut Steps<L>,
 ) -> Result<bool, NoMemory>
-    requires standing { AreStanding (without_tree top.now) (structures_in bottoms.now) }
-    requires stated { AreStatedFor top.now.contents bottoms.now trees.now }
-    requires flags_agree { ¬ AsksBoth flags }
+    requires standing { AreStanding (without_tree top.now) (structures_in stated.bottoms.now) }
+    requires stated { AreStatedFor top.now.contents stated.bottoms.now stated.trees.now }
+    requires flags_agree { ¬ AsksBoth options.flags }
     ensures exact { IfOk result (λ supports. IsTrue supports ↔ Supports (C.meaning client.now)
-        top.now.contents bottoms.now ray.now number flags mask cert.now) }
+        top.now.contents stated.bottoms.now ray.now options.number options.flags options.mask
+        cert.now) }
 
     // What is named is the answer over all candidates.
     ensures law { IfOk result (λ supports. IsTrue supports → option_map name_of
-        (trace_answer (C.meaning client.now) top.now.contents (structures_in bottoms.now)
-        ray.now number flags mask) ≡ cert.now.named) }
+        (trace_answer (C.meaning client.now) top.now.contents (structures_in stated.bottoms.now)
+        ray.now options.number options.flags options.mask) ≡ cert.now.named) }
     ensures cost { IfOk result (λ supports.
         steps.new ≤ steps.old + 5 * digits_in cert.now.strings) }
     ensures rising { steps.old ≤ steps.new }
 {
     let _limits = top.len();
-    bottoms.sound();
+    stated.bottoms.sound();
     let _most = ray.tmax();
     let limit = limit_of(ray, cert.named());
     let strings = cert.strings();
-    match gather_tested(
-        alloc, top, bottoms, trees, ray, flags, mask, &limit, strings, steps,
-    )? {
+    let told = ToldRay {
+        ray,
+        flags: options.flags,
+        mask: options.mask,
+        limit: &limit,
+        strings,
+    };
+    match gather_tested(alloc, top, stated, &told, steps)? {
         None => Ok(false),
-        Some(found) => Ok(is_named(name_played(found, number, flags, client), cert.named())),
+        Some(found) => {
+            let played = name_played(found, options.number, options.flags, client);
+            Ok(is_named(played, cert.named()))
+        }
     }
 }

@@ -15,14 +15,12 @@ ghost use Rattle.ray_cert.specs.Parts.{AreStatedFor, IsStatedFor, part_of, parts
 ghost use Rattle.ray_cert.specs.Parts.{placement_of};
 
 use crate::cert::Digits;
-use crate::stated::Stated;
+use crate::stated::StatedBottoms;
 use crate::strings::check_string;
-use ray_bottom::{Bottom, Bottoms};
-use ray_flags::RayFlags;
-use ray_geom::{Ratio, Ray, Steps};
+use crate::told_ray::{PlacedTree, ToldRay};
+use ray_geom::Steps;
 use ray_query::Found;
 use ray_top::{Instance, Top};
-use ray_tree::Tree;
 use std::alloc::{AllocError as NoMemory, Global};
 use std::sync::ledger::Ledger;
 
@@ -39,36 +37,31 @@ fn string_at(strings: &[Digits], k: usize) -> Option<&Digits>
 fn check_next<L: Ledger>(
     alloc: Global,
     found: &mut Vec<Found>,
-    bottom: &Bottom,
-    tree: &Tree,
-    number: u32,
-    instance: &Instance,
-    ray: &Ray,
-    flags: RayFlags,
-    limit: &Ratio,
-    strings: &[Digits],
+    placed: &PlacedTree<'_>,
+    told: &ToldRay<'_>,
     taken: usize,
     steps: &mut Steps<L>,
 ) -> Result<Option<usize>, NoMemory>
-    requires kept { KeepsBounds instance.now.matrix (bounds_of bottom.now.geometries) }
-    requires instance_agrees { ¬ ForcesBoth instance.now.flags }
-    requires flags_agree { ¬ AsksBoth flags }
-    ensures value { let p = placement_value instance.now bottom.now in IfOk result (λ after.
-        option_map (λ k. (found.new.items, drop k strings.now)) after
-        ≡ string_taken limit.now found.old.items (part_of ray.now flags number p tree.now ∷ [])
-        (drop taken strings.now)) }
-    ensures cost { IfOk result (λ after.
-        steps.new + 5 * digits_in (drop (end_of (length strings.now) after) strings.now)
-        ≤ steps.old + 5 * digits_in (drop taken strings.now)) }
+    requires kept { KeepsBounds placed.now.instance.now.matrix
+        (bounds_of placed.now.bottom.now.geometries) }
+    requires instance_agrees { ¬ ForcesBoth placed.now.instance.now.flags }
+    requires flags_agree { ¬ AsksBoth told.now.flags }
+    ensures value { let p = placement_value placed.now.instance.now placed.now.bottom.now in
+        let part = part_of told.now.ray.now told.now.flags placed.now.number p placed.now.tree.now in
+        IfOk result (λ after.
+        option_map (λ k. (found.new.items, drop k told.now.strings.now)) after
+        ≡ string_taken told.now.limit.now found.old.items (part ∷ [])
+        (drop taken told.now.strings.now)) }
+    ensures cost { let strings = told.now.strings.now in IfOk result (λ after.
+        steps.new + 5 * digits_in (drop (end_of (length strings) after) strings)
+        ≤ steps.old + 5 * digits_in (drop taken strings)) }
     ensures rising { steps.old ≤ steps.new }
 {
-    match string_at(strings, taken) {
+    match string_at(told.strings, taken) {
         None => Ok(None),
         Some(string) => {
             let digits = string.as_slice();
-            let fits = check_string(
-                alloc, found, bottom, tree, number, instance, ray, flags, limit, digits, steps,
-            )?;
+            let fits = check_string(alloc, found, placed, told, digits, steps)?;
             if fits { Ok(Some(taken + 1)) } else { Ok(None) }
         }
     }
@@ -78,48 +71,49 @@ fn check_next<L: Ledger>(
 fn check_instance<L: Ledger>(
     alloc: Global,
     found: &mut Vec<Found>,
-    bottoms: &Bottoms,
-    trees: &Stated,
+    stated: StatedBottoms<'_>,
     number: u32,
     instance: Option<&Instance>,
-    ray: &Ray,
-    flags: RayFlags,
-    mask: u8,
-    limit: &Ratio,
-    strings: &[Digits],
+    told: &ToldRay<'_>,
     taken: usize,
     steps: &mut Steps<L>,
 ) -> Result<Option<usize>, NoMemory>
     requires placeable { IfSome (option_copied instance) (λ i.
-        IsPlaceable (structures_in bottoms.now) (instance_value i)) }
+        IsPlaceable (structures_in stated.bottoms.now) (instance_value i)) }
     requires stated { IfSome (option_copied instance) (λ i.
-        IsStatedFor bottoms.now trees.now (instance_value i)) }
-    requires flags_agree { ¬ AsksBoth flags }
+        IsStatedFor stated.bottoms.now stated.trees.now (instance_value i)) }
+    requires flags_agree { ¬ AsksBoth told.now.flags }
     ensures value { IfOk result (λ after.
-        option_map (λ k. (found.new.items, drop k strings.now)) after
-        ≡ string_taken limit.now found.old.items (parts_by ray.now flags number
-        (option_and_then (placement_of bottoms.now mask)
-        (option_map instance_value (option_copied instance.entry)))) (drop taken strings.now)) }
-    ensures cost { IfOk result (λ after.
-        steps.new + 5 * digits_in (drop (end_of (length strings.now) after) strings.now)
-        ≤ steps.old + 5 * digits_in (drop taken strings.now)) }
+        option_map (λ k. (found.new.items, drop k told.now.strings.now)) after
+        ≡ string_taken told.now.limit.now found.old.items
+        (parts_by told.now.ray.now told.now.flags number
+        (option_and_then (placement_of stated.bottoms.now told.now.mask)
+        (option_map instance_value (option_copied instance.entry))))
+        (drop taken told.now.strings.now)) }
+    ensures cost { let strings = told.now.strings.now in IfOk result (λ after.
+        steps.new + 5 * digits_in (drop (end_of (length strings) after) strings)
+        ≤ steps.old + 5 * digits_in (drop taken strings)) }
     ensures rising { steps.old ≤ steps.new }
 {
     let Some(instance) = instance else {
         return Ok(Some(taken));
     };
-    if instance.mask & mask == 0 {
+    if instance.mask & told.mask == 0 {
         return Ok(Some(taken));
     }
-    let Some(bottom) = bottoms.get(instance.id) else {
+    let Some(bottom) = stated.bottoms.get(instance.id) else {
         return Ok(Some(taken));
     };
-    let Some(tree) = trees.tree(instance.id) else {
+    let Some(tree) = stated.trees.tree(instance.id) else {
         return Ok(None);
     };
-    check_next(
-        alloc, found, bottom, tree, number, instance, ray, flags, limit, strings, taken, steps,
-    )
+    let placed = PlacedTree {
+        number,
+        instance,
+        bottom,
+        tree,
+    };
+    check_next(alloc, found, &placed, told, taken, steps)
 }
 
 // What is found by all strings. None where one doesn't fit, or they are more or fewer than the
@@ -127,22 +121,19 @@ fn check_instance<L: Ledger>(
 pub(crate) fn gather_tested<L: Ledger>(
     alloc: Global,
     top: &Top,
-    bottoms: &Bottoms,
-    trees: &Stated,
-    ray: &Ray,
-    flags: RayFlags,
-    mask: u8,
-    limit: &Ratio,
-    strings: &[Digits],
+    stated: StatedBottoms<'_>,
+    told: &ToldRay<'_>,
     steps: &mut Steps<L>,
 ) -> Result<Option<Vec<Found>>, NoMemory>
-    requires standing { AreStanding (without_tree top.now) (structures_in bottoms.now) }
-    requires stated { AreStatedFor top.now.contents bottoms.now trees.now }
-    requires flags_agree { ¬ AsksBoth flags }
+    requires standing { AreStanding (without_tree top.now) (structures_in stated.bottoms.now) }
+    requires stated { AreStatedFor top.now.contents stated.bottoms.now stated.trees.now }
+    requires flags_agree { ¬ AsksBoth told.now.flags }
     ensures value { IfOk result (λ found. option_map (λ v. v.items) found
-        ≡ gathered_from limit.now []
-        (parts_of_ray top.now.contents bottoms.now ray.now flags mask) strings.now) }
-    ensures cost { IfOk result (λ found. steps.new ≤ steps.old + 5 * digits_in strings.now) }
+        ≡ gathered_from told.now.limit.now []
+        (parts_of_ray top.now.contents stated.bottoms.now told.now.ray.now told.now.flags
+        told.now.mask) told.now.strings.now) }
+    ensures cost { IfOk result (λ found.
+        steps.new ≤ steps.old + 5 * digits_in told.now.strings.now) }
     ensures rising { steps.old ≤ steps.new }
 {
     let mut found = Vec::new(alloc);
@@ -150,15 +141,14 @@ pub(crate) fn gather_tested<L: Ledger>(
     for number in 0..top.len() {
         let instance = top.active_instance(number);
         let after = check_instance(
-            alloc, &mut found, bottoms, trees, number, instance, ray, flags, mask, limit, strings,
-            taken, steps,
+            alloc, &mut found, stated, number, instance, told, taken, steps,
         )?;
         match after {
             None => return Ok(None),
             Some(next) => taken = next,
         }
     }
-    if taken < strings.len() {
+    if taken < told.strings.len() {
         return Ok(None);
     }
     Ok(Some(found))

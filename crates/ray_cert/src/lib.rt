@@ -7,7 +7,8 @@
 //! hit: the strings spell cuttings of the trees, nothing that is cut off is met up to the named
 //! distance, and the play of what is tested commits just what is named.
 //!
-//! - [`Stated`] keeps stated trees by the ids of structures;
+//! - [`Stated`] keeps stated trees by the ids of structures, and [`StatedBottoms`] lends them beside
+//!   the structures;
 //! - [`make_cert`] gives the certificate of an answer: it supports that, whatever the client;
 //! - [`check_cert`] says yes exactly where a certificate supports its hit. What is named is then
 //!   the answer over all candidates, `trace_answer` of ray_candidates. It takes a step for each box
@@ -39,6 +40,7 @@ mod places;
 mod reading;
 mod stated;
 mod strings;
+mod told_ray;
 mod words;
 mod writing;
 
@@ -49,5 +51,5 @@ pub use laws::{commits_law, supports_law};
 pub use making::make_cert;
 pub use named::Named;
 pub use reading::{ReadCert, read_cert};
-pub use stated::Stated;
+pub use stated::{Stated, StatedBottoms};
 pub use writing::write_cert;

@@ -10,8 +10,7 @@ ghost use Rattle.ray_cert.specs.Parts.{AreStatedFor, IsStatedFor, placement_of};
 use crate::cert::{Cert, Digits};
 use crate::checking::{limit_of, name_of};
 use crate::cutting::mark_node;
-use crate::stated::Stated;
-use ray_bottom::Bottoms;
+use crate::stated::StatedBottoms;
 use ray_geom::{ObjectRay, Ratio, Ray, Steps, object_ray};
 use ray_query::Commit;
 use ray_top::{Instance, Top};
@@ -57,8 +56,7 @@ fn string_along<L: Ledger>(
 fn add_string<L: Ledger>(
     alloc: Global,
     strings: &mut Vec<Digits>,
-    bottoms: &Bottoms,
-    trees: &Stated,
+    stated: StatedBottoms<'_>,
     instance: Option<&Instance>,
     ray: &Ray,
     mask: u8,
@@ -66,9 +64,9 @@ fn add_string<L: Ledger>(
     steps: &mut Steps<L>,
 ) -> Result<(), NoMemory>
     requires { IfSome (option_copied instance) (λ i.
-        IsStatedFor bottoms.now trees.now (instance_value i)) }
+        IsStatedFor stated.bottoms.now stated.trees.now (instance_value i)) }
     ensures value { OnOk result (strings.new.items ≡ strings.old.items ++ strings_by limit.now
-        ray.now (option_and_then (placement_of bottoms.now mask)
+        ray.now (option_and_then (placement_of stated.bottoms.now mask)
         (option_map instance_value (option_copied instance.entry)))) }
     ensures rising { steps.old ≤ steps.new }
 {
@@ -78,10 +76,10 @@ fn add_string<L: Ledger>(
     if instance.mask & mask == 0 {
         return Ok(());
     }
-    if bottoms.get(instance.id).is_none() {
+    if stated.bottoms.get(instance.id).is_none() {
         return Ok(());
     }
-    let Some(tree) = trees.tree(instance.id) else {
+    let Some(tree) = stated.trees.tree(instance.id) else {
         return Ok(());
     };
     let object = object_ray(ray, &instance.matrix);
@@ -94,8 +92,8 @@ fn add_string<L: Ledger>(
 /// node is met at an entry up to the committed distance, or up to the end of the ray where nothing
 /// was. It supports its hit for each ray number, flags and client for which the ray has this
 /// answer. The structure of each active instance stands under its id, with the bounds that stood
-/// beside the id when `top` was built or last updated, and `trees` are the stated trees of these
-/// structures. (Own.)
+/// beside the id when `top` was built or last updated, and `trees` of `stated` are the stated trees
+/// of these structures. (Own.)
 ///
 /// # Errors
 ///
@@ -103,23 +101,22 @@ fn add_string<L: Ledger>(
 pub fn make_cert<L: Ledger>(
     alloc: Global,
     top: &Top,
-    bottoms: &Bottoms,
-    trees: &Stated,
+    stated: StatedBottoms<'_>,
     ray: &Ray,
     mask: u8,
     commit: Option<Commit>,
     steps: &mut Steps<L>,
 ) -> Result<Cert, NoMemory>
-    requires standing { AreStanding (without_tree top.now) (structures_in bottoms.now) }
-    requires stated { AreStatedFor top.now.contents bottoms.now trees.now }
+    requires standing { AreStanding (without_tree top.now) (structures_in stated.bottoms.now) }
+    requires stated { AreStatedFor top.now.contents stated.bottoms.now stated.trees.now }
     ensures exact { IfOk result
-        (IsMadeOf top.now.contents bottoms.now ray.now mask commit) }
+        (IsMadeOf top.now.contents stated.bottoms.now ray.now mask commit) }
     ensures supported { IfOk result
-        (SupportsAnswer top.now.contents bottoms.now ray.now mask commit) }
+        (SupportsAnswer top.now.contents stated.bottoms.now ray.now mask commit) }
     ensures rising { steps.old ≤ steps.new }
 {
     let _limits = top.len();
-    bottoms.sound();
+    stated.bottoms.sound();
     let _most = ray.tmax();
     let named = name_of(commit);
     let limit = limit_of(ray, named);
@@ -129,8 +126,7 @@ pub fn make_cert<L: Ledger>(
         add_string(
             alloc,
             &mut strings,
-            bottoms,
-            trees,
+            stated,
             instance,
             ray,
             mask,

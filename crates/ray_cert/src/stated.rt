@@ -2,6 +2,7 @@ ghost use Rattle.std.specs.Prelude.{◌≡◌, ◌≤◌, ◌^◌, [], OnErr, On
 ghost use Rattle.ray_stated.specs.Stated.{stated_tree};
 ghost use Rattle.ray_cert.specs.Parts.{PutsTree, tree_at};
 
+use ray_bottom::Bottoms;
 use ray_geom::Box3;
 use ray_stated::build_stated;
 use ray_tree::Tree;
@@ -55,6 +56,16 @@ impl Stated {
         let tree = build_stated(alloc, items)?;
         put_tree(&mut self.trees, id, tree)
     }
+}
+
+/// Bottom structures, with the stated trees of those that are asked about. (Own.)
+#[derive(Clone, Copy)]
+pub struct StatedBottoms<'a> {
+    /// The structures, by their ids.
+    pub bottoms: &'a Bottoms,
+
+    /// Their stated trees, by the same ids.
+    pub trees: &'a Stated,
 }
 
 // Puts a tree under an id.

@@ -11,11 +11,9 @@ ghost use Rattle.ray_cert.specs.Parts.{part_of};
 
 use crate::cutting::take_node;
 use crate::finding::find_items;
-use ray_bottom::Bottom;
-use ray_flags::RayFlags;
-use ray_geom::{ObjectRay, Ratio, Ray, Steps, object_ray};
+use crate::told_ray::{PlacedTree, ToldRay};
+use ray_geom::{ObjectRay, Ratio, Steps, object_ray};
 use ray_query::Found;
-use ray_top::Instance;
 use ray_tree::Tree;
 use std::alloc::{AllocError as NoMemory, Global};
 use std::sync::ledger::Ledger;
@@ -77,31 +75,37 @@ fn items_of_string<L: Ledger>(
 pub(crate) fn check_string<L: Ledger>(
     alloc: Global,
     found: &mut Vec<Found>,
-    bottom: &Bottom,
-    tree: &Tree,
-    number: u32,
-    instance: &Instance,
-    ray: &Ray,
-    flags: RayFlags,
-    limit: &Ratio,
+    placed: &PlacedTree<'_>,
+    told: &ToldRay<'_>,
     digits: &[bool],
     steps: &mut Steps<L>,
 ) -> Result<bool, NoMemory>
-    requires kept { KeepsBounds instance.now.matrix (bounds_of bottom.now.geometries) }
-    requires instance_agrees { ¬ ForcesBoth instance.now.flags }
-    requires flags_agree { ¬ AsksBoth flags }
-    ensures value { let p = placement_value instance.now bottom.now in IfOk result (λ fits.
-        option_map (λ gs. found.old.items ++ gs)
-        (found_taken limit.now (part_of ray.now flags number p tree.now) digits.now)
+    requires kept { KeepsBounds placed.now.instance.now.matrix
+        (bounds_of placed.now.bottom.now.geometries) }
+    requires instance_agrees { ¬ ForcesBoth placed.now.instance.now.flags }
+    requires flags_agree { ¬ AsksBoth told.now.flags }
+    ensures value { let p = placement_value placed.now.instance.now placed.now.bottom.now in
+        IfOk result (λ fits. option_map (λ gs. found.old.items ++ gs)
+        (found_taken told.now.limit.now
+        (part_of told.now.ray.now told.now.flags placed.now.number p placed.now.tree.now) digits.now)
         ≡ (if fits then Some found.new.items else None)) }
     ensures cost { IfOk result (λ fits. steps.new ≤ steps.old + 5 * length digits.now) }
     ensures rising { steps.old ≤ steps.new }
 {
-    let object = object_ray(ray, &instance.matrix);
-    match items_of_string(alloc, tree, &object, limit, digits, steps)? {
+    let object = object_ray(told.ray, &placed.instance.matrix);
+    match items_of_string(alloc, placed.tree, &object, told.limit, digits, steps)? {
         None => Ok(false),
         Some(items) => {
-            find_items(found, bottom, number, instance, &items, ray, flags, steps)?;
+            find_items(
+                found,
+                placed.bottom,
+                placed.number,
+                placed.instance,
+                &items,
+                told.ray,
+                told.flags,
+                steps,
+            )?;
             Ok(true)
         }
     }

@@ -12,11 +12,11 @@ ghost use Rattle.ray_certify.specs.Scenes.{IsWhole, ray_seen, ray_through};
 ghost use Rattle.ray_certify.specs.Verified.{IsCertifiedBy};
 
 use crate::way::Way;
-use ray_cert::{Cert, Named, Stated, check_cert, make_cert, write_cert};
+use ray_cert::{Cert, Named, Stated, StatedBottoms, check_cert, make_cert, write_cert};
 use ray_geom::{Ray, Steps};
 use ray_memory::TraceInputs;
 use ray_query::Client;
-use ray_walk::{Turns, trace_ray};
+use ray_walk::{QueryOptions, Turns, trace_ray};
 use std::alloc::{AllocError as NoMemory, Global};
 use std::marker::Brand;
 
@@ -47,20 +47,17 @@ pub(crate) fn certificate_line<C: Client>(
 {
     let mut steps = Steps::<Brand>::zero();
     let (top, bottoms) = (seen.inputs.top, seen.inputs.bottoms);
-    let (flags, mask) = (way.flags, way.mask);
-    let commit = trace_ray(
-        top, bottoms, ray, number, flags, mask, client, turns, &mut steps,
-    )?;
-    let cert = make_cert(
-        alloc,
-        top,
+    let options = QueryOptions {
+        number,
+        flags: way.flags,
+        mask: way.mask,
+    };
+    let commit = trace_ray(top, bottoms, ray, options, client, turns, &mut steps)?;
+    let stated = StatedBottoms {
         bottoms,
-        &seen.trees,
-        ray,
-        mask,
-        commit,
-        &mut steps,
-    )?;
+        trees: &seen.trees,
+    };
+    let cert = make_cert(alloc, top, stated, ray, way.mask, commit, &mut steps)?;
     has_small_number(way);
     has_small_numbers(cert.named());
     write_cert(alloc, &cert, way.command, number)
@@ -107,15 +104,21 @@ pub(crate) fn supports<C: Client>(
         ray.now number way.flags way.mask) ≡ cert.now.named) }
 {
     let mut steps = Steps::<Brand>::zero();
+    let options = QueryOptions {
+        number,
+        flags: way.flags,
+        mask: way.mask,
+    };
+    let stated = StatedBottoms {
+        bottoms: seen.inputs.bottoms,
+        trees: &seen.trees,
+    };
     check_cert(
         alloc,
         seen.inputs.top,
-        seen.inputs.bottoms,
-        &seen.trees,
+        stated,
         ray,
-        number,
-        way.flags,
-        way.mask,
+        options,
         client,
         cert,
         &mut steps,

@@ -116,10 +116,17 @@ fn add(builder: &mut Builder<'_>, state: &State, geometry: &Geometry) -> Result<
             index,
             count,
             ..
-        } => add_triangles(
-            builder, state, opaque, format, stride, max_vertex, index, count, content, indices,
-            transform,
-        ),
+        } => {
+            let triangles = Triangles {
+                opaque,
+                format,
+                stride,
+                max_vertex,
+                index,
+                count,
+            };
+            add_triangles(builder, state, triangles, content, indices, transform)
+        }
         Geometry::Boxes {
             opaque,
             stride,
@@ -133,39 +140,46 @@ fn add(builder: &mut Builder<'_>, state: &State, geometry: &Geometry) -> Result<
     }
 }
 
-// Adds a geometry of triangles that are read from these ranges.
-fn add_triangles(
-    builder: &mut Builder<'_>,
-    state: &State,
+// What a command says of a geometry of triangles, but for where they are.
+#[derive(Clone, Copy)]
+struct Triangles {
     opaque: bool,
     format: Format,
     stride: u32,
     max_vertex: u32,
     index: Option<Index>,
     count: u32,
+}
+
+// Adds a geometry of triangles that are read from these ranges.
+fn add_triangles(
+    builder: &mut Builder<'_>,
+    state: &State,
+    triangles: Triangles,
     content: Option<ByteRange>,
     indices: Option<ByteRange>,
     transform: Option<ByteRange>,
 ) -> Result<(), BuildFault>
-    requires room { HasRoom Triangle count builder.old.contents.geometries }
+    requires room { HasRoom Triangle triangles.count builder.old.contents.geometries }
     requires there { IfSome transform (IsTransformThere (memory_of state.now)) }
     ensures { let m = memory_of state.now in
-        let read = option_map (indices_in (see_range m indices)) index in
+        let read = option_map (indices_in (see_range m indices)) triangles.index in
         IsAdded (bare builder.old) (with_triangles (bare builder.old)
-        (triangle_info opaque format max_vertex read count)
-        (vertices_in format stride (see_range m content)) read (transform_in (see_range m transform)))
-        (bare builder.new) result }
+        (triangle_info triangles.opaque triangles.format triangles.max_vertex read triangles.count)
+        (vertices_in triangles.format triangles.stride (see_range m content)) read
+        (transform_in (see_range m transform))) (bare builder.new) result }
 {
     let info = TriangleInfo {
-        opaque,
-        format,
-        index_size: index_size(index),
-        count,
+        opaque: triangles.opaque,
+        format: triangles.format,
+        index_size: index_size(triangles.index),
+        count: triangles.count,
         first_vertex: 0,
-        max_vertex,
+        max_vertex: triangles.max_vertex,
     };
-    let vertices = VertexView::new(bytes_read(state, content), 0, stride, format);
-    let indices = indices_at(state, indices, index);
+    let read = bytes_read(state, content);
+    let vertices = VertexView::new(read, 0, triangles.stride, triangles.format);
+    let indices = indices_at(state, indices, triangles.index);
     builder.triangles(&info, vertices, indices, transform_at(state, transform))
 }
 

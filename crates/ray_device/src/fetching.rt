@@ -21,6 +21,7 @@ use crate::piece_out::PieceOut;
 use crate::serializing::{deserialized, serialized};
 use crate::storing::range;
 use crate::tracing::traced_rays;
+use ray_candidates::QueryOptions;
 use ray_cmd::{Command, Recording, Spot};
 use ray_geom::Steps;
 use ray_memory::State;
@@ -162,10 +163,12 @@ fn fetch_part<R: Threads + Sync, C: Client, L: Ledger>(
             state,
             *top,
             rays_of_part(*rays, *count, part),
-            RAYS_A_PIECE * part,
             rays_in_part(*count, part),
-            *flags,
-            (*mask % 256) as u8,
+            QueryOptions {
+                number: RAYS_A_PIECE * part,
+                flags: *flags,
+                mask: (*mask % 256) as u8,
+            },
             client,
             steps,
         ),

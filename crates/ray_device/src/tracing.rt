@@ -14,8 +14,8 @@ use crate::fetch_fault::FetchFault;
 use crate::output::Output;
 use ray_bottom::Bottoms;
 use ray_bytes::{DataRule, HitRecord, RayView};
+use ray_candidates::QueryOptions;
 use ray_cmd::Place;
-use ray_flags::RayFlags;
 use ray_geom::{Ray, Steps};
 use ray_memory::{State, ray_at};
 use ray_query::{Client, record_of};
@@ -25,44 +25,35 @@ use ray_walk::{Turns, trace_ray};
 use std::alloc::{AllocError as NoMemory, Global};
 use std::sync::ledger::Ledger;
 
-// The hits of `count` rays that stand in these bytes, of which the first has a number in its trace.
+// The hits of `count` rays that stand in these bytes, of which the first has the options' number in
+// its trace.
 #[tactic(auto, using(crate::proofs::Hits::rays_none, crate::proofs::Hits::rays_more, crate::proofs::Hits::rays_told))]
 fn hits<C: Client, L: Ledger>(
     alloc: Global,
     top: &Top,
     bottoms: &Bottoms,
     client: &C,
-    flags: RayFlags,
-    mask: u8,
+    options: QueryOptions,
     rays: &[u8],
-    first: u32,
     count: u32,
     steps: &mut Steps<L>,
 ) -> Result<Output, FetchFault>
     requires standing { AreStanding (without_tree top.now) (structures_in bottoms.now) }
-    requires flags_agree { ¬ AsksBoth flags }
-    requires numbers { first + count < 2 ^ 32 }
+    requires flags_agree { ¬ AsksBoth options.flags }
+    requires numbers { options.number + count < 2 ^ 32 }
     ensures value { IsFetched (rays_outcome (without_tree top.now) (structures_in bottoms.now)
-        (C.meaning client.now) flags mask rays.now first count) result }
+        (C.meaning client.now) options.flags options.mask rays.now options.number count) result }
     ensures bound { OnAnswered result (steps.new ≤ steps.old + most_of_rays top.now bottoms.now
-        (C.meaning client.now) flags mask rays.now first count) }
+        (C.meaning client.now) options.flags options.mask rays.now options.number count) }
     ensures rising { steps.old ≤ steps.new }
 {
     let mut out = Vec::with_capacity(alloc, HitRecord::SIZE * count as usize)?;
     let mut turns = Turns::new(alloc);
     for k in 0..count {
         let ray = ray(rays, k);
-        match hit(
-            top,
-            bottoms,
-            client,
-            flags,
-            mask,
-            first + k,
-            ray,
-            &mut turns,
-            steps,
-        ) {
+        let number = options.number + k;
+        let each = QueryOptions { number, ..options };
+        match hit(top, bottoms, client, each, ray, &mut turns, steps) {
             Ok(hit) => push(&mut out, &hit)?,
             Err(fault) => return Err(fault),
         }
@@ -71,9 +62,9 @@ fn hits<C: Client, L: Ledger>(
 }
 
 /// What rays of a trace give, where a client decides on their candidates: the bytes of their hits,
-/// 80 each. `count` rays stand in the range, of which the first has the number `first` in its
+/// 80 each. `count` rays stand in the range, of which the first has the options' number in its
 /// trace. They and the top structure are there, with the structures of its active instances as they
-/// were when it was built or last updated; and `flags` doesn't ask that everything counts as opaque
+/// were when it was built or last updated; and the flags don't ask that everything counts as opaque
 /// and that nothing does. `Data` comes exactly where a ray is beyond the limits (X11), and tells
 /// the first: its number in the trace. A step is taken for each primitive that is tested: for each
 /// ray no more than those of the leaves that it opens, in a walk through the trees.
@@ -83,57 +74,49 @@ pub(crate) fn traced_rays<C: Client, L: Ledger>(
     state: &State,
     top: u32,
     from: ByteRange,
-    first: u32,
     count: u32,
-    flags: RayFlags,
-    mask: u8,
+    options: QueryOptions,
     client: &C,
     steps: &mut Steps<L>,
 ) -> Result<Output, FetchFault>
-    requires ready { IsTraceable (memory_of state.now) top from flags }
-    requires numbers { first + count < 2 ^ 32 }
-    ensures value { IsFetched (traced (memory_of state.now) top from first count flags mask
-        (C.meaning client.now)) result }
-    ensures bound { OnAnswered result (steps.new ≤ steps.old + most_traced state.now top from first count
-        flags mask (C.meaning client.now)) }
+    requires ready { IsTraceable (memory_of state.now) top from options.flags }
+    requires numbers { options.number + count < 2 ^ 32 }
+    ensures value { IsFetched (traced (memory_of state.now) top from options.number count
+        options.flags options.mask (C.meaning client.now)) result }
+    ensures bound { OnAnswered result (steps.new ≤ steps.old + most_traced state.now top from
+        options.number count options.flags options.mask (C.meaning client.now)) }
     ensures rising { steps.old ≤ steps.new }
 {
     match (state.bytes(from), state.top(top)) {
         (Some(rays), Some(top)) => {
             let bottoms = state.bottoms();
-            hits(
-                alloc, top, bottoms, client, flags, mask, rays, first, count, steps,
-            )
+            hits(alloc, top, bottoms, client, options, rays, count, steps)
         }
         _ => unreachable!("the rays and the top structure are there"),
     }
 }
 
-// The hit of a ray of a number, which is within the limits if it is there.
+// The hit of a ray, which is within the limits if it is there.
 fn hit<C: Client, L: Ledger>(
     top: &Top,
     bottoms: &Bottoms,
     client: &C,
-    flags: RayFlags,
-    mask: u8,
-    number: u32,
+    options: QueryOptions,
     ray: Option<Ray>,
     turns: &mut Turns,
     steps: &mut Steps<L>,
 ) -> Result<HitRecord, FetchFault>
     requires standing { AreStanding (without_tree top.now) (structures_in bottoms.now) }
-    requires flags_agree { ¬ AsksBoth flags }
+    requires flags_agree { ¬ AsksBoth options.flags }
     ensures value { IsHit (hit_by (C.meaning client.now) (without_tree top.now)
-        (structures_in bottoms.now) flags mask number ray) result }
+        (structures_in bottoms.now) options.flags options.mask options.number ray) result }
     ensures bound { OnAnswered result (steps.new ≤ steps.old + most_by top.now bottoms.now
-        (C.meaning client.now) flags mask number ray) }
+        (C.meaning client.now) options.flags options.mask options.number ray) }
     ensures rising { steps.old ≤ steps.new }
 {
     match ray {
-        Some(ray) => Ok(record_of(trace_ray(
-            top, bottoms, &ray, number, flags, mask, client, turns, steps,
-        )?)),
-        None => Err(FetchFault::Data(DataRule::X11, Place::Part(number))),
+        Some(ray) => Ok(record_of(trace_ray(top, bottoms, &ray, options, client, turns, steps)?)),
+        None => Err(FetchFault::Data(DataRule::X11, Place::Part(options.number))),
     }
 }
 

@@ -44,12 +44,17 @@ pub(crate) fn run_in_waves<R: Threads + Sync, F: Fetcher + Sync>(
     let Ok(waves) = waves_of(alloc, ranks, until) else {
         return Err(RunFault::NoMemory);
     };
+    let plan = Plan {
+        rec,
+        ranks,
+        until,
+        waves: &waves,
+        workers,
+    };
     let mut text = Vec::new(alloc);
     let mut stop = None;
     for wave in 0..waves.len() {
-        match run_wave(
-            rt, alloc, state, rec, ranks, until, &waves, wave, workers, fetcher, stop, &mut text,
-        ) {
+        match run_wave(rt, alloc, state, &plan, wave, fetcher, stop, &mut text) {
             Ok(next) => stop = next,
             Err(_) => return Err(RunFault::NoMemory),
         }
@@ -60,44 +65,54 @@ pub(crate) fn run_in_waves<R: Threads + Sync, F: Fetcher + Sync>(
     }
 }
 
+// What is run in waves: the commands of a recording below a bound, by their ranks, the commands of
+// each wave, and by how many workers.
+#[derive(Clone, Copy)]
+struct Plan<'a> {
+    rec: &'a Recording,
+    ranks: &'a [u32],
+    until: u32,
+    waves: &'a Vec<Vec<u32>>,
+    workers: u32,
+}
+
 // Runs a wave, up to a refusal: the first there is so far, in recording order.
 fn run_wave<R: Threads + Sync, F: Fetcher + Sync>(
     rt: &R,
     alloc: Global,
     state: &mut State,
-    rec: &Recording,
-    ranks: &[u32],
-    until: u32,
-    waves: &Vec<Vec<u32>>,
+    plan: &Plan<'_>,
     wave: usize,
-    workers: u32,
     fetcher: &F,
     stop: Option<Refusal>,
     text: &mut Vec<u8>,
 ) -> Result<Option<Refusal>, NoMemory>
-    requires run { AreRanked rec.now ranks.now until }
-    requires can { CanEach (F.can_fetch fetcher.now) rec.now until }
-    requires waves { AreWavesOf ranks.now until until waves.now.items }
-    requires wave { wave < length waves.now.items }
-    requires workers { workers ≤ 64 }
-    requires done { IsDone (on_one_queue rec.now (F.clients fetcher.now rec.now)) ranks.now until wave
+    requires run { AreRanked plan.now.rec.now plan.now.ranks.now plan.now.until }
+    requires can { CanEach (F.can_fetch fetcher.now) plan.now.rec.now plan.now.until }
+    requires waves { AreWavesOf plan.now.ranks.now plan.now.until plan.now.until
+        plan.now.waves.now.items }
+    requires wave { wave < length plan.now.waves.now.items }
+    requires workers { plan.now.workers ≤ 64 }
+    requires done { let rec = plan.now.rec.now in
+        IsDone (on_one_queue rec (F.clients fetcher.now rec)) plan.now.ranks.now plan.now.until wave
         (memory_of state.old) text.old.items stop }
-    ensures { IfOk result (λ next. IsDone (on_one_queue rec.now (F.clients fetcher.now rec.now))
-        ranks.now until (wave + 1) (memory_of state.new) text.new.items next) }
+    ensures { let rec = plan.now.rec.now in
+        IfOk result (λ next. IsDone (on_one_queue rec (F.clients fetcher.now rec))
+        plan.now.ranks.now plan.now.until (wave + 1) (memory_of state.new) text.new.items next) }
 {
-    let commands = commands_of(waves, ranks, until, wave);
-    let pieces = pieces_below(alloc, rec, commands, bound_by(until, stop))?;
+    let commands = commands_of(plan.waves, plan.ranks, plan.until, wave);
+    let pieces = pieces_below(alloc, plan.rec, commands, bound_by(plan.until, stop))?;
     let outs = fetch_wave(
         rt,
         alloc,
         state,
-        rec,
+        plan.rec,
         pieces.as_slice(),
         wave,
-        workers,
+        plan.workers,
         fetcher,
     )?;
-    let met = settle(state, rec, fetcher, pieces.as_slice(), outs, text)?;
+    let met = settle(state, plan.rec, fetcher, pieces.as_slice(), outs, text)?;
     Ok(least(met, stop))
 }
 

@@ -13,7 +13,7 @@ use ray_geom::{Ray, Steps, Vec3};
 use ray_primitives::BuildFault;
 use ray_query::{ByFn, Candidate, Client, Commit, Decision, Function};
 use ray_top::{Top, Used};
-use ray_walk::{NoMemory, Turns, trace_plain, trace_ray};
+use ray_walk::{NoMemory, QueryOptions, Turns, trace_plain, trace_ray};
 use std::alloc::{AllocError, Global};
 use std::marker::Brand;
 use std::process::Abort;
@@ -136,17 +136,12 @@ fn traced<R: AllocGlobal, C: Client>(
         return Ok(None);
     };
     let (top, bottoms) = scene;
-    let commit = trace_plain(
-        rt.alloc(),
-        top,
-        bottoms,
-        &ray,
-        0,
-        RayFlags(0),
-        1,
-        client,
-        &mut steps,
-    )?;
+    let options = QueryOptions {
+        number: 0,
+        flags: RayFlags(0),
+        mask: 1,
+    };
+    let commit = trace_plain(rt.alloc(), top, bottoms, &ray, options, client, &mut steps)?;
     Ok(told(commit))
 }
 
@@ -177,17 +172,12 @@ fn walked<R: AllocGlobal, C: Client>(
         return Ok(None);
     };
     let (top, bottoms) = scene;
-    let commit = trace_ray(
-        top,
-        bottoms,
-        &ray,
-        0,
-        RayFlags(0),
-        1,
-        client,
-        &mut turns,
-        &mut steps,
-    )?;
+    let options = QueryOptions {
+        number: 0,
+        flags: RayFlags(0),
+        mask: 1,
+    };
+    let commit = trace_ray(top, bottoms, &ray, options, client, &mut turns, &mut steps)?;
     Ok(told(commit))
 }
 

@@ -13,8 +13,8 @@
 //! ```rust
 //! // The hit that a client commits of a ray, with the cull mask of all bits.
 //! let mut turns = Turns::new(alloc);
-//! let flags = RayFlags(0);
-//! let commit = trace_ray(&top, &bottoms, &ray, 0, flags, 255, &client, &mut turns, &mut steps)?;
+//! let options = QueryOptions { number: 0, flags: RayFlags(0), mask: 255 };
+//! let commit = trace_ray(&top, &bottoms, &ray, options, &client, &mut turns, &mut steps)?;
 //! ```
 //!
 //! CALLING.md has a proved caller, and how its conditions are had.
@@ -39,7 +39,7 @@ mod tracing;
 mod trees;
 mod view;
 
-pub use ray_candidates::trace_plain;
+pub use ray_candidates::{QueryOptions, trace_plain};
 pub use ray_nearest::Turns;
 pub use std::alloc::AllocError as NoMemory;
 pub use tracing::trace_ray;

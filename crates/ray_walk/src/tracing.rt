@@ -10,7 +10,7 @@ ghost use Rattle.ray_walk.specs.Traced.{traced_by, traced_scene};
 use crate::ray_scene::RayScene;
 use crate::view::View;
 use ray_bottom::Bottoms;
-use ray_flags::RayFlags;
+use ray_candidates::QueryOptions;
 use ray_geom::{Ray, Steps};
 use ray_nearest::{NoMemory, Turns, walk};
 use ray_query::{Client, Commit};
@@ -21,34 +21,41 @@ use std::sync::ledger::Ledger;
 /// the bottom structures below it: it opens nodes nearest first, and ends where all that waits is
 /// beyond the committed hit. None exactly where the play of the candidates commits nothing. The
 /// structure of each active instance stands under its id, with the bounds that stood beside the
-/// id when `top` was built or last updated, and `flags` doesn't ask that everything counts as
-/// opaque and that nothing does. `number` is the ray's in its trace. A step is taken for each
-/// primitive that is tested: no more than the primitives of the opened leaves, those whose boxes,
-/// and those above them, are met up to the committed distance. Turns that wait in `turns` are
-/// dropped, and memory is taken for turns alone; that of the heap is kept from ray to ray. After any
-/// answer, want of memory too, `turns` may hold what waited last.
+/// id when `top` was built or last updated, and the flags don't ask that everything counts as
+/// opaque and that nothing does. A step is taken for each primitive that is tested: no more than the
+/// primitives of the opened leaves, those whose boxes, and those above them, are met up to the
+/// committed distance. Turns that wait in `turns` are dropped, and memory is taken for turns alone;
+/// that of the heap is kept from ray to ray. After any answer, want of memory too, `turns` may hold
+/// what waited last.
 /// (Vulkan, "Ray Traversal"; own: the order, and the bound.)
 pub fn trace_ray<C: Client, L: Ledger>(
     top: &Top,
     bottoms: &Bottoms,
     ray: &Ray,
-    number: u32,
-    flags: RayFlags,
-    mask: u8,
+    options: QueryOptions,
     client: &C,
     turns: &mut Turns,
     steps: &mut Steps<L>,
 ) -> Result<Option<Commit>, NoMemory>
     requires standing { AreStanding (without_tree top.now) (structures_in bottoms.now) }
-    requires flags_agree { ¬ AsksBoth flags }
+    requires flags_agree { ¬ AsksBoth options.flags }
     ensures answer { IfOk result (λ answer. answer ≡ trace_answer (C.meaning client.now)
-        top.now.contents (structures_in bottoms.now) ray.now number flags mask) }
+        top.now.contents (structures_in bottoms.now) ray.now options.number
+        options.flags options.mask) }
     ensures bound { IfOk result (λ answer. steps.new ≤ steps.old + opened_in
-        (traced_scene (traced_by top.now bottoms.now ray.now flags mask)) (distance_of answer)) }
+        (traced_scene (traced_by top.now bottoms.now ray.now options.flags options.mask))
+        (distance_of answer)) }
     ensures rising { steps.old ≤ steps.new }
 {
-    let view = View::new(top, bottoms, ray, flags, mask);
+    let view = View::new(top, bottoms, ray, options.flags, options.mask);
     view.known();
     let mut scene = RayScene::new(view);
-    walk(&mut scene, number, flags, client, turns, steps)
+    walk(
+        &mut scene,
+        options.number,
+        options.flags,
+        client,
+        turns,
+        steps,
+    )
 }

@@ -10,26 +10,26 @@ pub name_played-requires : goal.name_played-requires
 name_played-requires g c =
     let a = c.args in
     let end = parts_of a.ray.now.tmax in
-    let ps = parts_of_ray a.top.now.contents a.bottoms.now a.ray.now a.flags a.mask in
+    let ps = parts_of_ray a.top.now.contents a.stated.bottoms.now a.ray.now a.options.flags a.options.mask in
     let told = told-gathered end c.limit_of-limit.result c.named.result a.cert.now ps c.strings-strings.result.now
     (option_map (λ v. v.items) c.in_ok-gather_tested.field-0) c.named.ensures c.limit_of-limit.ensures c.strings-strings.ensures
     c.in_ok-gather_tested.ensures.value in
-    let given : IsGiven (without_tree a.top.now) a.bottoms.now a.ray.now = record {
+    let given : IsGiven (without_tree a.top.now) a.stated.bottoms.now a.ray.now = record {
       limits = c.len-limits.ensures.limits;
       standing = c.requires.standing;
       sound = c.sound.ensures;
       is_ray = c.tmax-most.ensures.limits;
     } in
-    gathered-apart (g.C.Client.meaning a.client.now) a.number a.flags end ps a.cert.now c.in-Some.found.items
+    gathered-apart (g.C.Client.meaning a.client.now) a.options.number a.options.flags end ps a.cert.now c.in-Some.found.items
     (told ∙ ap (option_map (λ v. v.items)) c.in-Some.is)
-    (parts-apart (without_tree a.top.now) a.bottoms.now a.ray.now a.flags a.mask given)
+    (parts-apart (without_tree a.top.now) a.stated.bottoms.now a.ray.now a.options.flags a.options.mask given)
 
 pub returns-in-None-clause-exact : goal.returns-in-None-clause-exact
 returns-in-None-clause-exact g c =
     let a = c.args in
     let end = parts_of a.ray.now.tmax in
-    let ps = parts_of_ray a.top.now.contents a.bottoms.now a.ray.now a.flags a.mask in
-    none-exact (g.C.Client.meaning a.client.now) a.number a.flags end ps a.cert.now
+    let ps = parts_of_ray a.top.now.contents a.stated.bottoms.now a.ray.now a.options.flags a.options.mask in
+    none-exact (g.C.Client.meaning a.client.now) a.options.number a.options.flags end ps a.cert.now
     (told-gathered end c.limit_of-limit.result c.named.result a.cert.now ps c.strings-strings.result.now
     (option_map (λ v. v.items) c.in_ok-gather_tested.field-0) c.named.ensures c.limit_of-limit.ensures c.strings-strings.ensures
     c.in_ok-gather_tested.ensures.value ∙ ap (option_map (λ v. v.items)) c.in-None.is)
@@ -38,8 +38,8 @@ pub returns-in-Some-clause-exact : goal.returns-in-Some-clause-exact
 returns-in-Some-clause-exact g c =
     let a = c.args in
     let end = parts_of a.ray.now.tmax in
-    let ps = parts_of_ray a.top.now.contents a.bottoms.now a.ray.now a.flags a.mask in
-    some-supports-as (g.C.Client.meaning a.client.now) a.number a.flags end ps a.cert.now c.in-Some.found.items
+    let ps = parts_of_ray a.top.now.contents a.stated.bottoms.now a.ray.now a.options.flags a.options.mask in
+    some-supports-as (g.C.Client.meaning a.client.now) a.options.number a.options.flags end ps a.cert.now c.in-Some.found.items
     (told-gathered end c.limit_of-limit.result c.named.result a.cert.now ps c.strings-strings.result.now
     (option_map (λ v. v.items) c.in_ok-gather_tested.field-0) c.named.ensures c.limit_of-limit.ensures c.strings-strings.ensures
     c.in_ok-gather_tested.ensures.value ∙ ap (option_map (λ v. v.items)) c.in-Some.is)
@@ -49,17 +49,17 @@ pub returns-in-Some-clause-law : goal.returns-in-Some-clause-law
 returns-in-Some-clause-law g c =
     let a = c.args in
     let end = parts_of a.ray.now.tmax in
-    let ps = parts_of_ray a.top.now.contents a.bottoms.now a.ray.now a.flags a.mask in
+    let ps = parts_of_ray a.top.now.contents a.stated.bottoms.now a.ray.now a.options.flags a.options.mask in
     let meaning = g.C.Client.meaning a.client.now in
-    let given : IsGiven (without_tree a.top.now) a.bottoms.now a.ray.now = record {
+    let given : IsGiven (without_tree a.top.now) a.stated.bottoms.now a.ray.now = record {
       limits = c.len-limits.ensures.limits;
       standing = c.requires.standing;
       sound = c.sound.ensures;
       is_ray = c.tmax-most.ensures.limits;
     } in
-    let decides = some-supports-as meaning a.number a.flags end ps a.cert.now c.in-Some.found.items
+    let decides = some-supports-as meaning a.options.number a.options.flags end ps a.cert.now c.in-Some.found.items
     (told-gathered end c.limit_of-limit.result c.named.result a.cert.now ps c.strings-strings.result.now
     (option_map (λ v. v.items) c.in_ok-gather_tested.field-0) c.named.ensures c.limit_of-limit.ensures c.strings-strings.ensures
     c.in_ok-gather_tested.ensures.value ∙ ap (option_map (λ v. v.items)) c.in-Some.is)
     c.is_named.result c.name_played.result c.named-in-Some.result c.name_played.ensures c.named-in-Some.ensures c.is_named.ensures in
-    λ supports. named-answer (without_tree a.top.now) a.bottoms.now a.ray.now a.flags a.mask given meaning a.number a.cert.now (decides.0 supports)
+    λ supports. named-answer (without_tree a.top.now) a.stated.bottoms.now a.ray.now a.options.flags a.options.mask given meaning a.options.number a.cert.now (decides.0 supports)

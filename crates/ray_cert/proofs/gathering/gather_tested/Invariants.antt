@@ -7,9 +7,9 @@ use Rattle.ray_cert.proofs.gathering.gather_tested.Given as goal
 -- what is left, behind what was found, gives what all gives
 abbrev pub invariant-loop-number : goal.invariant-loop-number
 invariant-loop-number g l = record {
-  value : gathered_from l.limit l.found.items
-      (parts_from l.top.contents l.bottoms l.ray l.flags l.mask l.number (length l.top.contents.instances - l.number)) (drop l.taken l.strings)
-      ≡ gathered_from l.limit [] (parts_of_ray l.top.contents l.bottoms l.ray l.flags l.mask) l.strings;
-  cost : l.steps + 5 * digits_in (drop l.taken l.strings) ≤ l.initial.steps + 5 * digits_in l.strings;
+  value : gathered_from l.told.limit l.found.items
+      (parts_from l.top.contents l.stated.bottoms l.told.ray l.told.flags l.told.mask l.number (length l.top.contents.instances - l.number)) (drop l.taken l.told.strings)
+      ≡ gathered_from l.told.limit [] (parts_of_ray l.top.contents l.stated.bottoms l.told.ray l.told.flags l.told.mask) l.told.strings;
+  cost : l.steps + 5 * digits_in (drop l.taken l.told.strings) ≤ l.initial.steps + 5 * digits_in l.told.strings;
   rising : l.initial.steps ≤ l.steps;
 }

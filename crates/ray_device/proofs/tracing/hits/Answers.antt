@@ -17,9 +17,9 @@ pub returns-in-Err-clause-value : goal.returns-in-Err-clause-value
 returns-in-Err-clause-value g c =
     let k = c.loop-k.k in
     let within : k < c.args.count = (let t = c.loop-k-test.true in grind (arith, nat_tests)) in
-    rays_told (without_tree c.args.top.now) (structures_in c.args.bottoms.now) (g.C.Client.meaning c.args.client.now) c.args.flags c.args.mask c.args.rays.now c.args.first
+    rays_told (without_tree c.args.top.now) (structures_in c.args.bottoms.now) (g.C.Client.meaning c.args.client.now) c.args.options.flags c.args.options.mask c.args.rays.now c.args.options.number
     k c.args.count c.loop-k.out.items c.in-Err.fault c.loop-k.invariant.given
-    (subst (λ (r : Option RayValue). IsHit (hit_by (g.C.Client.meaning c.args.client.now) (without_tree c.args.top.now) (structures_in c.args.bottoms.now) c.args.flags c.args.mask (c.args.first + k) r) (Err c.in-Err.fault))
+    (subst (λ (r : Option RayValue). IsHit (hit_by (g.C.Client.meaning c.args.client.now) (without_tree c.args.top.now) (structures_in c.args.bottoms.now) c.args.options.flags c.args.options.mask (c.args.options.number + k) r) (Err c.in-Err.fault))
     c.ray-ray.ensures c.in-Err.ensures.value)
     within
 
@@ -30,9 +30,9 @@ returns-in-Err-clause-bound g c =
     let meaning = g.C.Client.meaning c.args.client.now in
     let k = c.loop-k.k in
     let within : k < c.args.count = (let t = c.loop-k-test.true in grind (arith, nat_tests)) in
-    answered_more HitRecord Output (most_in top bottoms meaning c.args.flags c.args.mask c.args.rays.now c.args.first) k c.args.count c.args.steps.now c.loop-k.steps c.hit.new.steps
+    answered_more HitRecord Output (most_in top bottoms meaning c.args.options.flags c.args.options.mask c.args.rays.now c.args.options.number) k c.args.count c.args.steps.now c.loop-k.steps c.hit.new.steps
     c.in-Err.fault c.loop-k.invariant.bound
-    (subst (λ (r : Option RayValue). OnAnswered {X = HitRecord} (Err c.in-Err.fault) (c.hit.new.steps ≤ c.loop-k.steps + most_by top bottoms meaning c.args.flags c.args.mask (c.args.first + k) r))
+    (subst (λ (r : Option RayValue). OnAnswered {X = HitRecord} (Err c.in-Err.fault) (c.hit.new.steps ≤ c.loop-k.steps + most_by top bottoms meaning c.args.options.flags c.args.options.mask (c.args.options.number + k) r))
     c.ray-ray.ensures c.in-Err.ensures.bound)
     within
 
@@ -41,9 +41,9 @@ loop-k-preserved g c =
     let top = c.args.top.now in
     let bottoms = c.args.bottoms.now in
     let meaning = g.C.Client.meaning c.args.client.now in
-    let flags = c.args.flags in
-    let mask = c.args.mask in
-    let first = c.args.first in
+    let flags = c.args.options.flags in
+    let mask = c.args.options.mask in
+    let first = c.args.options.number in
     let k = c.loop-k.k in
     let so_far = c.loop-k.invariant in
     record {

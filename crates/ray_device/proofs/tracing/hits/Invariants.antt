@@ -7,5 +7,5 @@ use Rattle.ray_device.proofs.tracing.hits.Given as goal
 -- the hits of the rays so far
 abbrev pub invariant-loop-k : goal.invariant-loop-k
 invariant-loop-k g l =
-    AreSoFar (rays_outcome (without_tree l.fn.top) (structures_in l.fn.bottoms) (g.C.Client.meaning l.fn.client) l.fn.flags l.fn.mask l.fn.rays l.fn.first l.k)
-    l.out.items l.initial.steps l.steps (most_of_rays l.fn.top l.fn.bottoms (g.C.Client.meaning l.fn.client) l.fn.flags l.fn.mask l.fn.rays l.fn.first l.k)
+    AreSoFar (rays_outcome (without_tree l.fn.top) (structures_in l.fn.bottoms) (g.C.Client.meaning l.fn.client) l.fn.options.flags l.fn.options.mask l.fn.rays l.fn.options.number l.k)
+    l.out.items l.initial.steps l.steps (most_of_rays l.fn.top l.fn.bottoms (g.C.Client.meaning l.fn.client) l.fn.options.flags l.fn.options.mask l.fn.rays l.fn.options.number l.k)

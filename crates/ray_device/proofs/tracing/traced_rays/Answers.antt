@@ -13,6 +13,6 @@ returns-clause-value g c =
     let rays = c.in-Some-Some.rays.now in
     let top = without_tree c.in-Some-Some.top.now in
     subst (λ (o : Outcome). IsFetched o c.hits.result)
-    ((λ i. rays_outcome top (λ id. c.bottoms-bottoms.ensures.value id i) (g.C.Client.meaning a.client.now) a.flags a.mask rays a.first a.count)
-    ∙ (λ i. traced_through (bottoms_of (memory_of a.state.now)) (c.in-Some-Some.ensures i) (c.in-Some-Some.ensures'.value i) a.first a.count a.flags a.mask (g.C.Client.meaning a.client.now)))
+    ((λ i. rays_outcome top (λ id. c.bottoms-bottoms.ensures.value id i) (g.C.Client.meaning a.client.now) a.options.flags a.options.mask rays a.options.number a.count)
+    ∙ (λ i. traced_through (bottoms_of (memory_of a.state.now)) (c.in-Some-Some.ensures i) (c.in-Some-Some.ensures'.value i) a.options.number a.count a.options.flags a.options.mask (g.C.Client.meaning a.client.now)))
     c.hits.ensures.value

@@ -12,13 +12,13 @@ pub returns-clause-answer : goal.returns-clause-answer
 returns-clause-answer g c =
     let a = c.args in
     other-answer c.walk.result _ _
-    (trace-answer c.new-scene.result (traced_by a.top.now a.bottoms.now a.ray.now a.flags a.mask)
+    (trace-answer c.new-scene.result (traced_by a.top.now a.bottoms.now a.ray.now a.options.flags a.options.mask)
     (subst IsWalkable (sym c.new-scene.ensures) c.known.ensures) (c.new-scene.ensures ∙ c.new-view.ensures)
-    (g.C.Client.meaning a.client.now) a.number) c.walk.ensures.answer
+    (g.C.Client.meaning a.client.now) a.options.number) c.walk.ensures.answer
 
 pub returns-clause-bound : goal.returns-clause-bound
 returns-clause-bound g c =
     let a = c.args in
-    trace-bound c.new-scene.result (traced_by a.top.now a.bottoms.now a.ray.now a.flags a.mask)
+    trace-bound c.new-scene.result (traced_by a.top.now a.bottoms.now a.ray.now a.options.flags a.options.mask)
     (subst IsWalkable (sym c.new-scene.ensures) c.known.ensures) (c.new-scene.ensures ∙ c.new-view.ensures)
     c.walk.result a.steps.now c.walk.new.steps c.walk.ensures.bound
