@@ -6,8 +6,10 @@
 //! in rising order of keys, and that no other list is; [`agreeing_law`] that they depend on the
 //! structures of active instances alone.
 //!
-//! The layers above use [`trace_plain`], the plain program of `trace_answer`, with [`QueryOptions`]
-//! (a ray's number, flags and cull mask), and [`admit`], what is found where something is met. `specs/Placements` has the words by which those who walk trees,
+//! The layers above use [`trace_plain`], the plain program of `trace_answer`, with
+//! [`QueryOptions`], and [`admit`], what is found where something is met.
+//!
+//! `specs/Placements` has the words by which those who walk trees,
 //! or check a walk, speak of one structure: `proofs/StructureFound` and `proofs/TreeHolds` say of
 //! any tree over its primitives that what is found of the tree's items is what is found in the
 //! structure, and that a node's box holds what is found there. What a trace asks of what it is lent

@@ -59,8 +59,13 @@ fn cause_there(rec: &Recording, status: &Status, refusal: Refusal) -> Option<Cau
     first_cause(status, command, refusal.rule, refusal.place)
 }
 
-// What stands where command number `until` does.
-fn status_before(alloc: Global, rec: &Recording, until: u32) -> Result<Status, NoMemory>
+/// What stands where command number `until` does, where each command before it names what is live,
+/// has the sizes that it needs and makes no structure over another. Own.
+///
+/// # Errors
+///
+/// For want of memory alone.
+pub fn status_before(alloc: Global, rec: &Recording, until: u32) -> Result<Status, NoMemory>
     requires until { until ≤ length rec.now }
     requires go_on { GoOn rec.now until }
     ensures { IfOk result (λ status. status ≡ status_at rec.now until) }

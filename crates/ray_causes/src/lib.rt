@@ -22,7 +22,7 @@ mod ranges;
 mod testing;
 
 pub use crate::cause::{BufferUse, Cause, Multiple};
-pub use crate::finding::{cause_of, status_there};
+pub use crate::finding::{cause_of, status_before, status_there};
 pub use crate::member::{Member, Name};
 pub use crate::names::structure_named;
 pub use crate::pointer::member_text;

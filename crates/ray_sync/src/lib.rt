@@ -7,7 +7,8 @@
 //! `IsLongest` of ray_rules. [`covered_is_ordered`] is the law that what is covered is ordered.
 //! [`check_sync`] finds the first command that breaks V25, V26, V27 or V32, by `first_hazard`.
 //! [`barrier_of`], [`chain_stage`] and [`chain_access`] say a barrier, a stage and an access in the
-//! words of ray_chains, as `specs/Events` does.
+//! words of ray_chains, as `specs/Events` does; [`holds_stage`] and [`holds_access`] say what a
+//! barrier's sets hold.
 //!
 //! It stands on ray_rules (the definitions), ray_access (what commands read and write), ray_chains
 //! and ray_hazards, which keeps the lanes and the coverage that a check of hazards goes by. The set
@@ -34,4 +35,5 @@ pub use crate::events::{barrier_of, chain_access, chain_stage};
 pub use crate::front::Front;
 pub use crate::laws::covered_is_ordered;
 pub use crate::order::{Order, order_of};
+pub use crate::sets::{holds_access, holds_stage};
 pub use std::alloc::AllocError as NoMemory;

@@ -6,8 +6,8 @@ use bitflags::Flags;
 use ray_cmd::{Access, Stages};
 use ray_rules::{AccessType, Stage};
 
-// Whether a set of stages of a barrier holds a stage.
-pub(crate) fn holds_stage(stages: Stages, stage: Stage) -> bool
+/// Whether a set of stages of a barrier holds a stage. `all` holds the four of the device.
+pub fn holds_stage(stages: Stages, stage: Stage) -> bool
     ensures { result ≡ holds_stage stages stage }
 {
     match stage {
@@ -19,8 +19,9 @@ pub(crate) fn holds_stage(stages: Stages, stage: Stage) -> bool
     }
 }
 
-// Whether a set of accesses of a barrier holds an access.
-pub(crate) fn holds_access(accesses: Access, access: AccessType) -> bool
+/// Whether a set of accesses of a barrier holds an access. `memory_read` holds every read, and
+/// `memory_write` every write.
+pub fn holds_access(accesses: Access, access: AccessType) -> bool
     ensures { result ≡ holds_access accesses access }
 {
     match access {
