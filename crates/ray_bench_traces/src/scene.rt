@@ -12,7 +12,7 @@ use ray_geom::{Ray, Steps};
 use ray_primitives::BuildFault;
 use ray_query::{Client, Commit};
 use ray_top::{Top, Used};
-use ray_walk::{NoMemory, Turns, trace_plain, trace_ray};
+use ray_walk::{NoMemory, QueryOptions, Turns, trace_plain, trace_ray};
 use std::alloc::Global;
 use std::marker::{Brand, Model};
 use std::thread::Threads;

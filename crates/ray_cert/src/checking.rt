@@ -87,23 +87,23 @@ fn name_played<C: Client>(
 pub fn check_cert<C: Client, L: Ledger>(
     alloc: Global,
     top: &Top,
-    stated: StatedBottoms<'_>,
+    stated: &StatedBottoms<'_>,
     ray: &Ray,
     options: QueryOptions,
     client: &C,
     cert: &Cert,
     steps: &mut Steps<L>,
 ) -> Result<bool, NoMemory>
-    requires standing { AreStanding (without_tree top.now) (structures_in stated.bottoms.now) }
-    requires stated { AreStatedFor top.now.contents stated.bottoms.now stated.trees.now }
+    requires standing { AreStanding (without_tree top.now) (structures_in stated.now.bottoms.now) }
+    requires stated { AreStatedFor top.now.contents stated.now.bottoms.now stated.now.trees.now }
     requires flags_agree { ¬ AsksBoth options.flags }
     ensures exact { IfOk result (λ supports. IsTrue supports ↔ Supports (C.meaning client.now)
-        top.now.contents stated.bottoms.now ray.now options.number options.flags options.mask
+        top.now.contents stated.now.bottoms.now ray.now options.number options.flags options.mask
         cert.now) }
 
     // What is named is the answer over all candidates.
     ensures law { IfOk result (λ supports. IsTrue supports → option_map name_of
-        (trace_answer (C.meaning client.now) top.now.contents (structures_in stated.bottoms.now)
+        (trace_answer (C.meaning client.now) top.now.contents (structures_in stated.now.bottoms.now)
         ray.now options.number options.flags options.mask) ≡ cert.now.named) }
     ensures cost { IfOk result (λ supports.
         steps.new ≤ steps.old + 5 * digits_in cert.now.strings) }

@@ -71,7 +71,7 @@ fn check_next<L: Ledger>(
 fn check_instance<L: Ledger>(
     alloc: Global,
     found: &mut Vec<Found>,
-    stated: StatedBottoms<'_>,
+    stated: &StatedBottoms<'_>,
     number: u32,
     instance: Option<&Instance>,
     told: &ToldRay<'_>,
@@ -79,15 +79,15 @@ fn check_instance<L: Ledger>(
     steps: &mut Steps<L>,
 ) -> Result<Option<usize>, NoMemory>
     requires placeable { IfSome (option_copied instance) (λ i.
-        IsPlaceable (structures_in stated.bottoms.now) (instance_value i)) }
+        IsPlaceable (structures_in stated.now.bottoms.now) (instance_value i)) }
     requires stated { IfSome (option_copied instance) (λ i.
-        IsStatedFor stated.bottoms.now stated.trees.now (instance_value i)) }
+        IsStatedFor stated.now.bottoms.now stated.now.trees.now (instance_value i)) }
     requires flags_agree { ¬ AsksBoth told.now.flags }
     ensures value { IfOk result (λ after.
         option_map (λ k. (found.new.items, drop k told.now.strings.now)) after
         ≡ string_taken told.now.limit.now found.old.items
         (parts_by told.now.ray.now told.now.flags number
-        (option_and_then (placement_of stated.bottoms.now told.now.mask)
+        (option_and_then (placement_of stated.now.bottoms.now told.now.mask)
         (option_map instance_value (option_copied instance.entry))))
         (drop taken told.now.strings.now)) }
     ensures cost { let strings = told.now.strings.now in IfOk result (λ after.
@@ -121,16 +121,16 @@ fn check_instance<L: Ledger>(
 pub(crate) fn gather_tested<L: Ledger>(
     alloc: Global,
     top: &Top,
-    stated: StatedBottoms<'_>,
+    stated: &StatedBottoms<'_>,
     told: &ToldRay<'_>,
     steps: &mut Steps<L>,
 ) -> Result<Option<Vec<Found>>, NoMemory>
-    requires standing { AreStanding (without_tree top.now) (structures_in stated.bottoms.now) }
-    requires stated { AreStatedFor top.now.contents stated.bottoms.now stated.trees.now }
+    requires standing { AreStanding (without_tree top.now) (structures_in stated.now.bottoms.now) }
+    requires stated { AreStatedFor top.now.contents stated.now.bottoms.now stated.now.trees.now }
     requires flags_agree { ¬ AsksBoth told.now.flags }
     ensures value { IfOk result (λ found. option_map (λ v. v.items) found
         ≡ gathered_from told.now.limit.now []
-        (parts_of_ray top.now.contents stated.bottoms.now told.now.ray.now told.now.flags
+        (parts_of_ray top.now.contents stated.now.bottoms.now told.now.ray.now told.now.flags
         told.now.mask) told.now.strings.now) }
     ensures cost { IfOk result (λ found.
         steps.new ≤ steps.old + 5 * digits_in told.now.strings.now) }

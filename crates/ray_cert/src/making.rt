@@ -56,7 +56,7 @@ fn string_along<L: Ledger>(
 fn add_string<L: Ledger>(
     alloc: Global,
     strings: &mut Vec<Digits>,
-    stated: StatedBottoms<'_>,
+    stated: &StatedBottoms<'_>,
     instance: Option<&Instance>,
     ray: &Ray,
     mask: u8,
@@ -64,9 +64,9 @@ fn add_string<L: Ledger>(
     steps: &mut Steps<L>,
 ) -> Result<(), NoMemory>
     requires { IfSome (option_copied instance) (λ i.
-        IsStatedFor stated.bottoms.now stated.trees.now (instance_value i)) }
+        IsStatedFor stated.now.bottoms.now stated.now.trees.now (instance_value i)) }
     ensures value { OnOk result (strings.new.items ≡ strings.old.items ++ strings_by limit.now
-        ray.now (option_and_then (placement_of stated.bottoms.now mask)
+        ray.now (option_and_then (placement_of stated.now.bottoms.now mask)
         (option_map instance_value (option_copied instance.entry)))) }
     ensures rising { steps.old ≤ steps.new }
 {
@@ -101,18 +101,18 @@ fn add_string<L: Ledger>(
 pub fn make_cert<L: Ledger>(
     alloc: Global,
     top: &Top,
-    stated: StatedBottoms<'_>,
+    stated: &StatedBottoms<'_>,
     ray: &Ray,
     mask: u8,
     commit: Option<Commit>,
     steps: &mut Steps<L>,
 ) -> Result<Cert, NoMemory>
-    requires standing { AreStanding (without_tree top.now) (structures_in stated.bottoms.now) }
-    requires stated { AreStatedFor top.now.contents stated.bottoms.now stated.trees.now }
+    requires standing { AreStanding (without_tree top.now) (structures_in stated.now.bottoms.now) }
+    requires stated { AreStatedFor top.now.contents stated.now.bottoms.now stated.now.trees.now }
     ensures exact { IfOk result
-        (IsMadeOf top.now.contents stated.bottoms.now ray.now mask commit) }
+        (IsMadeOf top.now.contents stated.now.bottoms.now ray.now mask commit) }
     ensures supported { IfOk result
-        (SupportsAnswer top.now.contents stated.bottoms.now ray.now mask commit) }
+        (SupportsAnswer top.now.contents stated.now.bottoms.now ray.now mask commit) }
     ensures rising { steps.old ≤ steps.new }
 {
     let _limits = top.len();

@@ -57,7 +57,7 @@ pub(crate) fn certificate_line<C: Client>(
         bottoms,
         trees: &seen.trees,
     };
-    let cert = make_cert(alloc, top, stated, ray, way.mask, commit, &mut steps)?;
+    let cert = make_cert(alloc, top, &stated, ray, way.mask, commit, &mut steps)?;
     has_small_number(way);
     has_small_numbers(cert.named());
     write_cert(alloc, &cert, way.command, number)
@@ -116,7 +116,7 @@ pub(crate) fn supports<C: Client>(
     check_cert(
         alloc,
         seen.inputs.top,
-        stated,
+        &stated,
         ray,
         options,
         client,

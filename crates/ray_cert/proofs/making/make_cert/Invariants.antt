@@ -7,6 +7,6 @@ use Rattle.ray_cert.proofs.making.make_cert.Given as goal
 -- the strings of the instances so far
 abbrev pub invariant-loop-number : goal.invariant-loop-number
 invariant-loop-number g l = record {
-  value : l.strings.items ≡ joined (λ n. strings_by l.limit l.ray (placement_at l.top.contents l.stated.bottoms l.mask n)) l.number;
+  value : l.strings.items ≡ joined (λ n. strings_by l.limit l.ray (placement_at l.top.contents l.stated.bottoms.now l.mask n)) l.number;
   rising : l.initial.steps ≤ l.steps;
 }
