@@ -22,16 +22,26 @@ impl Value {
     }
 
     pub fn number(&self, name: &str) -> usize {
-        match self.member(name) {
-            Value::Number(number) => *number as usize,
-            _ => panic!("{name} is no number"),
-        }
+        self.member(name).as_number()
     }
 
     pub fn text(&self, name: &str) -> &str {
-        match self.member(name) {
+        self.member(name).word()
+    }
+
+    /// A number that stands in a list.
+    pub fn as_number(&self) -> usize {
+        match self {
+            Value::Number(number) => *number as usize,
+            _ => panic!("no number"),
+        }
+    }
+
+    /// A text that stands in a list, as words of a set do.
+    pub fn word(&self) -> &str {
+        match self {
             Value::Text(text) => text,
-            _ => panic!("{name} is no text"),
+            _ => panic!("no text"),
         }
     }
 

@@ -5,13 +5,18 @@
 //! clients, which the proved program looks at for each ray. It prints the same line. A third word is
 //! the number of cells a side, 256 where there is none.
 //!
-//! `run` reads a recording that `gen` made, runs it and prints the same text as the proved program,
-//! but looks at no rule.
+//! `gen SIDE LAYERS RAYS` prints the recording of a made-up scene, `run` reads one that `gen` made, runs it
+//! and prints the same text as the proved program, and `selfrun SIDE LAYERS RAYS` does both and prints the
+//! line of counts; no rule is looked at. `check` reads a recording and looks at those rules that commands
+//! of `gen` and of two kinds of `bench/scenes` can break, without running it.
 
 mod exact;
 mod field;
 mod json;
+mod made;
+mod order;
 mod recording;
+mod rules;
 mod walk;
 
 use std::collections::BinaryHeap;
@@ -22,18 +27,44 @@ fn main() {
     match words.as_slice() {
         [work, times] if work == "traces" => traces(number(times), 256),
         [work, times, side] if work == "traces" => traces(number(times), number(side)),
-        [work] if work == "run" => run(),
-        _ => panic!("the words are: traces N [SIDE], or run"),
+        [work] if work == "run" => print(&recording::run(&input()).0),
+        [work] if work == "check" => print(&format!("{}\n", check(&input()))),
+        [work, scene @ ..] if work == "gen" => print(&size(scene).text()),
+        [work, scene @ ..] if work == "selfrun" => {
+            print(&recording::run(size(scene).text().as_bytes()).1.line());
+        }
+        _ => panic!("{WORDS}"),
     }
 }
 
-fn run() {
+const WORDS: &str =
+    "the words are: traces N [SIDE], run, check, or gen or selfrun SIDE LAYERS RAYS";
+
+fn check(text: &[u8]) -> String {
+    rules::check(json::read(text).items())
+}
+
+fn input() -> Vec<u8> {
     let mut text = Vec::new();
     std::io::stdin().read_to_end(&mut text).expect("an input");
-    let shown = recording::run(&text);
+    text
+}
+
+fn print(text: &str) {
     std::io::stdout()
-        .write_all(shown.as_bytes())
+        .write_all(text.as_bytes())
         .expect("an output");
+}
+
+fn size(words: &[String]) -> made::Size {
+    let [side, layers, rays] = words else {
+        panic!("{WORDS}");
+    };
+    made::Size {
+        side: number(side),
+        layers: number(layers),
+        rays: number(rays),
+    }
 }
 
 fn traces(times: u32, side: i32) {

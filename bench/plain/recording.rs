@@ -28,10 +28,29 @@ struct Device {
     tops: HashMap<usize, Instance>,
     /// The lines of the hits that a trace left, by the place of the first.
     hits: HashMap<(usize, usize), String>,
+    counts: Counts,
 }
 
-/// The text that a run of a recording prints.
-pub fn run(text: &[u8]) -> String {
+/// What rays met: a triangle from its front, from its back, nothing.
+#[derive(Clone, Copy, Default)]
+pub struct Counts {
+    front: usize,
+    back: usize,
+    none: usize,
+}
+
+impl Counts {
+    /// The line of a self run.
+    pub fn line(&self) -> String {
+        let Counts { front, back, none } = *self;
+        let tri = front + back;
+        let rays = tri + none;
+        format!("rays {rays} tri {tri} box 0 none {none} front {front} back {back}\n")
+    }
+}
+
+/// The text that a run of a recording prints, and what its rays met.
+pub fn run(text: &[u8]) -> (String, Counts) {
     let commands = json::read(text);
     let mut device = Device::default();
     let mut shown = String::new();
@@ -51,7 +70,7 @@ pub fn run(text: &[u8]) -> String {
             _ => {}
         }
     }
-    shown
+    (shown, device.counts)
 }
 
 fn digit(byte: u8) -> u8 {
@@ -141,6 +160,11 @@ impl Device {
         for k in 0..command.number("count") {
             let ray = read_ray(bytes, 40 * k);
             let hit = walk::trace(&bottom.scene, &ray, &mut turns);
+            match &hit {
+                Some(hit) if hit.is_front => self.counts.front += 1,
+                Some(_) => self.counts.back += 1,
+                None => self.counts.none += 1,
+            }
             print(&mut lines, k, hit, bottom, instance);
         }
         self.hits
