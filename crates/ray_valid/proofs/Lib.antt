@@ -1,3 +1,4 @@
 mod Few
 mod Going
 mod Seeing
+mod Staying

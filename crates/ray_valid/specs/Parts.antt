@@ -1,7 +1,8 @@
 -- Words that private contracts cite: no page of definitions.
-use Rattle.std.specs.Prelude.{◌≡◌, ◌+◌, ◌≤◌, ◌^◌, ℕ, List, Option, Bool, [], ◌∷◌, ◌&&◌, ◌||◌, ◌==◌, false, map, not}
+use Rattle.std.specs.Prelude.{◌≡◌, ◌+◌, ◌≤◌, ◌^◌, ℕ, List, Option, None, Bool, [], ◌∷◌, ◌&&◌, ◌||◌, ◌==◌, true, false, map, not}
 use Rattle.std.specs.List.{AllByRecursion, list_any}
 use Rattle.std.specs.Option.{option_map_or}
+use Rattle.ray_cmd.specs.declared.command.Command.{Command}
 use Rattle.ray_cmd.specs.declared.info.Info.{Info}
 use Rattle.ray_flags.specs.declared.access.Access.{Access}
 use Rattle.ray_flags.specs.declared.stages.Stages.{Stages}
@@ -14,6 +15,8 @@ use Rattle.ray_ranges.specs.Meeting.{meets_any}
 use Rattle.ray_ranges.specs.declared.range.Range.{Range}
 use Rattle.ray_rules.specs.FlagRules.{lacks_stage}
 use Rattle.ray_rules.specs.Ranges.{place_of, scratch_range}
+use Rattle.ray_rules.specs.Sources.{first_stale}
+use Rattle.ray_rules.specs.Status.{Status, after, built_at}
 
 -- whether an info, where there is one, is without `allow_compaction`
 abbrev pub forbids_compaction : Option Info → Bool
@@ -79,3 +82,11 @@ pub record HasSeen (infos : List Info) (written read : List ℕ) (scratch : List
   pub reads : (test : ℕ → Bool) → list_any test read ≡ list_any (reads_by test) infos
   pub takes : HaveTheSame scratch (map scratch_addresses infos)
   pub fits : AllByRecursion Fits infos
+
+-- tops of these ids may refer to no stale structure where a status stands
+abbrev pub AreFresh : List Command → Status → List ℕ → Type 0
+AreFresh rec z ids = (top : ℕ) → has_id ids top ≡ true → first_stale rec z (built_at z top) ≡ None
+
+-- a command leaves the structures as they are
+abbrev pub KeepsStructures : Command → Type 0
+KeepsStructures c = (n : ℕ) (z : Status) → (after n c z).structures ≡ z.structures

@@ -1,15 +1,17 @@
-ghost use Rattle.std.specs.Prelude.{◌≡◌, ◌≤◌, IfOk, IfNone, IfSome, length};
+ghost use Rattle.std.specs.Prelude.{◌≡◌, ◌≤◌, IfOk, IfNone, IfSome, None, length, true};
 ghost use Rattle.ray_rules.specs.Buffers.{v2};
 ghost use Rattle.ray_rules.specs.Names.{v1};
 ghost use Rattle.ray_rules.specs.Refusals.{AreKept, IsLeastBroken, refusal_at_end, refused, static_refusal, static_refusal_of, static_table};
+ghost use Rattle.ray_rules.specs.Sources.{v21};
 
 use crate::buffers::{v2, v3, v30};
 use crate::conflicts::v16;
 use crate::flags::{v22, v23, v24};
+use crate::fresh::Fresh;
 use crate::names::v1;
 use crate::phases::{v28, v28_at_end, v29};
 use crate::shapes::{v7, v8, v9, v10};
-use crate::sources::{v13, v14, v15, v17, v18, v20, v21};
+use crate::sources::{v13, v14, v15, v17, v18, v20, v21_unless};
 use crate::spans::{v4, v5, v12, v31};
 use crate::structures::{v6, v11, v19};
 use ray_cmd::{Command, Place, Recording, Refusal, Rule};
@@ -29,12 +31,15 @@ pub fn check_static(alloc: Global, rec: &Recording) -> Result<Option<Refusal>, N
     ensures within { IfOk result (λ refusal. IfSome refusal (λ r. r.command ≤ length rec.now)) }
 {
     let mut status = Status::new(alloc);
+    let mut fresh = Fresh::none(alloc);
     for i in 0..rec.len() {
         let command = rec.command(i);
-        if let Some(refusal) = refusal_of(alloc, rec, i, &status, command)? {
+        let known = fresh.knows(command);
+        if let Some(refusal) = refusal_unless(known, alloc, rec, i, &status, command)? {
             return Ok(Some(refusal));
         }
         status.step(i, command)?;
+        fresh.pass(alloc, command)?;
     }
     Ok(refusal_at_end(rec.len(), &status))
 }
@@ -45,7 +50,6 @@ pub fn check_static(alloc: Global, rec: &Recording) -> Result<Option<Refusal>, N
 /// # Errors
 ///
 /// For want of memory alone.
-#[tactic(auto, unfolding(ray_rules::specs::Refusals::static_refusal_of))]
 pub fn refusal_of(
     alloc: Global,
     rec: &Recording,
@@ -58,6 +62,27 @@ pub fn refusal_of(
     ensures at { IfOk result (λ refusal. IfSome refusal (λ r. r.command ≡ i)) }
 
     // The rule is the first of the table that is broken, or all are kept.
+    ensures least { IfOk result (λ refusal. IfSome refusal (λ r.
+        IsLeastBroken (static_table rec.now status.now command.now) r)) }
+    ensures kept { IfOk result (λ refusal. IfNone refusal
+        (AreKept (static_table rec.now status.now command.now))) }
+{
+    refusal_unless(false, alloc, rec, i, status, command)
+}
+
+// The same, where it may be known already that the command keeps V21.
+#[tactic(auto, unfolding(ray_rules::specs::Refusals::static_refusal_of))]
+fn refusal_unless(
+    known: bool,
+    alloc: Global,
+    rec: &Recording,
+    i: u32,
+    status: &Status,
+    command: &Command,
+) -> Result<Option<Refusal>, NoMemory>
+    requires { known ≡ true → v21 rec.now status.now command.now ≡ None }
+    ensures value { IfOk result (λ refusal. refusal ≡ static_refusal_of rec.now i status.now command.now) }
+    ensures at { IfOk result (λ refusal. IfSome refusal (λ r. r.command ≡ i)) }
     ensures least { IfOk result (λ refusal. IfSome refusal (λ r.
         IsLeastBroken (static_table rec.now status.now command.now) r)) }
     ensures kept { IfOk result (λ refusal. IfNone refusal
@@ -123,7 +148,7 @@ pub fn refusal_of(
     if let Some(place) = v20(status, command) {
         return Ok(Some(refused(i, 20, place)));
     }
-    if let Some(place) = v21(rec, status, command) {
+    if let Some(place) = v21_unless(known, rec, status, command) {
         return Ok(Some(refused(i, 21, place)));
     }
     if let Some(place) = v22(command) {

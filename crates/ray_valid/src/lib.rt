@@ -14,6 +14,7 @@ mod buffers;
 mod checking;
 mod conflicts;
 mod flags;
+mod fresh;
 mod names;
 mod phases;
 mod place;

@@ -82,7 +82,7 @@ fn addresses(info: &Info) -> Range
 }
 
 // Whether an id is one of a set.
-fn has(ids: &BTreeSet<u32>, id: u32) -> bool
+pub(crate) fn has(ids: &BTreeSet<u32>, id: u32) -> bool
     ensures { result ≡ has_id ids.now.keys id }
 {
     ids.contains(&id)
@@ -113,7 +113,7 @@ fn has_one(uses: &[u32], ids: &BTreeSet<u32>) -> bool
 }
 
 // Puts one more id into a set.
-fn put(ids: &mut BTreeSet<u32>, id: u32) -> Result<(), NoMemory>
+pub(crate) fn put(ids: &mut BTreeSet<u32>, id: u32) -> Result<(), NoMemory>
     ensures { OnOk result (HasAdded (λ test. test id) ids.old.keys ids.new.keys) }
 {
     ids.insert(id)?;

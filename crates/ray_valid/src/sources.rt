@@ -1,4 +1,4 @@
-ghost use Rattle.std.specs.Prelude.{◌≡◌, ◌<◌, ◌≤◌, ◌^◌, IfSome, length};
+ghost use Rattle.std.specs.Prelude.{◌≡◌, ◌<◌, ◌≤◌, ◌^◌, IfSome, None, length, true};
 ghost use Rattle.std.specs.List.{position};
 ghost use Rattle.std.specs.Option.{option_copied};
 ghost use Rattle.ray_rules.specs.Origins.{uses_of};
@@ -177,6 +177,23 @@ pub(crate) fn v21(rec: &Recording, status: &Status, command: &Command) -> Option
     match command {
         Command::Trace { top, .. } => first_stale(rec, status, status.built(*top)),
         _ => None,
+    }
+}
+
+// V21 again, where it may be known already that the rule is kept: then nothing is looked at.
+pub(crate) fn v21_unless(
+    known: bool,
+    rec: &Recording,
+    status: &Status,
+    command: &Command,
+) -> Option<Place>
+    requires { known ≡ true → v21 rec.now status.now command.now ≡ None }
+    ensures { result ≡ v21 rec.now status.now command.now }
+{
+    if known {
+        None
+    } else {
+        v21(rec, status, command)
     }
 }
 
