@@ -1,2 +1,2 @@
-mod Going
-mod Telling
+pub mod Going
+pub mod Telling

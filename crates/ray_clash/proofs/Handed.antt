@@ -66,7 +66,7 @@ pub going_next :
     → ((h : Handed) → IsPassed asking.to asking.access h p
     → IsPassed asking.to asking.access (deed_after asking.stage asking.deed z c h) q)
     → IsGoing rec i asking (n + 1) y q
-going_next rec i n asking z y p q c less there so_far status after =
+going_next rec i n asking z y p q c less there so_far status then_ =
     let more : suc n ≡ n + 1 = omega arith in
     record {
       status = status;
@@ -74,5 +74,5 @@ going_next rec i n asking z y p q c less there so_far status after =
           subst (λ m. IsPassed asking.to asking.access (deed_at rec i asking.stage asking.deed m) q) more
           (subst (λ h. IsPassed asking.to asking.access h q) (sym (next rec i asking.stage asking.deed n c less there))
           (subst (λ w. IsPassed asking.to asking.access (deed_after asking.stage asking.deed w c (deed_at rec i asking.stage asking.deed n)) q)
-          so_far.status (after (deed_at rec i asking.stage asking.deed n) so_far.passed)));
+          so_far.status (then_ (deed_at rec i asking.stage asking.deed n) so_far.passed)));
     }

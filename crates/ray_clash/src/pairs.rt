@@ -1,7 +1,9 @@
 //! The accesses of two commands, two by two.
-ghost use Rattle.std.specs.Prelude.{◌≡◌, ◌≤◌, IfOk, IfSome, false, length};
+ghost use Rattle.std.specs.Prelude.{◌≡◌, ◌<◌, ◌≤◌, IfOk, IfSome, List, false, length};
 ghost use Rattle.ray_access.specs.Lists.{AreTouched};
+ghost use Rattle.ray_rules.specs.declared.touch.Touch.{Touch as ATouch};
 ghost use Rattle.ray_rules.specs.Hazards.{status_at};
+ghost use Rattle.ray_rules.specs.Status.{Status as AStatus};
 ghost use Rattle.ray_rules.specs.Verdict.{GoOn};
 ghost use Rattle.ray_clash.specs.declared.clash.Missing.TheVariants.{Execution};
 ghost use Rattle.ray_clash.specs.Clashes.{IsClash, earlier_touches, later_touches};
@@ -62,12 +64,21 @@ pub(crate) fn first_clash(
         (IsClash pair.now.hazard rec.now pair.now.earlier pair.now.later)) }
 {
     for k in 0..later.len() {
-        let clash = clash_with(alloc, rec, pair, earlier, &later[k])?;
+        let other = touched_at(later, k);
+        let clash = clash_with(alloc, rec, pair, earlier, other)?;
         if clash.is_some() {
             return Ok(clash);
         }
     }
     Ok(None)
+}
+
+// One of the accesses of a list.
+fn touched_at(list: &[Touched], k: usize) -> &Touched
+    requires { k < length list.now }
+    ensures { (z : AStatus) (ts : List ATouch) → AreTouched z ts list.now → IsOf z ts result.now }
+{
+    &list[k]
 }
 
 // By which of these accesses an earlier command is at odds with one of a later command.
@@ -89,7 +100,8 @@ fn clash_with(
         (IsClash pair.now.hazard rec.now pair.now.earlier pair.now.later)) }
 {
     for k in 0..earlier.len() {
-        let clash = clash_of_two(alloc, rec, pair, &earlier[k], other)?;
+        let one = touched_at(earlier, k);
+        let clash = clash_of_two(alloc, rec, pair, one, other)?;
         if clash.is_some() {
             return Ok(clash);
         }

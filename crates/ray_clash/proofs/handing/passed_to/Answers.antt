@@ -1,4 +1,4 @@
-use Rattle.std.proofs.Common.{arith}
+use Rattle.std.proofs.Common.{◌+◌, arith}
 use Rattle.ray_causes.proofs.Telling.{status_next}
 use Rattle.ray_clash.proofs.Handed.{going_first, going_next}
 use Rattle.ray_clash.proofs.handing.passed_to.Goals as goal
