@@ -4,9 +4,8 @@ use Rattle.std.specs.Prelude.{nat_lt}
 use Rattle.std.specs.Option.{option_map_or}
 use Rattle.std.proofs.lemmas.Bool.Decides.{nat_tests}
 use Rattle.ray_cmd.specs.declared.command.Command.{Command}
-use Rattle.ray_rules.specs.declared.access_type.AccessType.{AccessType}
 use Rattle.ray_rules.specs.declared.stage.Stage.{Stage}
-use Rattle.ray_rules.specs.Order.{Handed, acts_on, handed_after, handed_after_if, handed_at, not_handed}
+use Rattle.ray_rules.specs.Order.{Handed, acts_on, handed_after_if, not_handed}
 use Rattle.ray_rules.specs.Status.{Status, status_at}
 use Rattle.ray_clash.specs.declared.handing.Asking.{Asking}
 use Rattle.ray_clash.specs.declared.handing.Deed.{Deed}

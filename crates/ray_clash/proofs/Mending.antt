@@ -1,5 +1,5 @@
 -- A barrier that is put in between two commands mends what was missing.
-use Rattle.std.proofs.Common.{◌≡◌, ◌<◌, ◌≤◌, ◌+◌, ◌++◌, ◌∷◌, [], ◌&&◌, ◌||◌, ℕ, zero, suc, Bool, true, false, List, Option, Some, None, length, take, drop, slice_get, refl, sym, ap, subst, ◌∙◌, arith, if◌then◌else◌, ◌-◌}
+use Rattle.std.proofs.Common.{◌≡◌, ◌<◌, ◌≤◌, ◌+◌, ◌∷◌, [], ◌&&◌, ◌||◌, ℕ, zero, suc, Bool, true, false, List, Option, Some, None, length, slice_get, refl, sym, subst, arith, if◌then◌else◌, ◌-◌}
 use Rattle.std.specs.Prelude.{Contains, nat_lt}
 use Rattle.std.proofs.lemmas.Bool.Decides.{nat_tests}
 use Rattle.ray_cmd.specs.declared.command.Command.{Command}
@@ -159,13 +159,14 @@ mends rec i j p from to thing less within long =
     let more = with_command rec p (barrier_between from to) in
     let there = put_at rec p (barrier_between from to) long in
     let so : past (suc p) (j - p) ≡ (j - p) + suc p = past-is (suc p) (j - p) in
-    let far : past (suc p) (j - p) ≡ j + 1 = omega (arith, within, so) in
-    (subst (λ n. is_covered more i from.stage from.access thing n to.stage to.access ≡ true) far
-    (later_pair (takes_write from.stage from.access) (acts_at more thing) more i (suc p) (j - p) to.stage to.access
-    (omega (arith, less)) (covered_there more i p from to thing less there)),
-    subst (λ n. is_ordered_to more i from.stage n to.stage ≡ true) far
-    (later_stage (takes_stage from.stage) always more i (suc p) (j - p) to.stage (omega (arith, less))
-    (ordered_there more i p from to less there)))
+    let far : past (suc p) (j - p) ≡ j + 1 = omega (arith, within, so) in (
+      subst (λ n. is_covered more i from.stage from.access thing n to.stage to.access ≡ true) far
+          (later_pair (takes_write from.stage from.access) (acts_at more thing) more i (suc p) (j - p) to.stage to.access
+          (omega (arith, less)) (covered_there more i p from to thing less there)),
+      subst (λ n. is_ordered_to more i from.stage n to.stage ≡ true) far
+          (later_stage (takes_stage from.stage) always more i (suc p) (j - p) to.stage (omega (arith, less))
+          (ordered_there more i p from to less there)),
+    )
 
 -- the words of one stage, and of one access, are read as its set
 pub words_read : WordsAreRead

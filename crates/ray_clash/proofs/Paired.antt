@@ -1,5 +1,5 @@
 -- An access of a list of touched ones is one of the touches.
-use Rattle.std.proofs.Common.{◌≡◌, ◌<◌, ◌∷◌, [], ℕ, zero, suc, List, length, map, refl, sym, subst, arith, All}
+use Rattle.std.proofs.Common.{◌<◌, ◌∷◌, [], ℕ, zero, suc, List, length, map, refl, sym, subst, arith, All}
 use Rattle.std.specs.Prelude.{slice_index_or}
 use Rattle.std.proofs.lemmas.List.Elements.{All-head, All-tail}
 use Rattle.ray_rules.specs.declared.touch.Touch.{Touch}

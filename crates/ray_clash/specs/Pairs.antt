@@ -12,7 +12,6 @@ use Rattle.ray_clash.specs.declared.clash.Missing.{Missing}
 use Rattle.ray_clash.specs.declared.clash.Missing.TheVariants.{Execution, Availability, Visibility}
 use Rattle.ray_clash.specs.declared.clash.Side.{Side}
 use Rattle.ray_clash.specs.declared.handing.Passed.{Passed}
-use Rattle.ray_clash.specs.declared.pairs.Hazard.{Hazard}
 use Rattle.ray_clash.specs.declared.pairs.Pair.{Pair}
 use Rattle.ray_clash.specs.Clashes.{IsLacking, IsMissing, IsUncovered, later_stage}
 use Rattle.ray_clash.specs.Handing.{reached_at, reaches_some}

@@ -28,11 +28,7 @@ use std::alloc::{AllocError as NoMemory, Global};
 /// # Errors
 ///
 /// For want of memory alone.
-pub fn clash_of(
-    alloc: Global,
-    rec: &Recording,
-    refusal: Refusal,
-) -> Result<Option<Clash>, NoMemory>
+pub fn clash_of(alloc: Global, rec: &Recording, refusal: Refusal) -> Result<Option<Clash>, NoMemory>
     requires refused { rule_refusal (barriers rec.now) rec.now ≡ Some refusal }
     ensures { IfOk result (λ found. IfSome found (λ clash. IsClashAt rec.now refusal clash)) }
 {

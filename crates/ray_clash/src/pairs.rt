@@ -15,7 +15,7 @@ use crate::handing::{Asking, Deed, Passed, passed_to};
 use crate::sharing::shared_by;
 use ray_access::Touched;
 use ray_cmd::Recording;
-use ray_rules::Stage;
+use ray_rules::{AccessType, Stage};
 use std::alloc::{AllocError as NoMemory, Global};
 
 /// A memory hazard, by its rule. (Vulkan, "Memory Dependencies"; own: the last, which is of the
@@ -45,6 +45,15 @@ pub(crate) struct Pair {
     pub(crate) put: u32,
 }
 
+// Two accesses of which nothing was missing: to a thing, and with which accesses. What is missing
+// depends on these alone, so it is asked once for all that come one after the other.
+#[derive(Clone, Copy, Debug)]
+struct Mended {
+    thing: Option<u32>,
+    from: AccessType,
+    to: AccessType,
+}
+
 // By which accesses two commands are at odds: the first that are found.
 pub(crate) fn first_clash(
     alloc: Global,
@@ -63,9 +72,10 @@ pub(crate) fn first_clash(
     ensures { IfOk result (λ found. IfSome found
         (IsClash pair.now.hazard rec.now pair.now.earlier pair.now.later)) }
 {
+    let mut mended = None;
     for k in 0..later.len() {
         let other = touched_at(later, k);
-        let clash = clash_with(alloc, rec, pair, earlier, other)?;
+        let clash = clash_with(alloc, rec, pair, earlier, other, &mut mended)?;
         if clash.is_some() {
             return Ok(clash);
         }
@@ -88,6 +98,7 @@ fn clash_with(
     pair: &Pair,
     earlier: &[Touched],
     other: &Touched,
+    mended: &mut Option<Mended>,
 ) -> Result<Option<Clash>, NoMemory>
     requires pair { IsPairAt rec.now pair.now }
     requires within { pair.now.later ≤ length rec.now }
@@ -101,7 +112,7 @@ fn clash_with(
 {
     for k in 0..earlier.len() {
         let one = touched_at(earlier, k);
-        let clash = clash_of_two(alloc, rec, pair, one, other)?;
+        let clash = clash_of_two(alloc, rec, pair, one, other, mended)?;
         if clash.is_some() {
             return Ok(clash);
         }
@@ -116,6 +127,7 @@ fn clash_of_two(
     pair: &Pair,
     one: &Touched,
     other: &Touched,
+    mended: &mut Option<Mended>,
 ) -> Result<Option<Clash>, NoMemory>
     requires pair { IsPairAt rec.now pair.now }
     requires within { pair.now.later ≤ length rec.now }
@@ -130,6 +142,9 @@ fn clash_of_two(
     let Some(shared) = shared_by(one.range, other.range) else {
         return Ok(None);
     };
+    if is_mended(mended, one, other) {
+        return Ok(None);
+    }
     let from = Side {
         stage: pair.stage,
         access: one.access,
@@ -146,7 +161,24 @@ fn clash_of_two(
             missing,
             put: pair.put,
         })),
-        None => Ok(None),
+        None => {
+            *mended = Some(Mended {
+                thing: one.buffer,
+                from: one.access,
+                to: other.access,
+            });
+            Ok(None)
+        }
+    }
+}
+
+// Whether nothing was missing of two accesses like these when that was asked last.
+fn is_mended(mended: &Option<Mended>, one: &Touched, other: &Touched) -> bool {
+    match mended {
+        Some(last) => {
+            last.thing == one.buffer && last.from == one.access && last.to == other.access
+        }
+        None => false,
     }
 }
 

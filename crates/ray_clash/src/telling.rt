@@ -36,12 +36,7 @@ fn joined(alloc: Global, first: &str, second: &str, third: &str) -> Result<Strin
 }
 
 // The two accesses.
-fn sides_text(
-    alloc: Global,
-    earlier: u32,
-    later: u32,
-    clash: &Clash,
-) -> Result<String, NoMemory>
+fn sides_text(alloc: Global, earlier: u32, later: u32, clash: &Clash) -> Result<String, NoMemory>
     ensures { IfOk result (λ text. string_bytes text ≡ sides_text earlier later clash.now) }
 {
     let first = side_text(alloc, earlier, clash.earlier)?;
@@ -53,7 +48,12 @@ fn sides_text(
 fn side_text(alloc: Global, number: u32, side: Side) -> Result<String, NoMemory>
     ensures { IfOk result (λ text. string_bytes text ≡ side_text number side) }
 {
-    access_text(alloc, number, stage_word(side.stage), access_word(side.access))
+    access_text(
+        alloc,
+        number,
+        stage_word(side.stage),
+        access_word(side.access),
+    )
 }
 
 // The same of a command, and of the words of its stage and its access.
@@ -87,9 +87,7 @@ fn shared_text(alloc: Global, shared: Shared) -> Result<String, NoMemory>
 {
     match shared {
         Shared::Bytes(part) => part_text(alloc, part),
-        Shared::Structure(made) => {
-            format!(in alloc; "the structure that command {made} made")
-        }
+        Shared::Structure(made) => { format!(in alloc; "the structure that command {made} made") }
         Shared::Scratch(part) => scratch_text(alloc, part),
     }
 }
