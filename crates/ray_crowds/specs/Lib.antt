@@ -1,0 +1,4 @@
+pub mod Counts
+pub mod Crowds
+pub mod Pointers
+pub mod Rules
