@@ -7,6 +7,7 @@ use Rattle.ray_rules.specs.Hazards.{status_at}
 use Rattle.ray_rules.specs.Status.{Status}
 use Rattle.ray_grounds.specs.Asking.{asks_wait}
 use Rattle.ray_grounds.specs.Facts.{IsFact}
+use Rattle.ray_grounds.specs.Origins.{IsOrigin}
 use Rattle.ray_grounds.specs.Submits.{last_submit}
 use Rattle.ray_grounds.specs.declared.grounds.Ground.{Ground}
 use Rattle.ray_grounds.specs.declared.grounds.Ground.TheVariants as grounds
@@ -14,6 +15,7 @@ use Rattle.ray_grounds.specs.declared.grounds.Ground.TheVariants as grounds
 -- what is told of command number i, where a status stands, is so
 abbrev pub IsGround : List Command → ℕ → Status → Command → Rule → Ground → Type 0
 IsGround rec i z c rule (grounds.Standing fact) = IsFact z c rule fact
+IsGround rec i z c rule (grounds.Built origin) = IsOrigin rec z c rule origin
 IsGround rec i z c rule (grounds.InFlight submit) =
     (asks_wait rule c ≡ true) × ((z.pending ≡ true) × (last_submit rec i ≡ Some submit))
 

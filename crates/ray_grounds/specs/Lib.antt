@@ -1,4 +1,6 @@
 pub mod Asking
+pub mod Entries
 pub mod Facts
 pub mod Grounds
+pub mod Origins
 pub mod Submits

@@ -10,4 +10,7 @@ pub enum Fact {
     Unbuilt(Member, u32, u32),
     /// The command needs the command buffer in the first of these states, and it is in the second.
     WrongPhase(Phase, Phase),
+    /// The buffer of this id, which the command destroys, holds the structure of this id, which the
+    /// command of this number made.
+    Held(u32, u32, u32),
 }

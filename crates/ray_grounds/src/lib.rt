@@ -3,7 +3,8 @@
 //!
 //! The layer above uses [`ground_of`], whose clause says by `IsGroundAt` of `specs/Grounds` that
 //! what it tells is so in the recording: a [`Fact`] of the command and of what stands where it does
-//! (`specs/Facts`), or the command that submits last before it (`specs/Submits`). A member of the
+//! (`specs/Facts`), an [`Origin`] of what it reads (`specs/Origins`), or the command that submits last
+//! before it (`specs/Submits`). A member of the
 //! command is a `Member` of ray_causes, and so is its text.
 //!
 //! It stands on ray_causes (members), ray_status (what stands where) and ray_rules (the
@@ -11,10 +12,16 @@
 //! tested (`testing`).
 #![tactic(auto)]
 
+mod asked;
+mod entries;
 mod fact;
 mod finding;
 mod grounds;
+mod held;
+mod lacking;
 mod listing;
+mod origin;
+mod origins;
 mod phases;
 mod submits;
 mod testing;
@@ -23,4 +30,5 @@ mod unbuilt;
 pub use crate::fact::Fact;
 pub use crate::finding::ground_of;
 pub use crate::grounds::Ground;
+pub use crate::origin::{Entry, Lack, Origin, Stale};
 pub use std::alloc::AllocError as NoMemory;

@@ -2,7 +2,9 @@ ghost use Rattle.std.specs.Prelude.{◌≤◌, IfSome, length};
 ghost use Rattle.ray_cmd.specs.declared.rule.Rule.TheVariants.{V};
 ghost use Rattle.ray_grounds.specs.Grounds.{IsGround};
 
+use crate::entries::stale_at;
 use crate::grounds::Ground;
+use crate::held::held_at;
 use crate::testing::ground_at;
 use ray_causes::{Member, Name, info_at};
 use ray_cmd::{Command, Place, Recording, Refusal, Rule};
@@ -71,7 +73,8 @@ fn of_own(
     None
 }
 
-// The same of its parts: of the info of the place, and of the items of a list.
+// The same of its parts: of the info of the place, of the items of a list, of the entry of the place
+// of what a traced top was built by, and of a buffer that is destroyed.
 fn of_parts(
     rec: &Recording,
     i: u32,
@@ -97,7 +100,30 @@ fn of_parts(
             let count = structures.as_slice().len();
             of_items(rec, i, status, command, number, Name::Structures, count)
         }
+        Command::Trace { .. } => match place {
+            Place::Part(entry) => of_entry(rec, i, status, command, number, entry),
+            _ => None,
+        },
+        Command::Destroy { .. } => of_buffer(rec, i, status, command, number),
         _ => None,
+    }
+}
+
+// The same of the buffer that a command destroys.
+fn of_buffer(
+    rec: &Recording,
+    i: u32,
+    status: &Status,
+    command: &Command,
+    number: u8,
+) -> Option<Ground>
+    requires { i ≤ length rec.now }
+    ensures { IfSome result
+        (λ basis. IsGround rec.now i status.now command.now (V number) basis) }
+{
+    match held_at(rec, i, status, command, number) {
+        Some(fact) => Some(Ground::Standing(fact)),
+        None => None,
     }
 }
 
@@ -123,6 +149,24 @@ fn of_items(
         }
     }
     None
+}
+
+// The same of an entry of `uses` by which the traced top was built.
+fn of_entry(
+    rec: &Recording,
+    i: u32,
+    status: &Status,
+    command: &Command,
+    number: u8,
+    entry: u32,
+) -> Option<Ground>
+    ensures { IfSome result
+        (λ basis. IsGround rec.now i status.now command.now (V number) basis) }
+{
+    match stale_at(rec, status, command, number, entry) {
+        Some(origin) => Some(Ground::Built(origin)),
+        None => None,
+    }
 }
 
 // The same of an info.

@@ -5,6 +5,7 @@ ghost use Rattle.ray_grounds.specs.Grounds.{IsGround};
 
 use crate::fact::Fact;
 use crate::grounds::Ground;
+use crate::origins::origin_at;
 use crate::phases::wrong_phase;
 use crate::submits::in_flight;
 use crate::unbuilt::unbuilt;
@@ -27,6 +28,25 @@ pub(crate) fn ground_at(
 {
     match fact_at(status, command, number, member) {
         Some(fact) => Some(Ground::Standing(fact)),
+        None => built_or_submitted(rec, i, status, command, number, member),
+    }
+}
+
+// The same by what something was built, or by what was submitted.
+fn built_or_submitted(
+    rec: &Recording,
+    i: u32,
+    status: &Status,
+    command: &Command,
+    number: u8,
+    member: Member,
+) -> Option<Ground>
+    requires { i ≤ length rec.now }
+    ensures { IfSome result
+        (λ basis. IsGround rec.now i status.now command.now (V number) basis) }
+{
+    match origin_at(rec, status, command, number, member) {
+        Some(origin) => Some(Ground::Built(origin)),
         None => in_flight(rec, i, status, command, number, member),
     }
 }

@@ -1,4 +1,9 @@
+pub mod Crowds
 pub mod Grounds
+pub mod Limits
 pub mod Lines
+pub mod Misfits
+pub mod Numbers
 pub mod Reasons
 pub mod Told
+pub mod Words

@@ -16,6 +16,9 @@ use Rattle.ray_shape.specs.Faults.{IsShapeFault}
 use Rattle.ray_shape.specs.Wrong.{stands}
 use Rattle.ray_causes.specs.Causes.{IsCauseAt}
 use Rattle.ray_grounds.specs.Grounds.{IsGroundAt}
+use Rattle.ray_crowds.specs.Crowds.{IsCrowdAt}
+use Rattle.ray_kinds.specs.Misfits.{IsMisfitAt}
+use Rattle.ray_limits.specs.Limits.{IsLimitAt}
 use Rattle.ray_why.specs.declared.reasons.Broken.{Broken}
 use Rattle.ray_why.specs.declared.reasons.Misshapen.{Misshapen}
 use Rattle.ray_why.specs.declared.reasons.Unread.{Unread}
@@ -39,6 +42,9 @@ pub record IsBroken (broken : Broken) (commands : List Command) : Type 0 where
   pub refusal : rule_refusal (barriers commands) commands ≡ Some broken.refusal
   pub cause : IfSome broken.cause (λ cause. IsCauseAt commands broken.refusal cause)
   pub grounds : IfSome broken.grounds (λ basis. IsGroundAt commands broken.refusal basis)
+  pub limits : IfSome broken.limits (λ limit. IsLimitAt commands broken.refusal limit)
+  pub misfits : IfSome broken.misfits (λ misfit. IsMisfitAt commands broken.refusal misfit)
+  pub crowds : IfSome broken.crowds (λ crowd. IsCrowdAt commands broken.refusal crowd)
 
 -- what the rules on the recording alone say of it
 abbrev pub IsOfRules : Why → List Command → Type 0

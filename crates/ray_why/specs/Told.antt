@@ -1,16 +1,18 @@
 -- What is told below the first line. (Own.)
 use Rattle.std.specs.Prelude.{ℕ, List, [], Option, ◌++◌, codes, decimal}
 use Rattle.std.specs.Option.{option_map_or}
-use Rattle.ray_rules.specs.declared.byte_range.ByteRange.{ByteRange}
 use Rattle.ray_causes.specs.declared.cause.BufferUse.{BufferUse}
 use Rattle.ray_causes.specs.declared.cause.BufferUse.TheVariants as uses
 use Rattle.ray_causes.specs.declared.cause.Cause.{Cause}
 use Rattle.ray_causes.specs.declared.cause.Cause.TheVariants as causes
-use Rattle.ray_causes.specs.declared.cause.Multiple.{Multiple}
 use Rattle.ray_causes.specs.declared.member.Member.{Member}
 use Rattle.ray_causes.specs.declared.member.Member.TheVariants as members
 use Rattle.ray_causes.specs.Pointers.{member_text}
+use Rattle.ray_why.specs.Crowds.{crowd_told}
 use Rattle.ray_why.specs.Grounds.{ground_told}
+use Rattle.ray_why.specs.Limits.{limit_told}
+use Rattle.ray_why.specs.Misfits.{misfit_told}
+use Rattle.ray_why.specs.Numbers.{multiple_text, outside_text}
 use Rattle.ray_why.specs.declared.reasons.Broken.{Broken}
 use Rattle.ray_why.specs.declared.reasons.Why.{Why}
 use Rattle.ray_why.specs.declared.reasons.Why.TheVariants as whys
@@ -45,18 +47,6 @@ use_word uses.Structure = codes "structure"
 abbrev pub lacking_text : ℕ → List ℕ → List ℕ
 lacking_text id word = codes "buffer " ++ (decimal id ++ (codes ", whose usage lacks " ++ word))
 
--- a range, and the size of its buffer
-abbrev pub outside_text : ByteRange → ℕ → List ℕ
-outside_text range size =
-    decimal range.size
-    ++ (codes " bytes from byte "
-    ++ (decimal range.from
-    ++ (codes " on of buffer " ++ (decimal range.buffer ++ (codes ", whose size is " ++ decimal size)))))
-
--- a number, and of what it is no multiple
-abbrev pub multiple_text : Multiple → List ℕ
-multiple_text multiple = decimal multiple.number ++ (codes ", which is no multiple of " ++ decimal multiple.of)
-
 -- what was compared
 abbrev pub compared : Cause → List ℕ
 compared (causes.NoBuffer member id) = codes "no buffer " ++ (decimal id ++ codes " is live")
@@ -76,10 +66,17 @@ cause_text i cause =
 abbrev pub cause_told : ℕ → Option Cause → List ℕ
 cause_told i cause = option_map_or (cause_text i) cause []
 
+-- what is told by numbers, kinds and flags of the command for which a recording is refused
+abbrev pub further_told : Broken → List ℕ
+further_told broken =
+    limit_told broken.refusal.command broken.limits
+    ++ (misfit_told broken.refusal.command broken.misfits ++ crowd_told broken.refusal.command broken.crowds)
+
 -- what is told of the command for which a recording is refused
 abbrev pub rule_told : Broken → List ℕ
 rule_told broken =
-    cause_told broken.refusal.command broken.cause ++ ground_told broken.refusal.command broken.grounds
+    cause_told broken.refusal.command broken.cause
+    ++ (ground_told broken.refusal.command broken.grounds ++ further_told broken)
 
 -- what is told last of why a recording is refused
 abbrev pub told_last : Why → List ℕ

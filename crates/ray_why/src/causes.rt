@@ -1,9 +1,9 @@
 ghost use Rattle.std.specs.Prelude.{◌≡◌, IfOk, string_bytes};
 ghost use Rattle.ray_why.specs.Told.{cause_text, compared, lacking_text, member_of};
-ghost use Rattle.ray_why.specs.Told.{multiple_text, outside_text, use_word};
+ghost use Rattle.ray_why.specs.Told.{use_word};
 
-use ray_causes::{BufferUse, Cause, Member, Multiple, member_text};
-use ray_rules::ByteRange;
+use crate::numbers::{multiple_text, outside_text};
+use ray_causes::{BufferUse, Cause, Member, member_text};
 use std::alloc::{AllocError as NoMemory, Global};
 
 // What is told of that by which a command breaks a static rule: the member, and what was compared.
@@ -57,25 +57,6 @@ fn lacking_text(alloc: Global, id: u32, word: &str) -> Result<String, NoMemory>
     ensures { IfOk result (λ text. string_bytes text ≡ lacking_text id word.now) }
 {
     format!(in alloc; "buffer {id}, whose usage lacks {word}")
-}
-
-// A range that isn't whole within its buffer.
-fn outside_text(alloc: Global, range: ByteRange, size: u64) -> Result<String, NoMemory>
-    ensures { IfOk result (λ text. string_bytes text ≡ outside_text range size) }
-{
-    let count = range.size;
-    let from = range.from;
-    let buffer = range.buffer;
-    format!(in alloc; "{count} bytes from byte {from} on of buffer {buffer}, whose size is {size}")
-}
-
-// A number that isn't the multiple that it has to be.
-fn multiple_text(alloc: Global, multiple: Multiple) -> Result<String, NoMemory>
-    ensures { IfOk result (λ text. string_bytes text ≡ multiple_text multiple) }
-{
-    let number = multiple.number;
-    let of = multiple.of;
-    format!(in alloc; "{number}, which is no multiple of {of}")
 }
 
 // A use, as a recording writes it.

@@ -1,10 +1,11 @@
 ghost use Rattle.std.specs.Prelude.{◌≡◌, IfOk, string_bytes};
 ghost use Rattle.ray_why.specs.Grounds.{fact_member, fact_text, flight_text, ground_member};
 ghost use Rattle.ray_why.specs.Grounds.{ground_text, ground_words, phase_word, phases_text};
-ghost use Rattle.ray_why.specs.Grounds.{unbuilt_text};
+ghost use Rattle.ray_why.specs.Grounds.{held_text, origin_member, unbuilt_text};
 
+use crate::origins::origin_text;
 use ray_causes::{Member, Name, member_text};
-use ray_grounds::{Fact, Ground};
+use ray_grounds::{Fact, Ground, Origin};
 use ray_rules::Phase;
 use std::alloc::{AllocError as NoMemory, Global};
 
@@ -23,6 +24,7 @@ fn ground_member(basis: Ground) -> Member
 {
     match basis {
         Ground::Standing(fact) => fact_member(fact),
+        Ground::Built(origin) => origin_member(origin),
         Ground::InFlight(_) => Member::Own(Name::Op),
     }
 }
@@ -34,6 +36,17 @@ fn fact_member(fact: Fact) -> Member
     match fact {
         Fact::Unbuilt(member, _, _) => member,
         Fact::WrongPhase(_, _) => Member::Own(Name::Op),
+        Fact::Held(_, _, _) => Member::Own(Name::Id),
+    }
+}
+
+// The same of what something was built by.
+fn origin_member(origin: Origin) -> Member
+    ensures { result ≡ origin_member origin }
+{
+    match origin {
+        Origin::Lacking(member, _, _, _) => member,
+        Origin::Stale(_, _, _) => Member::Own(Name::Top),
     }
 }
 
@@ -43,6 +56,7 @@ fn ground_words(alloc: Global, basis: Ground) -> Result<String, NoMemory>
 {
     match basis {
         Ground::Standing(fact) => fact_text(alloc, fact),
+        Ground::Built(origin) => origin_text(alloc, origin),
         Ground::InFlight(submit) => flight_text(alloc, submit),
     }
 }
@@ -63,7 +77,15 @@ fn fact_text(alloc: Global, fact: Fact) -> Result<String, NoMemory>
         Fact::WrongPhase(needed, found) => {
             phases_text(alloc, phase_word(found), phase_word(needed))
         }
+        Fact::Held(buffer, id, made) => held_text(alloc, buffer, id, made),
     }
+}
+
+// A buffer, and a structure that it holds.
+fn held_text(alloc: Global, buffer: u32, id: u32, made: u32) -> Result<String, NoMemory>
+    ensures { IfOk result (λ text. string_bytes text ≡ held_text buffer id made) }
+{
+    format!(in alloc; "buffer {buffer} holds structure {id}, which command {made} made")
 }
 
 // A structure that isn't built.

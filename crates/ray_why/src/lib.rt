@@ -7,18 +7,25 @@
 //! rule it tells the member that breaks it, and what was compared.
 //!
 //! It stands on ray_cmd (the recording), ray_shape (the place that is wrong), ray_rules (the
-//! definitions of the rules), ray_causes and ray_grounds (by what a static rule is broken); who
-//! decides these rules is a [`Rules`] that the layer above brings.
+//! definitions of the rules), and ray_causes, ray_grounds, ray_limits, ray_kinds and ray_crowds (by
+//! what a static rule is broken); who decides these rules is a [`Rules`] that the layer above
+//! brings.
 #![tactic(auto)]
 
 mod causes;
+mod crowds;
 mod grounds;
+mod limits;
 mod line;
+mod misfits;
+mod numbers;
+mod origins;
 mod reasons;
 mod rules;
 mod sentences;
 mod telling;
 mod wanted;
+mod words;
 
 pub use crate::line::first_line;
 pub use crate::reasons::{Broken, Misshapen, Why, why_of};

@@ -10,7 +10,10 @@ ghost use Rattle.ray_why.specs.Reasons.{IsOfRules, IsWhy, IsWhyOf};
 use crate::rules::Rules;
 use ray_causes::{Cause, cause_of};
 use ray_cmd::{Recording, RecordingFault, Refusal, recording_of};
+use ray_crowds::{Crowd, crowd_of};
 use ray_grounds::{Ground, ground_of};
+use ray_kinds::{Misfit, misfit_of};
+use ray_limits::{Limit, limit_of};
 use ray_shape::{ShapeFault, Step, shape_fault, value_at};
 use serde_json::{Error, Value};
 use std::alloc::{AllocError as NoMemory, Global};
@@ -35,8 +38,14 @@ pub struct Broken {
     pub refusal: Refusal,
     /// By what it breaks a static rule, where that is told: of V1, V3, V4, V5 and V12.
     pub cause: Option<Cause>,
-    /// The same of V13, V17, V20, V28, V29 and V30.
+    /// The same of V13, V14, V17, V18, V20, V21, V28, V29 and V30.
     pub grounds: Option<Ground>,
+    /// The same of V2, V6, V11 and V31.
+    pub limits: Option<Limit>,
+    /// The same of V7, V9, V19, V22 and V24.
+    pub misfits: Option<Misfit>,
+    /// The same of V10 and V23.
+    pub crowds: Option<Crowd>,
 }
 
 /// The first command that has no shape of a command. (Own.)
@@ -135,10 +144,16 @@ fn refused_by(alloc: Global, recording: &Recording, refusal: Refusal) -> Result<
 {
     let cause = cause_of(alloc, recording, refusal)?;
     let grounds = ground_of(alloc, recording, refusal)?;
+    let limits = limit_of(alloc, recording, refusal)?;
+    let misfits = misfit_of(alloc, recording, refusal)?;
+    let crowds = crowd_of(alloc, recording, refusal)?;
     Ok(Why::Refused(Broken {
         refusal,
         cause,
         grounds,
+        limits,
+        misfits,
+        crowds,
     }))
 }
 

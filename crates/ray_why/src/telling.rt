@@ -1,17 +1,26 @@
 ghost use Rattle.std.specs.Prelude.{◌≡◌, ◌++◌, IfOk, List, codes, string_bytes, ℕ};
 ghost use Rattle.ray_shape.specs.Pointer.{pointer_of};
 ghost use Rattle.ray_why.specs.Lines.{line_of};
+ghost use Rattle.ray_why.specs.Crowds.{crowd_told};
 ghost use Rattle.ray_why.specs.Grounds.{ground_told};
-ghost use Rattle.ray_why.specs.Told.{cause_told, place_of, rule_told, told_last};
+ghost use Rattle.ray_why.specs.Limits.{limit_told};
+ghost use Rattle.ray_why.specs.Misfits.{misfit_told};
+ghost use Rattle.ray_why.specs.Told.{cause_told, further_told, place_of, rule_told, told_last};
 
 use crate::causes::cause_text;
+use crate::crowds::crowd_text;
 use crate::grounds::ground_text;
+use crate::limits::limit_text;
 use crate::line::first_line;
+use crate::misfits::misfit_text;
 use crate::reasons::{Broken, Misshapen, Why};
 use crate::sentences::sentence;
 use crate::wanted::wanted_words;
 use ray_causes::Cause;
+use ray_crowds::Crowd;
 use ray_grounds::Ground;
+use ray_kinds::Misfit;
+use ray_limits::Limit;
 use ray_shape::{ShapeFault, Wrong, pointer_text};
 use std::alloc::{AllocError as NoMemory, Global};
 
@@ -67,14 +76,18 @@ fn by_rule(alloc: Global, broken: &Broken) -> Result<String, NoMemory>
 {
     let cause = cause_of(alloc, broken.refusal.command, broken.cause)?;
     let ground = ground_of(alloc, broken.refusal.command, broken.grounds)?;
-    both(alloc, cause.as_str(), ground.as_str())
+    let further = further(alloc, broken)?;
+    joined(alloc, cause.as_str(), ground.as_str(), further.as_str())
 }
 
-// Two texts, one after the other.
-fn both(alloc: Global, first: &str, second: &str) -> Result<String, NoMemory>
-    ensures { IfOk result (λ text. string_bytes text ≡ first.now ++ second.now) }
+// The same by numbers, kinds and flags.
+fn further(alloc: Global, broken: &Broken) -> Result<String, NoMemory>
+    ensures { IfOk result (λ text. string_bytes text ≡ further_told broken.now) }
 {
-    format!(in alloc; "{first}{second}")
+    let limit = limit_of(alloc, broken.refusal.command, broken.limits)?;
+    let misfit = misfit_of(alloc, broken.refusal.command, broken.misfits)?;
+    let crowd = crowd_of(alloc, broken.refusal.command, broken.crowds)?;
+    joined(alloc, limit.as_str(), misfit.as_str(), crowd.as_str())
 }
 
 // The same of a command, where a cause is known.
@@ -93,6 +106,36 @@ fn ground_of(alloc: Global, command: u32, basis: Option<Ground>) -> Result<Strin
 {
     match basis {
         Some(basis) => ground_text(alloc, command, basis),
+        None => Ok(String::new(alloc)),
+    }
+}
+
+// The same of a limit, where one is known.
+fn limit_of(alloc: Global, command: u32, limit: Option<Limit>) -> Result<String, NoMemory>
+    ensures { IfOk result (λ text. string_bytes text ≡ limit_told command limit) }
+{
+    match limit {
+        Some(limit) => limit_text(alloc, command, limit),
+        None => Ok(String::new(alloc)),
+    }
+}
+
+// The same of what doesn't fit, where that is known.
+fn misfit_of(alloc: Global, command: u32, misfit: Option<Misfit>) -> Result<String, NoMemory>
+    ensures { IfOk result (λ text. string_bytes text ≡ misfit_told command misfit) }
+{
+    match misfit {
+        Some(misfit) => misfit_text(alloc, command, misfit),
+        None => Ok(String::new(alloc)),
+    }
+}
+
+// The same of that of which there is too much, where it is known.
+fn crowd_of(alloc: Global, command: u32, crowd: Option<Crowd>) -> Result<String, NoMemory>
+    ensures { IfOk result (λ text. string_bytes text ≡ crowd_told command crowd) }
+{
+    match crowd {
+        Some(crowd) => crowd_text(alloc, command, crowd),
         None => Ok(String::new(alloc)),
     }
 }
