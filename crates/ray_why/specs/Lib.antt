@@ -1,3 +1,4 @@
+pub mod Clashes
 pub mod Crowds
 pub mod Grounds
 pub mod Limits

@@ -16,6 +16,7 @@ use Rattle.ray_shape.specs.Faults.{IsShapeFault}
 use Rattle.ray_shape.specs.Wrong.{stands}
 use Rattle.ray_causes.specs.Causes.{IsCauseAt}
 use Rattle.ray_grounds.specs.Grounds.{IsGroundAt}
+use Rattle.ray_clash.specs.Clashes.{IsClashAt}
 use Rattle.ray_crowds.specs.Crowds.{IsCrowdAt}
 use Rattle.ray_kinds.specs.Misfits.{IsMisfitAt}
 use Rattle.ray_limits.specs.Limits.{IsLimitAt}
@@ -45,6 +46,7 @@ pub record IsBroken (broken : Broken) (commands : List Command) : Type 0 where
   pub limits : IfSome broken.limits (λ limit. IsLimitAt commands broken.refusal limit)
   pub misfits : IfSome broken.misfits (λ misfit. IsMisfitAt commands broken.refusal misfit)
   pub crowds : IfSome broken.crowds (λ crowd. IsCrowdAt commands broken.refusal crowd)
+  pub clash : IfSome broken.clash (λ clash. IsClashAt commands broken.refusal clash)
 
 -- what the rules on the recording alone say of it
 abbrev pub IsOfRules : Why → List Command → Type 0

@@ -8,6 +8,7 @@ use Rattle.ray_causes.specs.declared.cause.Cause.TheVariants as causes
 use Rattle.ray_causes.specs.declared.member.Member.{Member}
 use Rattle.ray_causes.specs.declared.member.Member.TheVariants as members
 use Rattle.ray_causes.specs.Pointers.{member_text}
+use Rattle.ray_why.specs.Clashes.{clash_told}
 use Rattle.ray_why.specs.Crowds.{crowd_told}
 use Rattle.ray_why.specs.Grounds.{ground_told}
 use Rattle.ray_why.specs.Limits.{limit_told}
@@ -72,11 +73,15 @@ further_told broken =
     limit_told broken.refusal.command broken.limits
     ++ (misfit_told broken.refusal.command broken.misfits ++ crowd_told broken.refusal.command broken.crowds)
 
--- what is told of the command for which a recording is refused
-abbrev pub rule_told : Broken → List ℕ
-rule_told broken =
+-- the same by all that static rules compare
+abbrev pub static_told : Broken → List ℕ
+static_told broken =
     cause_told broken.refusal.command broken.cause
     ++ (ground_told broken.refusal.command broken.grounds ++ further_told broken)
+
+-- what is told of the command for which a recording is refused
+abbrev pub rule_told : Broken → List ℕ
+rule_told broken = static_told broken ++ clash_told broken.refusal broken.clash
 
 -- what is told last of why a recording is refused
 abbrev pub told_last : Why → List ℕ

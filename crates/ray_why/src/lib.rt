@@ -4,15 +4,17 @@
 //! that of a check of the same bytes, by `recording_of` of ray_cmd and `rule_refusal` of ray_rules,
 //! and of a command without a shape which place is wrong; and [`told`], which makes a text of it
 //! whose first line is the one that `vkray check` writes (`line_of` of `specs/Lines`). Of a static
-//! rule it tells the member that breaks it, and what was compared.
+//! rule it tells the member that breaks it, and what was compared; of a hazard both accesses, what
+//! they share, what is missing and a barrier that mends it.
 //!
 //! It stands on ray_cmd (the recording), ray_shape (the place that is wrong), ray_rules (the
 //! definitions of the rules), and ray_causes, ray_grounds, ray_limits, ray_kinds and ray_crowds (by
-//! what a static rule is broken); who decides these rules is a [`Rules`] that the layer above
+//! what a static rule is broken), and ray_clash (by what a hazard is); who decides these rules is a [`Rules`] that the layer above
 //! brings.
 #![tactic(auto)]
 
 mod causes;
+mod clashes;
 mod crowds;
 mod grounds;
 mod limits;

@@ -9,6 +9,7 @@ ghost use Rattle.ray_why.specs.Reasons.{IsOfRules, IsWhy, IsWhyOf};
 
 use crate::rules::Rules;
 use ray_causes::{Cause, cause_of};
+use ray_clash::{Clash, clash_of};
 use ray_cmd::{Recording, RecordingFault, Refusal, recording_of};
 use ray_crowds::{Crowd, crowd_of};
 use ray_grounds::{Ground, ground_of};
@@ -46,6 +47,8 @@ pub struct Broken {
     pub misfits: Option<Misfit>,
     /// The same of V10 and V23.
     pub crowds: Option<Crowd>,
+    /// By which accesses it is at odds with an earlier command: of V25, V26, V27 and V32.
+    pub clash: Option<Clash>,
 }
 
 /// The first command that has no shape of a command. (Own.)
@@ -147,6 +150,7 @@ fn refused_by(alloc: Global, recording: &Recording, refusal: Refusal) -> Result<
     let limits = limit_of(alloc, recording, refusal)?;
     let misfits = misfit_of(alloc, recording, refusal)?;
     let crowds = crowd_of(alloc, recording, refusal)?;
+    let clash = clash_of(alloc, recording, refusal)?;
     Ok(Why::Refused(Broken {
         refusal,
         cause,
@@ -154,6 +158,7 @@ fn refused_by(alloc: Global, recording: &Recording, refusal: Refusal) -> Result<
         limits,
         misfits,
         crowds,
+        clash,
     }))
 }
 

@@ -5,9 +5,10 @@ ghost use Rattle.ray_why.specs.Crowds.{crowd_told};
 ghost use Rattle.ray_why.specs.Grounds.{ground_told};
 ghost use Rattle.ray_why.specs.Limits.{limit_told};
 ghost use Rattle.ray_why.specs.Misfits.{misfit_told};
-ghost use Rattle.ray_why.specs.Told.{cause_told, further_told, place_of, rule_told, told_last};
+ghost use Rattle.ray_why.specs.Told.{cause_told, further_told, place_of, rule_told, static_told, told_last};
 
 use crate::causes::cause_text;
+use crate::clashes::clash_of;
 use crate::crowds::crowd_text;
 use crate::grounds::ground_text;
 use crate::limits::limit_text;
@@ -73,6 +74,22 @@ fn causes_of(alloc: Global, why: &Why) -> Result<String, NoMemory>
 // The same of the command for which a recording is refused.
 fn by_rule(alloc: Global, broken: &Broken) -> Result<String, NoMemory>
     ensures { IfOk result (λ text. string_bytes text ≡ rule_told broken.now) }
+{
+    let static_text = by_static_rule(alloc, broken)?;
+    let clash = clash_of(alloc, broken.refusal, &broken.clash)?;
+    both(alloc, static_text.as_str(), clash.as_str())
+}
+
+// Two texts, one after the other.
+fn both(alloc: Global, first: &str, second: &str) -> Result<String, NoMemory>
+    ensures { IfOk result (λ text. string_bytes text ≡ first.now ++ second.now) }
+{
+    format!(in alloc; "{first}{second}")
+}
+
+// The same by what a static rule compares.
+fn by_static_rule(alloc: Global, broken: &Broken) -> Result<String, NoMemory>
+    ensures { IfOk result (λ text. string_bytes text ≡ static_told broken.now) }
 {
     let cause = cause_of(alloc, broken.refusal.command, broken.cause)?;
     let ground = ground_of(alloc, broken.refusal.command, broken.grounds)?;
