@@ -1,7 +1,6 @@
 use Rattle.std.proofs.Common.{◌≡◌, ◌∙◌, ◌+◌, Some, None, ap, drop, subst, sym}
 use Rattle.std.specs.Prelude.{IfNone}
 use Rattle.ray_rules.specs.Refusals.{AreKept, static_refusal_from, static_refusal_of, static_table}
-use Rattle.ray_rules.specs.Sources.{v21}
 use Rattle.ray_valid.specs.Parts.{AreFresh}
 use Rattle.ray_valid.proofs.Going.{stops, goes_on, not_some}
 use Rattle.ray_valid.proofs.Staying.{v21-kept}
