@@ -1,4 +1,5 @@
 pub mod Clashes
+pub mod Conflicts
 pub mod Crowds
 pub mod Grounds
 pub mod Limits
@@ -7,4 +8,5 @@ pub mod Misfits
 pub mod Numbers
 pub mod Reasons
 pub mod Told
+pub mod Updates
 pub mod Words

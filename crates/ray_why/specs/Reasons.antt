@@ -17,9 +17,11 @@ use Rattle.ray_shape.specs.Wrong.{stands}
 use Rattle.ray_causes.specs.Causes.{IsCauseAt}
 use Rattle.ray_grounds.specs.Grounds.{IsGroundAt}
 use Rattle.ray_clash.specs.Clashes.{IsClashAt}
+use Rattle.ray_conflicts.specs.Conflicts.{IsConflictAt}
 use Rattle.ray_crowds.specs.Crowds.{IsCrowdAt}
 use Rattle.ray_kinds.specs.Misfits.{IsMisfitAt}
 use Rattle.ray_limits.specs.Limits.{IsLimitAt}
+use Rattle.ray_updates.specs.Changes.{IsUpdateAt}
 use Rattle.ray_why.specs.declared.reasons.Broken.{Broken}
 use Rattle.ray_why.specs.declared.reasons.Misshapen.{Misshapen}
 use Rattle.ray_why.specs.declared.reasons.Unread.{Unread}
@@ -47,6 +49,8 @@ pub record IsBroken (broken : Broken) (commands : List Command) : Type 0 where
   pub misfits : IfSome broken.misfits (λ misfit. IsMisfitAt commands broken.refusal misfit)
   pub crowds : IfSome broken.crowds (λ crowd. IsCrowdAt commands broken.refusal crowd)
   pub clash : IfSome broken.clash (λ clash. IsClashAt commands broken.refusal clash)
+  pub updates : IfSome broken.updates (λ update. IsUpdateAt commands broken.refusal update)
+  pub conflicts : IfSome broken.conflicts (λ conflict. IsConflictAt commands broken.refusal conflict)
 
 -- what the rules on the recording alone say of it
 abbrev pub IsOfRules : Why → List Command → Type 0

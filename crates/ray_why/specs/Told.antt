@@ -9,11 +9,13 @@ use Rattle.ray_causes.specs.declared.member.Member.{Member}
 use Rattle.ray_causes.specs.declared.member.Member.TheVariants as members
 use Rattle.ray_causes.specs.Pointers.{member_text}
 use Rattle.ray_why.specs.Clashes.{clash_told}
+use Rattle.ray_why.specs.Conflicts.{conflict_told}
 use Rattle.ray_why.specs.Crowds.{crowd_told}
 use Rattle.ray_why.specs.Grounds.{ground_told}
 use Rattle.ray_why.specs.Limits.{limit_told}
 use Rattle.ray_why.specs.Misfits.{misfit_told}
 use Rattle.ray_why.specs.Numbers.{multiple_text, outside_text}
+use Rattle.ray_why.specs.Updates.{update_told}
 use Rattle.ray_why.specs.declared.reasons.Broken.{Broken}
 use Rattle.ray_why.specs.declared.reasons.Why.{Why}
 use Rattle.ray_why.specs.declared.reasons.Why.TheVariants as whys
@@ -67,11 +69,19 @@ cause_text i cause =
 abbrev pub cause_told : ℕ → Option Cause → List ℕ
 cause_told i cause = option_map_or (cause_text i) cause []
 
+-- what is told by counts, by the source of an update and by parts that conflict of the command for
+-- which a recording is refused
+abbrev pub counted_told : Broken → List ℕ
+counted_told broken =
+    crowd_told broken.refusal.command broken.crowds
+    ++ (update_told broken.refusal.command broken.updates
+    ++ conflict_told broken.refusal.command broken.conflicts)
+
 -- what is told by numbers, kinds and flags of the command for which a recording is refused
 abbrev pub further_told : Broken → List ℕ
 further_told broken =
     limit_told broken.refusal.command broken.limits
-    ++ (misfit_told broken.refusal.command broken.misfits ++ crowd_told broken.refusal.command broken.crowds)
+    ++ (misfit_told broken.refusal.command broken.misfits ++ counted_told broken)
 
 -- the same by all that static rules compare
 abbrev pub static_told : Broken → List ℕ

@@ -15,6 +15,13 @@
 
 mod causes;
 mod clashes;
+//! definitions of the rules), and ray_causes, ray_grounds, ray_limits, ray_kinds, ray_crowds,
+//! ray_updates and ray_conflicts (by what a static rule is broken); who decides these rules is a
+//! [`Rules`] that the layer above brings.
+#![tactic(auto)]
+
+mod causes;
+mod conflicts;
 mod crowds;
 mod grounds;
 mod limits;
@@ -26,6 +33,7 @@ mod reasons;
 mod rules;
 mod sentences;
 mod telling;
+mod updates;
 mod wanted;
 mod words;
 

@@ -11,11 +11,13 @@ use crate::rules::Rules;
 use ray_causes::{Cause, cause_of};
 use ray_clash::{Clash, clash_of};
 use ray_cmd::{Recording, RecordingFault, Refusal, recording_of};
+use ray_conflicts::{Conflict, conflict_of};
 use ray_crowds::{Crowd, crowd_of};
 use ray_grounds::{Ground, ground_of};
 use ray_kinds::{Misfit, misfit_of};
 use ray_limits::{Limit, limit_of};
 use ray_shape::{ShapeFault, Step, shape_fault, value_at};
+use ray_updates::{Update, update_of};
 use serde_json::{Error, Value};
 use std::alloc::{AllocError as NoMemory, Global};
 
@@ -49,6 +51,10 @@ pub struct Broken {
     pub crowds: Option<Crowd>,
     /// By which accesses it is at odds with an earlier command: of V25, V26, V27 and V32.
     pub clash: Option<Clash>,
+    /// The same of V15.
+    pub updates: Option<Update>,
+    /// The same of V16.
+    pub conflicts: Option<Conflict>,
 }
 
 /// The first command that has no shape of a command. (Own.)
@@ -151,6 +157,7 @@ fn refused_by(alloc: Global, recording: &Recording, refusal: Refusal) -> Result<
     let misfits = misfit_of(alloc, recording, refusal)?;
     let crowds = crowd_of(alloc, recording, refusal)?;
     let clash = clash_of(alloc, recording, refusal)?;
+    let updates = update_of(alloc, recording, refusal)?;
     Ok(Why::Refused(Broken {
         refusal,
         cause,
@@ -159,6 +166,8 @@ fn refused_by(alloc: Global, recording: &Recording, refusal: Refusal) -> Result<
         misfits,
         crowds,
         clash,
+        updates,
+        conflicts: conflict_of(recording, refusal),
     }))
 }
 

@@ -1,6 +1,7 @@
 ghost use Rattle.std.specs.Prelude.{◌≡◌, ◌++◌, IfOk, List, codes, string_bytes, ℕ};
 ghost use Rattle.ray_shape.specs.Pointer.{pointer_of};
 ghost use Rattle.ray_why.specs.Lines.{line_of};
+ghost use Rattle.ray_why.specs.Conflicts.{conflict_told};
 ghost use Rattle.ray_why.specs.Crowds.{crowd_told};
 ghost use Rattle.ray_why.specs.Grounds.{ground_told};
 ghost use Rattle.ray_why.specs.Limits.{limit_told};
@@ -9,6 +10,12 @@ ghost use Rattle.ray_why.specs.Told.{cause_told, further_told, place_of, rule_to
 
 use crate::causes::cause_text;
 use crate::clashes::clash_of;
+ghost use Rattle.ray_why.specs.Told.{cause_told, counted_told, further_told, place_of};
+ghost use Rattle.ray_why.specs.Told.{rule_told, told_last};
+ghost use Rattle.ray_why.specs.Updates.{update_told};
+
+use crate::causes::cause_text;
+use crate::conflicts::conflict_text;
 use crate::crowds::crowd_text;
 use crate::grounds::ground_text;
 use crate::limits::limit_text;
@@ -16,13 +23,16 @@ use crate::line::first_line;
 use crate::misfits::misfit_text;
 use crate::reasons::{Broken, Misshapen, Why};
 use crate::sentences::sentence;
+use crate::updates::update_text;
 use crate::wanted::wanted_words;
 use ray_causes::Cause;
+use ray_conflicts::Conflict;
 use ray_crowds::Crowd;
 use ray_grounds::Ground;
 use ray_kinds::Misfit;
 use ray_limits::Limit;
 use ray_shape::{ShapeFault, Wrong, pointer_text};
+use ray_updates::Update;
 use std::alloc::{AllocError as NoMemory, Global};
 
 /// What is told of a recording: the first line, below it why in words, and last by what member of
@@ -103,8 +113,18 @@ fn further(alloc: Global, broken: &Broken) -> Result<String, NoMemory>
 {
     let limit = limit_of(alloc, broken.refusal.command, broken.limits)?;
     let misfit = misfit_of(alloc, broken.refusal.command, broken.misfits)?;
+    let counted = counted(alloc, broken)?;
+    joined(alloc, limit.as_str(), misfit.as_str(), counted.as_str())
+}
+
+// The same by counts, by the source of an update and by parts that conflict.
+fn counted(alloc: Global, broken: &Broken) -> Result<String, NoMemory>
+    ensures { IfOk result (λ text. string_bytes text ≡ counted_told broken.now) }
+{
     let crowd = crowd_of(alloc, broken.refusal.command, broken.crowds)?;
-    joined(alloc, limit.as_str(), misfit.as_str(), crowd.as_str())
+    let update = update_of(alloc, broken.refusal.command, broken.updates)?;
+    let conflict = conflict_of(alloc, broken.refusal.command, broken.conflicts)?;
+    joined(alloc, crowd.as_str(), update.as_str(), conflict.as_str())
 }
 
 // The same of a command, where a cause is known.
@@ -153,6 +173,26 @@ fn crowd_of(alloc: Global, command: u32, crowd: Option<Crowd>) -> Result<String,
 {
     match crowd {
         Some(crowd) => crowd_text(alloc, command, crowd),
+        None => Ok(String::new(alloc)),
+    }
+}
+
+// The same of an update that differs from its source, where it is known.
+fn update_of(alloc: Global, command: u32, update: Option<Update>) -> Result<String, NoMemory>
+    ensures { IfOk result (λ text. string_bytes text ≡ update_told command update) }
+{
+    match update {
+        Some(update) => update_text(alloc, command, update),
+        None => Ok(String::new(alloc)),
+    }
+}
+
+// The same of parts that conflict, where they are known.
+fn conflict_of(alloc: Global, command: u32, conflict: Option<Conflict>) -> Result<String, NoMemory>
+    ensures { IfOk result (λ text. string_bytes text ≡ conflict_told command conflict) }
+{
+    match conflict {
+        Some(conflict) => conflict_text(alloc, command, conflict),
         None => Ok(String::new(alloc)),
     }
 }
