@@ -8,19 +8,13 @@
 //! they share, what is missing and a barrier that mends it.
 //!
 //! It stands on ray_cmd (the recording), ray_shape (the place that is wrong), ray_rules (the
-//! definitions of the rules), and ray_causes, ray_grounds, ray_limits, ray_kinds and ray_crowds (by
-//! what a static rule is broken), and ray_clash (by what a hazard is); who decides these rules is a [`Rules`] that the layer above
-//! brings.
+//! definitions of the rules), and ray_causes, ray_grounds, ray_limits, ray_kinds, ray_crowds,
+//! ray_updates and ray_conflicts (by what a static rule is broken) and ray_clash (by what a hazard
+//! is); who decides these rules is a [`Rules`] that the layer above brings.
 #![tactic(auto)]
 
 mod causes;
 mod clashes;
-//! definitions of the rules), and ray_causes, ray_grounds, ray_limits, ray_kinds, ray_crowds,
-//! ray_updates and ray_conflicts (by what a static rule is broken); who decides these rules is a
-//! [`Rules`] that the layer above brings.
-#![tactic(auto)]
-
-mod causes;
 mod conflicts;
 mod crowds;
 mod grounds;

@@ -49,12 +49,12 @@ pub struct Broken {
     pub misfits: Option<Misfit>,
     /// The same of V10 and V23.
     pub crowds: Option<Crowd>,
-    /// By which accesses it is at odds with an earlier command: of V25, V26, V27 and V32.
-    pub clash: Option<Clash>,
     /// The same of V15.
     pub updates: Option<Update>,
     /// The same of V16.
     pub conflicts: Option<Conflict>,
+    /// By which accesses it is at odds with an earlier command: of V25, V26, V27 and V32.
+    pub clash: Option<Clash>,
 }
 
 /// The first command that has no shape of a command. (Own.)

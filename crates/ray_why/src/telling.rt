@@ -6,15 +6,12 @@ ghost use Rattle.ray_why.specs.Crowds.{crowd_told};
 ghost use Rattle.ray_why.specs.Grounds.{ground_told};
 ghost use Rattle.ray_why.specs.Limits.{limit_told};
 ghost use Rattle.ray_why.specs.Misfits.{misfit_told};
-ghost use Rattle.ray_why.specs.Told.{cause_told, further_told, place_of, rule_told, static_told, told_last};
-
-use crate::causes::cause_text;
-use crate::clashes::clash_of;
 ghost use Rattle.ray_why.specs.Told.{cause_told, counted_told, further_told, place_of};
-ghost use Rattle.ray_why.specs.Told.{rule_told, told_last};
+ghost use Rattle.ray_why.specs.Told.{rule_told, static_told, told_last};
 ghost use Rattle.ray_why.specs.Updates.{update_told};
 
 use crate::causes::cause_text;
+use crate::clashes::clash_of;
 use crate::conflicts::conflict_text;
 use crate::crowds::crowd_text;
 use crate::grounds::ground_text;
