@@ -1,7 +1,7 @@
 use ray_flags::RayFlags;
 
-/// What a ray is traced with, beside the ray itself. (OpRayQueryInitializeKHR: its ray flags and its
-/// cull mask; own: the number.)
+/// What a ray is traced with, beside the ray itself. (OpRayQueryInitializeKHR: its ray flags and
+/// its cull mask; own: the number.)
 #[derive(Clone, Copy)]
 pub struct QueryOptions {
     /// The ray's number in its trace, which its client is told.

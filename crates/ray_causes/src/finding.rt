@@ -27,8 +27,8 @@ pub fn cause_of(alloc: Global, rec: &Recording, refusal: Refusal) -> Result<Opti
     Ok(cause_there(rec, &status, refusal))
 }
 
-/// What stands where the command of the refusal of a recording does, where it is one of its commands
-/// and not its end. Own.
+/// What stands where the command of the refusal of a recording does, where it is one of its
+/// commands and not its end. Own.
 ///
 /// # Errors
 ///

@@ -3,8 +3,8 @@
 //! The layer above uses [`cause_of`], whose clause says by `IsCauseAt` of `specs/Causes` that what
 //! it tells is so in the recording: the member of the command that was refused has that number, id
 //! or range (`specs/Ranges`, `specs/Names` and `specs/Multiples`), and the comparison fails where
-//! the command stands. [`member_text`] is the JSON pointer of a member. ray_grounds, which tells the
-//! same of further rules, takes [`status_there`], [`structure_named`] and [`info_at`].
+//! the command stands. [`member_text`] is the JSON pointer of a member. ray_grounds, which tells
+//! the same of further rules, takes [`status_there`], [`structure_named`] and [`info_at`].
 //!
 //! It stands on ray_status (what stands where) and ray_rules (the definitions). The members of a
 //! command are gone over in one order (`listing`), and each is tested (`testing`).

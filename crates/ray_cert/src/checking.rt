@@ -74,12 +74,12 @@ fn name_played<C: Client>(
 }
 
 /// Whether a certificate supports its hit, for a ray with its number, flags and cull mask, and for
-/// this client. Where it does, what it names is what testing every primitive
-/// commits. The structure of each active instance stands under its id, with the bounds that stood
-/// beside the id when `top` was built or last updated, `trees` of `stated` are the stated trees of
-/// these structures, and the flags don't ask that everything counts as opaque and that nothing does.
-/// A step is taken for each box that is tested, at most one for a digit, and for each primitive that
-/// is tested, at most four for a digit. (Own.)
+/// this client. Where it does, what it names is what testing every primitive commits. The structure
+/// of each active instance stands under its id, with the bounds that stood beside the id when `top`
+/// was built or last updated, `trees` of `stated` are the stated trees of these structures, and the
+/// flags don't ask that everything counts as opaque and that nothing does. A step is taken for each
+/// box that is tested, at most one for a digit, and for each primitive that is tested, at most four
+/// for a digit. (Own.)
 ///
 /// # Errors
 ///

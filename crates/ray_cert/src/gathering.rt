@@ -47,7 +47,8 @@ fn check_next<L: Ledger>(
     requires instance_agrees { ¬ ForcesBoth placed.now.instance.now.flags }
     requires flags_agree { ¬ AsksBoth told.now.flags }
     ensures value { let p = placement_value placed.now.instance.now placed.now.bottom.now in
-        let part = part_of told.now.ray.now told.now.flags placed.now.number p placed.now.tree.now in
+        let part = part_of told.now.ray.now told.now.flags placed.now.number p
+        placed.now.tree.now in
         IfOk result (λ after.
         option_map (λ k. (found.new.items, drop k told.now.strings.now)) after
         ≡ string_taken told.now.limit.now found.old.items (part ∷ [])

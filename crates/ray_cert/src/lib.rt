@@ -7,8 +7,8 @@
 //! hit: the strings spell cuttings of the trees, nothing that is cut off is met up to the named
 //! distance, and the play of what is tested commits just what is named.
 //!
-//! - [`Stated`] keeps stated trees by the ids of structures, and [`StatedBottoms`] lends them beside
-//!   the structures;
+//! - [`Stated`] keeps stated trees by the ids of structures, and [`StatedBottoms`] lends them
+//!   beside the structures;
 //! - [`make_cert`] gives the certificate of an answer: it supports that, whatever the client;
 //! - [`check_cert`] says yes exactly where a certificate supports its hit. What is named is then
 //!   the answer over all candidates, `trace_answer` of ray_candidates. It takes a step for each box

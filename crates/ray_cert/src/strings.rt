@@ -87,7 +87,8 @@ pub(crate) fn check_string<L: Ledger>(
     ensures value { let p = placement_value placed.now.instance.now placed.now.bottom.now in
         IfOk result (λ fits. option_map (λ gs. found.old.items ++ gs)
         (found_taken told.now.limit.now
-        (part_of told.now.ray.now told.now.flags placed.now.number p placed.now.tree.now) digits.now)
+        (part_of told.now.ray.now told.now.flags placed.now.number p placed.now.tree.now)
+        digits.now)
         ≡ (if fits then Some found.new.items else None)) }
     ensures cost { IfOk result (λ fits. steps.new ≤ steps.old + 5 * length digits.now) }
     ensures rising { steps.old ≤ steps.new }

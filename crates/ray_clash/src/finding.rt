@@ -113,7 +113,8 @@ fn place_between(rec: &Recording, hazard: Hazard, i: u32, j: u32) -> u32
     }
 }
 
-// The last end of a command buffer between two commands, and the second command where there is none.
+// The last end of a command buffer between two commands, and the second command where there is
+// none.
 fn last_end(rec: &Recording, i: u32, j: u32) -> u32
     requires order { i < j }
     requires within { j < length rec.now }

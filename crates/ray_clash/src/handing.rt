@@ -209,7 +209,8 @@ fn handed_on(
     dst_access: Access,
 ) -> Passed
     ensures { (h : Handed) → IsPassed asking.now.to asking.now.access h passed
-        → IsPassed asking.now.to asking.now.access (handed_on taken dst_stages dst_access h) result }
+        → IsPassed asking.now.to asking.now.access
+        (handed_on taken dst_stages dst_access h) result }
 {
     let shown = is_shown(dst_stages, dst_access, asking.to, asking.access);
     Passed {

@@ -32,8 +32,8 @@ pub enum Hazard {
     HostRead,
 }
 
-// Two commands that are at odds by a hazard, the first at a stage and the second at another, whether
-// the first is ordered before the second, and before which command a barrier may be put in.
+// Two commands that are at odds by a hazard, the first at a stage and the second at another,
+// whether the first is ordered before the second, and before which command a barrier may be put in.
 #[derive(Clone, Copy, Debug)]
 pub(crate) struct Pair {
     pub(crate) hazard: Hazard,

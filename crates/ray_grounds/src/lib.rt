@@ -3,9 +3,9 @@
 //!
 //! The layer above uses [`ground_of`], whose clause says by `IsGroundAt` of `specs/Grounds` that
 //! what it tells is so in the recording: a [`Fact`] of the command and of what stands where it does
-//! (`specs/Facts`), an [`Origin`] of what it reads (`specs/Origins`), or the command that submits last
-//! before it (`specs/Submits`). A member of the
-//! command is a `Member` of ray_causes, and so is its text.
+//! (`specs/Facts`), an [`Origin`] of what it reads (`specs/Origins`), or the command that submits
+//! last before it (`specs/Submits`). A member of the command is a `Member` of ray_causes, and so is
+//! its text.
 //!
 //! It stands on ray_causes (members), ray_status (what stands where) and ray_rules (the
 //! definitions). The members of a command are gone over in one order (`listing`), and each is

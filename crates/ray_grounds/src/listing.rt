@@ -73,8 +73,8 @@ fn of_own(
     None
 }
 
-// The same of its parts: of the info of the place, of the items of a list, of the entry of the place
-// of what a traced top was built by, and of a buffer that is destroyed.
+// The same of its parts: of the info of the place, of the items of a list, of the entry of the
+// place of what a traced top was built by, and of a buffer that is destroyed.
 fn of_parts(
     rec: &Recording,
     i: u32,

@@ -11,8 +11,8 @@ use ray_cmd::{Recording, Refusal};
 use ray_status::Status;
 use std::alloc::{AllocError as NoMemory, Global};
 
-/// By which number the command of the refusal of a recording breaks its rule, where that is one that
-/// is told here and the command tells it. Own.
+/// By which number the command of the refusal of a recording breaks its rule, where that is one
+/// that is told here and the command tells it. Own.
 ///
 /// # Errors
 ///

@@ -17,17 +17,16 @@ use ray_query::{Client, Commit};
 use ray_top::Top;
 use std::sync::ledger::Ledger;
 
-/// What the trace of a ray commits, by a walk through the box trees of the top structure and of
-/// the bottom structures below it: it opens nodes nearest first, and ends where all that waits is
+/// What the trace of a ray commits, by a walk through the box trees of the top structure and of the
+/// bottom structures below it: it opens nodes nearest first, and ends where all that waits is
 /// beyond the committed hit. None exactly where the play of the candidates commits nothing. The
-/// structure of each active instance stands under its id, with the bounds that stood beside the
-/// id when `top` was built or last updated, and the flags don't ask that everything counts as
-/// opaque and that nothing does. A step is taken for each primitive that is tested: no more than the
+/// structure of each active instance stands under its id, with the bounds that stood beside the id
+/// when `top` was built or last updated, and the flags don't ask that everything counts as opaque
+/// and that nothing does. A step is taken for each primitive that is tested: no more than the
 /// primitives of the opened leaves, those whose boxes, and those above them, are met up to the
 /// committed distance. Turns that wait in `turns` are dropped, and memory is taken for turns alone;
 /// that of the heap is kept from ray to ray. After any answer, want of memory too, `turns` may hold
-/// what waited last.
-/// (Vulkan, "Ray Traversal"; own: the order, and the bound.)
+/// what waited last. (Vulkan, "Ray Traversal"; own: the order, and the bound.)
 pub fn trace_ray<C: Client, L: Ledger>(
     top: &Top,
     bottoms: &Bottoms,
