@@ -1,5 +1,5 @@
-//! On which ground a command is refused by a static rule of which ray_causes tells nothing: what was
-//! compared of the command, of what stands where it does and of what came before it.
+//! On which ground a command is refused by a static rule of which ray_causes tells nothing: what
+//! was compared of the command, of what stands where it does and of what came before it.
 //!
 //! The layer above uses [`ground_of`], whose clause says by `IsGroundAt` of `specs/Grounds` that
 //! what it tells is so in the recording: a [`Fact`] of the command and of what stands where it does
