@@ -1,4 +1,6 @@
-ghost use Rattle.std.specs.Prelude.{◌≡◌, ◌≤◌, ◌<◌, ◌^◌, ℕ, List, IfOk, None, length, suc};
+ghost use Rattle.std.specs.Prelude.{◌≡◌, ◌≤◌, ◌<◌, ◌^◌, ◌++◌, ℕ, List, [], IfOk, OnOk, None};
+ghost use Rattle.std.specs.Prelude.{length, suc, take};
+ghost use Rattle.std.specs.List.{cons_option};
 ghost use Rattle.std.specs.Option.{option_map_or};
 ghost use Rattle.ray_access.specs.Lists.{AreTouched};
 ghost use Rattle.ray_cmd.specs.declared.command.Command.{Command as ACommand};
@@ -9,6 +11,7 @@ ghost use Rattle.ray_rules.specs.Order.{barriers};
 ghost use Rattle.ray_rules.specs.Verdict.{GoOn, first_hazard, hazard_of};
 ghost use Rattle.ray_hazards.specs.Carrying.{AreCarried};
 ghost use Rattle.ray_hazards.specs.Checks.{IsDoing};
+ghost use Rattle.ray_sync.specs.Hazards.{hazards_below};
 ghost use Rattle.ray_sync.specs.Kinds.{AreFronts};
 ghost use Rattle.ray_sync.specs.OneQueue.{in_order, one_queue};
 ghost use Rattle.ray_hazards.specs.Lanes.{AreEnough, AreLanes};
@@ -47,6 +50,27 @@ pub fn check_sync(
     ensures { IfOk result (λ hazard. hazard
         ≡ first_hazard (barriers rec.now) rec.now (length order.now)) }
 {
+    let found = all_hazards(alloc, rec, order, 1)?;
+    Ok(found.as_slice().first().copied())
+}
+
+/// Of each command that an order is of which breaks a rule on hazards, the refusal by the least, as
+/// of [`check_sync`], in rising order of commands. Of more than `most` it gives the first.
+///
+/// # Errors
+///
+/// For want of memory alone.
+pub fn all_hazards(
+    alloc: Global,
+    rec: &Recording,
+    order: &Order,
+    most: usize,
+) -> Result<Vec<Refusal>, NoMemory>
+    requires until { length order.now ≤ length rec.now }
+    requires go_on { GoOn rec.now (length order.now) }
+    ensures { IfOk result (λ found. found.items
+        ≡ take most (hazards_below (barriers rec.now) rec.now (length order.now))) }
+{
     let count = rec.len();
     let until = order.until() as u32;
     let starts = starts_of(alloc, rec, until)?;
@@ -54,40 +78,55 @@ pub fn check_sync(
     if MOST_CELLS < cells.count() {
         return Err(NoMemory);
     }
-    checked(alloc, rec, until, &cells)
+    found_below(alloc, rec, until, &cells, most)
 }
 
 // The same of the commands below a number, where the axis is cut at all that they touch.
-fn checked(
+fn found_below(
     alloc: Global,
     rec: &Recording,
     until: u32,
     cells: &Cells,
-) -> Result<Option<Refusal>, NoMemory>
+    most: usize,
+) -> Result<Vec<Refusal>, NoMemory>
     requires until { until ≤ length rec.now }
     requires cells { length cells.now ≤ 2 ^ 32 }
     requires go_on { GoOn rec.now until }
     requires starts { HaveStarts rec.now cells.now until }
-    ensures { IfOk result (λ hazard. hazard ≡ first_hazard (barriers rec.now) rec.now until) }
+    ensures { IfOk result (λ found. found.items
+        ≡ take most (hazards_below (barriers rec.now) rec.now until)) }
 {
+    let mut found = Vec::new(alloc);
     let mut lanes = Lanes::new(cells.count());
     let mut tops = Tops::none(alloc);
     let mut coverage = Coverage::new(alloc);
     let mut fronts = Fronts::none();
     let mut status = Status::new(alloc);
     for n in 0..until {
+        if most <= found.len() {
+            return Ok(found);
+        }
         let command = rec.command(n);
         let doing = doing_of(alloc, rec, &status, command, &mut tops, cells)?;
-        if let Some(refusal) = hazard_of(n, &doing, &lanes, &coverage, fronts, cells) {
-            return Ok(Some(refusal));
-        }
+        let hazard = hazard_of(n, &doing, &lanes, &coverage, fronts, cells);
+        note(&mut found, hazard)?;
         lanes.mark(alloc, n, doing.stage, &doing.touches, cells)?;
         pass(alloc, &mut coverage, n, command, &status)?;
         fronts = fronts.after(n, command);
         tops.pass(alloc, command);
         status.step(n, command)?;
     }
-    Ok(None)
+    Ok(found)
+}
+
+// Puts a hazard behind those that were found, where there is one.
+fn note(found: &mut Vec<Refusal>, hazard: Option<Refusal>) -> Result<(), NoMemory>
+    ensures { OnOk result (found.new.items ≡ found.old.items ++ cons_option hazard []) }
+{
+    if let Some(refusal) = hazard {
+        found.push(refusal)?;
+    }
+    Ok(())
 }
 
 // The refusal of command number `n` by the least rule on hazards that it breaks.

@@ -5,7 +5,8 @@
 //! The layer above uses [`order_of`], whose clause says that what it gives is the order of the
 //! recording's commands, and with it [`Order::before`] and [`Order::wave`], which are `before` and
 //! `IsLongest` of ray_rules. [`covered_is_ordered`] is the law that what is covered is ordered.
-//! [`check_sync`] finds the first command that breaks V25, V26, V27 or V32, by `first_hazard`.
+//! [`check_sync`] finds the first command that breaks V25, V26, V27 or V32, by `first_hazard`, and
+//! [`all_hazards`] those that come after it, too, by `hazards_below` of `specs/Hazards`.
 //! [`barrier_of`], [`chain_stage`] and [`chain_access`] say a barrier, a stage and an access in the
 //! words of ray_chains, as `specs/Events` does; [`holds_stage`] and [`holds_access`] say what a
 //! barrier's sets hold.
@@ -30,7 +31,7 @@ mod passing;
 mod per_kind;
 mod sets;
 
-pub use crate::check::check_sync;
+pub use crate::check::{all_hazards, check_sync};
 pub use crate::events::{barrier_of, chain_access, chain_stage};
 pub use crate::front::Front;
 pub use crate::laws::covered_is_ordered;

@@ -186,8 +186,8 @@ fn refused(i: u32, number: u8, place: Place) -> Refusal
     }
 }
 
-// The refusal of the end of a recording.
-fn refusal_at_end(i: u32, status: &Status) -> Option<Refusal>
+/// The refusal of the end of a recording of `i` commands, where this status stands there. (Own.)
+pub fn refusal_at_end(i: u32, status: &Status) -> Option<Refusal>
     ensures value { result ≡ refusal_at_end i status.now }
     ensures at { IfSome result (λ r. r.command ≡ i) }
 {

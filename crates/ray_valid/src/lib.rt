@@ -4,7 +4,8 @@
 //! The layer above uses [`check_static`], whose one clause says that it answers `static_refusal` of
 //! ray_rules: the refusal of the first command that breaks a rule, by its least. [`refusal_of`] is
 //! the same of one command, and says in relational words too that the rule is the first of the
-//! table that is broken. A function `v1`, `v2` and so on decides each rule, in files by subject.
+//! table that is broken; [`goes_on`] says whether the status can go on past it, and
+//! [`refusal_at_end`] what the end breaks. A function `v1`, `v2` and so on decides each rule, in files by subject.
 //!
 //! It stands on ray_infos (the rules on the infos of a build), ray_status (what stands where),
 //! ray_ranges (which ranges meet) and ray_rules (the definitions).
@@ -16,6 +17,7 @@ mod conflicts;
 mod flags;
 mod fresh;
 mod names;
+mod passing;
 mod phases;
 mod place;
 mod seen;
@@ -24,5 +26,6 @@ mod sources;
 mod spans;
 mod structures;
 
-pub use crate::checking::{check_static, refusal_of};
+pub use crate::checking::{check_static, refusal_at_end, refusal_of};
+pub use crate::passing::goes_on;
 pub use std::alloc::AllocError as NoMemory;

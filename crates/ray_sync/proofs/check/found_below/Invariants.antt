@@ -1,14 +1,13 @@
-use Rattle.std.proofs.Common.{◌≡◌}
-use Rattle.std.specs.Prelude.{None}
+use Rattle.std.proofs.Common.{◌≡◌, ◌≤◌, length}
 use Rattle.ray_rules.specs.Hazards.{status_at}
 use Rattle.ray_rules.specs.Order.{barriers}
-use Rattle.ray_rules.specs.Verdict.{first_hazard}
 use Rattle.ray_hazards.specs.Carrying.{AreCarried}
+use Rattle.ray_sync.specs.Hazards.{hazards_below}
 use Rattle.ray_sync.specs.Kinds.{AreFronts}
 use Rattle.ray_sync.specs.OneQueue.{in_order, one_queue}
 use Rattle.ray_hazards.specs.Lanes.{AreLanes}
 use Rattle.ray_hazards.specs.Reaching.{AreTops}
-use Rattle.ray_sync.proofs.check.checked.Given as goal
+use Rattle.ray_sync.proofs.check.found_below.Given as goal
 
 abbrev pub invariant-loop-n : goal.invariant-loop-n
 invariant-loop-n l = record {
@@ -17,5 +16,6 @@ invariant-loop-n l = record {
   coverage : AreCarried (one_queue l.rec) 0 l.n l.coverage;
   fronts : AreFronts l.rec l.n l.fronts;
   tops : AreTops l.rec l.cells l.status l.tops;
-  none : first_hazard (barriers l.rec) l.rec l.n ≡ None;
+  found : l.found.items ≡ hazards_below (barriers l.rec) l.rec l.n;
+  few : length l.found.items ≤ l.most;
 }

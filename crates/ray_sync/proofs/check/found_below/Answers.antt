@@ -1,19 +1,21 @@
-use Rattle.std.proofs.Common.{◌≡◌, ◌+◌, ◌∙◌, arith, refl, subst, suc, sym}
-use Rattle.std.specs.Prelude.{None}
+use Rattle.std.proofs.Common.{◌≡◌, ◌+◌, ◌∙◌, ap, arith, List, length, refl, subst, suc, sym}
+use Rattle.ray_cmd.specs.declared.refusal.Refusal.{Refusal}
+use Rattle.std.specs.Prelude.{[], ◌++◌, take}
+use Rattle.std.specs.List.{cons_option}
 use Rattle.ray_rules.specs.Hazards.{status_at}
 use Rattle.ray_rules.specs.Order.{barriers}
 use Rattle.ray_rules.specs.Status.{Status}
-use Rattle.ray_rules.specs.Verdict.{first_hazard}
+use Rattle.ray_sync.specs.Hazards.{hazards_below}
+use Rattle.ray_sync.proofs.Listing.{all-taken, few-more, few-taken}
 use Rattle.ray_hazards.specs.Reaching.{AreTops}
 use Rattle.ray_hazards.specs.Carrying.{AreCarried}
 use Rattle.ray_sync.specs.Kinds.{AreFronts}
 use Rattle.ray_sync.specs.OneQueue.{in_order, one_queue}
 use Rattle.ray_hazards.specs.Lanes.{AreLanes}
-use Rattle.ray_hazards.proofs.Checking.{first-found, first-none}
 use Rattle.ray_hazards.proofs.Laning.{lanes-below}
 use Rattle.ray_sync.proofs.Limits.{fronts-first, fronts-next}
 use Rattle.ray_hazards.proofs.Starting.{starts-some, status-next}
-use Rattle.ray_sync.proofs.check.checked.Goals as goal
+use Rattle.ray_sync.proofs.check.found_below.Goals as goal
 
 pub loop-n-init : goal.loop-n-init
 loop-n-init c = record {
@@ -22,19 +24,9 @@ loop-n-init c = record {
   coverage = c.new-coverage.ensures (one_queue c.args.rec.now) 0;
   fronts = subst (AreFronts c.args.rec.now 0) (sym c.none-fronts.ensures) (fronts-first c.args.rec.now);
   tops = c.none-tops.ensures c.args.rec.now c.args.cells.now c.new-status.result;
-  none = refl;
+  found = c.new-found.ensures.items;
+  few = omega arith;
 }
-
-pub returns-in-Some : goal.returns-in-Some
-returns-in-Some c =
-    let rec = c.args.rec.now in
-    let n = c.loop-n.n in
-    let is = c.in_ok-doing.ensures.doing n c.command-command.ensures c.loop-n.invariant.status c.loop-n.invariant.tops in
-    let have = starts-some rec c.args.cells.now c.args.until (suc n) (omega arith) c.requires.starts in
-    let found =
-    sym (c.hazard_of.ensures rec c.loop-n.invariant.lanes c.loop-n.invariant.coverage c.loop-n.invariant.fronts is have) ∙ c.in-Some.is
-    in
-    sym (first-found (barriers rec) rec n c.args.until c.in-Some.refusal c.loop-n.invariant.none found c.loop-n-test.true)
 
 pub mark-requires-clause-below : goal.mark-requires-clause-below
 mark-requires-clause-below c =
@@ -48,7 +40,7 @@ loop-n-preserved c =
     let there = c.command-command.ensures in
     let is = c.in_ok-doing.ensures.doing n there c.loop-n.invariant.status c.loop-n.invariant.tops in
     let have = starts-some rec c.args.cells.now c.args.until (suc n) (omega arith) c.requires.starts in
-    let hazard = sym (c.hazard_of.ensures rec c.loop-n.invariant.lanes c.loop-n.invariant.coverage c.loop-n.invariant.fronts is have) ∙ c.in_default.is in
+    let hazard = c.hazard_of-hazard.ensures rec c.loop-n.invariant.lanes c.loop-n.invariant.coverage c.loop-n.invariant.fronts is have in
     record {
       status =
           subst (λ k. c.step.new.self ≡ status_at rec k) more
@@ -66,6 +58,23 @@ loop-n-preserved c =
       tops =
           subst (λ (z : Status). AreTops rec c.args.cells.now z c.pass-in-loop-n.new.self) (sym c.in_ok-step.ensures)
           (c.pass-in-loop-n.ensures rec c.args.cells.now c.loop-n.status n (c.in_ok-doing.ensures.tops c.loop-n.invariant.tops));
-      none =
-          subst (λ k. first_hazard (barriers rec) rec k ≡ None) more (first-none (barriers rec) rec n c.loop-n.invariant.none hazard);
+      found =
+          subst (λ k. c.note.new.found.items ≡ hazards_below (barriers rec) rec k) more
+          (c.in_ok-note.ensures ∙ (λ i. c.loop-n.invariant.found i ++ cons_option (hazard i) []));
+      few = few-more c.loop-n.found.items c.hazard_of-hazard.result c.note.new.found.items c.args.most c.in_ok-note.ensures (omega (arith, c.if-most-len.false));
     }
+
+pub returns-then-most-len : goal.returns-then-most-len
+returns-then-most-len c =
+    let rec = c.args.rec.now in
+    c.loop-n.invariant.found
+    ∙ all-taken (barriers rec) rec c.loop-n.n c.args.until c.args.most (omega (arith, c.loop-n-test.true))
+    (subst (λ (xs : List Refusal). length xs ≡ c.args.most) c.loop-n.invariant.found (omega (arith, c.loop-n.invariant.few, c.if-most-len.true)))
+
+pub returns : goal.returns
+returns c =
+    few-taken c.loop-n.found.items c.args.most c.loop-n.invariant.few
+    ∙ ap (take c.args.most) (c.loop-n.invariant.found ∙ ap (hazards_below (barriers c.args.rec.now) c.args.rec.now) ends)
+  where
+    ends : c.loop-n.n ≡ c.args.until
+    ends = omega (arith, c.loop-n.auto.n-end, c.loop-n-test.false)
