@@ -1,4 +1,4 @@
-use Rattle.std.proofs.Common.{◌≡◌, ◌∙◌, ap, length}
+use Rattle.std.proofs.Common.{◌∙◌, ap, length}
 use Rattle.std.specs.Prelude.{slice_get}
 use Rattle.ray_rules.specs.Order.{barriers}
 use Rattle.ray_sync.specs.Hazards.{hazards_below}
