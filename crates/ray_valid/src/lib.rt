@@ -5,8 +5,8 @@
 //! ray_rules: the refusal of the first command that breaks a rule, by its least. [`refusal_of`] is
 //! the same of one command, and says in relational words too that the rule is the first of the
 //! table that is broken; [`goes_on`] says whether the status can go on past it, and
-//! [`refusal_at_end`] what the end breaks. A function `v1`, `v2` and so on decides each rule, in files
-//! by subject.
+//! [`refusal_at_end`] what the end breaks. A function `v1`, `v2` and so on decides each rule, in
+//! files by subject.
 //!
 //! It stands on ray_infos (the rules on the infos of a build), ray_status (what stands where),
 //! ray_ranges (which ranges meet) and ray_rules (the definitions).
