@@ -1,0 +1,15 @@
+//! All refusals of a recording, and not the first alone: advice, since a command that breaks a rule
+//! leaves no defined state.
+//!
+//! The layer above uses [`every_refusal`], whose clauses say by `statics_of` of `specs/Every` and
+//! `hazards_below` of ray_sync what it gives.
+//!
+//! It stands on ray_valid (the static rules), ray_sync (the rules on hazards), ray_status and
+//! ray_rules (the definitions).
+#![tactic(auto)]
+
+mod every;
+mod statics;
+
+pub use crate::every::{Every, every_refusal};
+pub use std::alloc::AllocError as NoMemory;
