@@ -33,6 +33,7 @@ name_of names.Op = codes "op"
 name_of names.Flags = codes "flags"
 name_of names.SrcAccess = codes "src_access"
 name_of names.DstAccess = codes "dst_access"
+name_of names.Usage = codes "usage"
 
 -- a member of command number i
 abbrev pub member_text : ℕ → Member → List ℕ

@@ -53,6 +53,8 @@ pub enum Name {
     SrcAccess,
     /// `dst_access`.
     DstAccess,
+    /// `usage`.
+    Usage,
 }
 
 /// A member of a command, by the way to it. Numbers count from 0. Own.

@@ -71,5 +71,6 @@ fn name_of(name: Name) -> &'static str
         Name::Flags => "flags",
         Name::SrcAccess => "src_access",
         Name::DstAccess => "dst_access",
+        Name::Usage => "usage",
     }
 }

@@ -1,5 +1,5 @@
 -- Of which kinds structures have to be, as V7 and V19 ask it. (Own.)
-use Rattle.std.specs.Prelude.{ℕ, List, Option, Some, None, Bool, true, false, ◌&&◌, ◌==◌, if◌then◌else◌, length, not, option_map}
+use Rattle.std.specs.Prelude.{ℕ, List, Option, Some, None, Bool, false, ◌&&◌, ◌==◌, if◌then◌else◌, length, not, option_map}
 use Rattle.std.specs.Option.{option_and_then}
 use Rattle.ray_cmd.specs.Copies.{is_form_2}
 use Rattle.ray_cmd.specs.declared.asked.Asked.{Asked}
@@ -16,7 +16,6 @@ use Rattle.ray_cmd.specs.declared.structure_kind.StructureKind.TheVariants as ki
 use Rattle.ray_causes.specs.declared.member.Member.{Member}
 use Rattle.ray_causes.specs.declared.member.Member.TheVariants as members
 use Rattle.ray_causes.specs.declared.member.Name.{Name}
-use Rattle.ray_causes.specs.declared.member.Name.TheVariants as names
 use Rattle.ray_causes.specs.Geometries.{info_at}
 use Rattle.ray_causes.specs.Naming.{at_dst, at_src, at_top, at_uses}
 use Rattle.ray_kinds.specs.declared.misfit.Pair.{Pair}

@@ -1,3 +1,4 @@
 pub mod Kinds
 pub mod Misfits
 pub mod Words
+pub mod Usages

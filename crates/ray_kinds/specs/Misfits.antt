@@ -5,6 +5,7 @@ use Rattle.ray_cmd.specs.declared.command.Command.{Command}
 use Rattle.ray_cmd.specs.declared.refusal.Refusal.{Refusal}
 use Rattle.ray_cmd.specs.declared.rule.Rule.{Rule}
 use Rattle.ray_cmd.specs.declared.rule.Rule.TheVariants.{V}
+use Rattle.ray_rules.specs.Buffers.{is_private_at}
 use Rattle.ray_rules.specs.Hazards.{status_at}
 use Rattle.ray_rules.specs.Shapes.{prefers_both}
 use Rattle.ray_rules.specs.Status.{Status}
@@ -13,6 +14,7 @@ use Rattle.ray_causes.specs.declared.member.Name.TheVariants as names
 use Rattle.ray_causes.specs.Geometries.{info_at}
 use Rattle.ray_causes.specs.Names.{structure_named}
 use Rattle.ray_kinds.specs.Kinds.{are_of_bottom, asks_pair, is_other_kind, kind_wanted, own_pair, pair_at, uses_at}
+use Rattle.ray_kinds.specs.Usages.{buffer_read, has_no_usage, is_filled, is_mixed}
 use Rattle.ray_kinds.specs.Words.{are_exclusive, lacks_at}
 use Rattle.ray_kinds.specs.declared.misfit.Misfit.{Misfit}
 use Rattle.ray_kinds.specs.declared.misfit.Misfit.TheVariants as misfits
@@ -34,6 +36,11 @@ IsMisfit z c rule (misfits.Same two) =
 IsMisfit z c rule (misfits.BothFast k) = (rule ≡ V 9) × (option_map_or prefers_both (info_at c k) false ≡ true)
 IsMisfit z c rule (misfits.Exclusive two) = (rule ≡ V 22) × (are_exclusive c two.one two.other ≡ true)
 IsMisfit z c rule (misfits.Unsupported member word) = (rule ≡ V 24) × (lacks_at c member word ≡ true)
+IsMisfit z c rule misfits.NoUsage = (rule ≡ V 3) × (has_no_usage c ≡ true)
+IsMisfit z c rule misfits.Mixed = (rule ≡ V 3) × (is_mixed c ≡ true)
+IsMisfit z c rule misfits.Filled = (rule ≡ V 3) × (is_filled c ≡ true)
+IsMisfit z c rule (misfits.ReadOfPrivate id) =
+    (rule ≡ V 3) × ((buffer_read c ≡ Some id) × (is_private_at z id ≡ true))
 
 -- the same of the command and the rule of a refusal, where the command stands
 pub record IsMisfitAt (rec : List Command) (refusal : Refusal) (misfit : Misfit) : Type 0 where

@@ -1,5 +1,5 @@
-//! By which kind or flag a command breaks a static rule: structures of the wrong kind, and flags
-//! that exclude one another.
+//! By which kind, flag or usage a command breaks a static rule: structures of the wrong kind, flags
+//! that exclude one another, and usages of buffers that are made or read.
 //!
 //! The layer above uses [`misfit_of`], whose clause says by `IsMisfitAt` of `specs/Misfits` that
 //! what it tells is so in the recording: the member of the command that was refused names this
@@ -20,6 +20,7 @@ mod misfit;
 mod pairs;
 mod rays;
 mod testing;
+mod usages;
 mod uses;
 mod words;
 

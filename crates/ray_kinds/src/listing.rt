@@ -7,6 +7,7 @@ use crate::misfit::Misfit;
 use crate::pairs::wrong_copy;
 use crate::rays::exclusive;
 use crate::testing::misfit_at;
+use crate::usages::wrong_usage;
 use ray_causes::{Member, Name, info_at};
 use ray_cmd::{Command, Place, Refusal, Rule};
 use ray_status::Status;
@@ -32,6 +33,7 @@ fn of_rule(status: &Status, command: &Command, number: u8, place: Place) -> Opti
     ensures { IfSome result (λ misfit. IsMisfit status.now command.now (V number) misfit) }
 {
     match number {
+        3 => wrong_usage(status, command),
         19 => wrong_copy(status, command),
         22 => match exclusive(command) {
             Some(two) => Some(Misfit::Exclusive(two)),

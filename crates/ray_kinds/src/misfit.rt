@@ -55,4 +55,12 @@ pub enum Misfit {
     Exclusive(Clash),
     /// The member names this access, and no stage of its side supports it.
     Unsupported(Member, AccessWord),
+    /// The buffer that is made has no usage.
+    NoUsage,
+    /// The buffer that is made is for scratch memory or for structures, and for something else.
+    Mixed,
+    /// The buffer that is made is for scratch memory or for structures, and has content.
+    Filled,
+    /// The buffer of this id, which is read, is for scratch memory or for structures.
+    ReadOfPrivate(u32),
 }

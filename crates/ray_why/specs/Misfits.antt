@@ -23,6 +23,10 @@ misfit_member (misfits.Same _) = members.Own names.Dst
 misfit_member (misfits.BothFast info) = members.Info info names.Flags
 misfit_member (misfits.Exclusive _) = members.Own names.Flags
 misfit_member (misfits.Unsupported member _) = member
+misfit_member misfits.NoUsage = members.Own names.Usage
+misfit_member misfits.Mixed = members.Own names.Usage
+misfit_member misfits.Filled = members.Own names.Data
+misfit_member (misfits.ReadOfPrivate _) = members.Own names.Buffer
 
 -- ---- what was compared
 
@@ -56,6 +60,10 @@ exclusive_text one other = one ++ (codes " and " ++ other)
 abbrev pub unsupported_text : List ℕ → List ℕ
 unsupported_text word = word ++ codes ", which no stage of this side supports"
 
+-- a buffer that is read
+abbrev pub private_text : ℕ → List ℕ
+private_text id = codes "buffer " ++ (decimal id ++ codes " is for scratch memory or for structures, and isn't read")
+
 abbrev pub misfit_words : Misfit → List ℕ
 misfit_words (misfits.WrongKind member id wanted) = kind_text id (kind_words wanted)
 misfit_words (misfits.UsesOfBottom member uses) = uses_text uses
@@ -64,6 +72,10 @@ misfit_words (misfits.Same two) = same_text two
 misfit_words (misfits.BothFast info) = codes "prefer_fast_trace and prefer_fast_build"
 misfit_words (misfits.Exclusive two) = exclusive_text (ray_word two.one) (ray_word two.other)
 misfit_words (misfits.Unsupported member word) = unsupported_text (access_word word)
+misfit_words misfits.NoUsage = codes "no usage"
+misfit_words misfits.Mixed = codes "scratch or structure, and another usage"
+misfit_words misfits.Filled = codes "content of a buffer for scratch memory or for structures"
+misfit_words (misfits.ReadOfPrivate id) = private_text id
 
 -- ---- both
 

@@ -31,7 +31,7 @@ mod updates;
 mod wanted;
 mod words;
 
-pub use crate::line::first_line;
+pub use crate::line::{first_line, refusal_line};
 pub use crate::reasons::{Broken, Misshapen, Why, why_of};
 pub use crate::rules::Rules;
 pub use crate::telling::told;

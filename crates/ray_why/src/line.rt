@@ -29,8 +29,12 @@ fn bad_shape_line(alloc: Global, command: u32) -> Result<String, NoMemory>
     format!(in alloc; "bad-shape {command}\n")
 }
 
-// The line of a refusal: `refused I RULE` and its place, and a newline. (Own.)
-fn refusal_line(alloc: Global, refusal: &Refusal) -> Result<String, NoMemory>
+/// The line of a refusal: `refused I RULE` and its place, and a newline. (Own.)
+///
+/// # Errors
+///
+/// For want of memory alone.
+pub fn refusal_line(alloc: Global, refusal: &Refusal) -> Result<String, NoMemory>
     ensures { IfOk result (λ line. string_bytes line ≡ lines.refusal_line refusal.now) }
 {
     let command = refusal.command;

@@ -1,7 +1,7 @@
 ghost use Rattle.std.specs.Prelude.{◌≡◌, IfOk, string_bytes};
 ghost use Rattle.ray_why.specs.Misfits.{exclusive_text, kind_text, kind_words, misfit_member};
 ghost use Rattle.ray_why.specs.Misfits.{misfit_text, misfit_words, same_text, two_kinds_text};
-ghost use Rattle.ray_why.specs.Misfits.{unsupported_text, uses_text};
+ghost use Rattle.ray_why.specs.Misfits.{private_text, unsupported_text, uses_text};
 
 use crate::words::{access_word, ray_word};
 use ray_causes::{Member, Name, member_text};
@@ -30,6 +30,9 @@ fn misfit_member(misfit: Misfit) -> Member
         Misfit::BothFast(info) => Member::Info(info, Name::Flags),
         Misfit::Exclusive(_) => Member::Own(Name::Flags),
         Misfit::Unsupported(member, _) => member,
+        Misfit::NoUsage | Misfit::Mixed => Member::Own(Name::Usage),
+        Misfit::Filled => Member::Own(Name::Data),
+        Misfit::ReadOfPrivate(_) => Member::Own(Name::Buffer),
     }
 }
 
@@ -45,7 +48,21 @@ fn misfit_words(alloc: Global, misfit: Misfit) -> Result<String, NoMemory>
         Misfit::BothFast(_) => String::from_str(alloc, "prefer_fast_trace and prefer_fast_build"),
         Misfit::Exclusive(two) => exclusive_text(alloc, ray_word(two.one), ray_word(two.other)),
         Misfit::Unsupported(_, word) => unsupported_text(alloc, access_word(word)),
+        Misfit::NoUsage => String::from_str(alloc, "no usage"),
+        Misfit::Mixed => String::from_str(alloc, "scratch or structure, and another usage"),
+        Misfit::Filled => String::from_str(alloc, FILLED),
+        Misfit::ReadOfPrivate(id) => private_text(alloc, id),
     }
+}
+
+// What is told of a buffer with content that may have none.
+const FILLED: &str = "content of a buffer for scratch memory or for structures";
+
+// A buffer that is read.
+fn private_text(alloc: Global, id: u32) -> Result<String, NoMemory>
+    ensures { IfOk result (λ text. string_bytes text ≡ private_text id) }
+{
+    format!(in alloc; "buffer {id} is for scratch memory or for structures, and isn't read")
 }
 
 // Two flags that exclude one another.

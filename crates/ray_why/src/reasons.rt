@@ -45,7 +45,7 @@ pub struct Broken {
     pub grounds: Option<Ground>,
     /// The same of V2, V6, V11 and V31.
     pub limits: Option<Limit>,
-    /// The same of V7, V9, V19, V22 and V24.
+    /// The same of V7, V9, V19, V22 and V24, and of V3 where a buffer is made or read.
     pub misfits: Option<Misfit>,
     /// The same of V10 and V23.
     pub crowds: Option<Crowd>,
