@@ -1,0 +1,3 @@
+mod Breaking
+mod Built
+mod Geometries
