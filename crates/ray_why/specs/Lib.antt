@@ -1,12 +1,3 @@
-pub mod Clashes
-pub mod Conflicts
-pub mod Crowds
-pub mod Grounds
-pub mod Limits
 pub mod Lines
-pub mod Misfits
-pub mod Numbers
 pub mod Reasons
 pub mod Told
-pub mod Updates
-pub mod Words

@@ -14,6 +14,7 @@ use Rattle.ray_shape.specs.declared.explaining.ShapeFault.{ShapeFault}
 use Rattle.ray_shape.specs.declared.explaining.ShapeFault.TheVariants as faults
 use Rattle.ray_shape.specs.Faults.{IsShapeFault}
 use Rattle.ray_shape.specs.Wrong.{stands}
+use Rattle.ray_builds.specs.Builds.{IsMisbuiltAt, is_rule_8}
 use Rattle.ray_causes.specs.Causes.{IsCauseAt}
 use Rattle.ray_grounds.specs.Grounds.{IsGroundAt}
 use Rattle.ray_clash.specs.Clashes.{IsClashAt}
@@ -51,6 +52,8 @@ pub record IsBroken (broken : Broken) (commands : List Command) : Type 0 where
   pub clash : IfSome broken.clash (λ clash. IsClashAt commands broken.refusal clash)
   pub updates : IfSome broken.updates (λ update. IsUpdateAt commands broken.refusal update)
   pub conflicts : IfSome broken.conflicts (λ conflict. IsConflictAt commands broken.refusal conflict)
+  pub builds : IfSome broken.builds (λ misbuilt. IsMisbuiltAt commands broken.refusal misbuilt)
+  pub builds_told : is_some broken.builds ≡ is_rule_8 broken.refusal.rule
 
 -- what the rules on the recording alone say of it
 abbrev pub IsOfRules : Why → List Command → Type 0

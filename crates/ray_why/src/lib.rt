@@ -8,28 +8,18 @@
 //! they share, what is missing and a barrier that mends it.
 //!
 //! It stands on ray_cmd (the recording), ray_shape (the place that is wrong), ray_rules (the
-//! definitions of the rules), and ray_causes, ray_grounds, ray_limits, ray_kinds, ray_crowds,
-//! ray_updates and ray_conflicts (by what a static rule is broken) and ray_clash (by what a hazard
-//! is); who decides these rules is a [`Rules`] that the layer above brings.
+//! definitions of the rules), ray_causes, ray_grounds, ray_limits, ray_kinds, ray_crowds,
+//! ray_updates, ray_conflicts and ray_builds (by what a static rule is broken), ray_clash (by what
+//! a hazard is) and ray_told (all of that in words); who decides these rules is a [`Rules`] that
+//! the layer above brings.
 #![tactic(auto)]
 
-mod causes;
-mod clashes;
-mod conflicts;
-mod crowds;
-mod grounds;
-mod limits;
 mod line;
-mod misfits;
-mod numbers;
-mod origins;
 mod reasons;
 mod rules;
 mod sentences;
 mod telling;
-mod updates;
 mod wanted;
-mod words;
 
 pub use crate::line::{first_line, refusal_line};
 pub use crate::reasons::{Broken, Misshapen, Why, why_of};

@@ -8,6 +8,7 @@ ghost use Rattle.ray_why.specs.Reasons.{AreFound, IsMisshapen, IsOfError, IsUnre
 ghost use Rattle.ray_why.specs.Reasons.{IsOfRules, IsWhy, IsWhyOf};
 
 use crate::rules::Rules;
+use ray_builds::{Misbuilt, misbuilt_of};
 use ray_causes::{Cause, cause_of};
 use ray_clash::{Clash, clash_of};
 use ray_cmd::{Recording, RecordingFault, Refusal, recording_of};
@@ -53,6 +54,8 @@ pub struct Broken {
     pub updates: Option<Update>,
     /// The same of V16.
     pub conflicts: Option<Conflict>,
+    /// The same of V8, which is always told.
+    pub builds: Option<Misbuilt>,
     /// By which accesses it is at odds with an earlier command: of V25, V26, V27 and V32.
     pub clash: Option<Clash>,
 }
@@ -158,6 +161,7 @@ fn refused_by(alloc: Global, recording: &Recording, refusal: Refusal) -> Result<
     let crowds = crowd_of(alloc, recording, refusal)?;
     let clash = clash_of(alloc, recording, refusal)?;
     let updates = update_of(alloc, recording, refusal)?;
+    let builds = misbuilt_of(alloc, recording, refusal)?;
     Ok(Why::Refused(Broken {
         refusal,
         cause,
@@ -168,6 +172,7 @@ fn refused_by(alloc: Global, recording: &Recording, refusal: Refusal) -> Result<
         clash,
         updates,
         conflicts: conflict_of(recording, refusal),
+        builds,
     }))
 }
 

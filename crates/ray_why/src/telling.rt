@@ -1,27 +1,22 @@
 ghost use Rattle.std.specs.Prelude.{◌≡◌, ◌++◌, IfOk, List, codes, string_bytes, ℕ};
 ghost use Rattle.ray_shape.specs.Pointer.{pointer_of};
 ghost use Rattle.ray_why.specs.Lines.{line_of};
-ghost use Rattle.ray_why.specs.Conflicts.{conflict_told};
-ghost use Rattle.ray_why.specs.Crowds.{crowd_told};
-ghost use Rattle.ray_why.specs.Grounds.{ground_told};
-ghost use Rattle.ray_why.specs.Limits.{limit_told};
-ghost use Rattle.ray_why.specs.Misfits.{misfit_told};
-ghost use Rattle.ray_why.specs.Told.{cause_told, counted_told, further_told, place_of};
-ghost use Rattle.ray_why.specs.Told.{rule_told, static_told, told_last};
-ghost use Rattle.ray_why.specs.Updates.{update_told};
+ghost use Rattle.ray_told.specs.Builds.{misbuilt_told};
+ghost use Rattle.ray_told.specs.Causes.{cause_told};
+ghost use Rattle.ray_told.specs.Conflicts.{conflict_told};
+ghost use Rattle.ray_told.specs.Crowds.{crowd_told};
+ghost use Rattle.ray_told.specs.Grounds.{ground_told};
+ghost use Rattle.ray_told.specs.Limits.{limit_told};
+ghost use Rattle.ray_told.specs.Misfits.{misfit_told};
+ghost use Rattle.ray_told.specs.Updates.{update_told};
+ghost use Rattle.ray_why.specs.Told.{counted_told, further_told, parts_told, place_of, rule_told};
+ghost use Rattle.ray_why.specs.Told.{static_told, told_last};
 
-use crate::causes::cause_text;
-use crate::clashes::clash_of;
-use crate::conflicts::conflict_text;
-use crate::crowds::crowd_text;
-use crate::grounds::ground_text;
-use crate::limits::limit_text;
 use crate::line::first_line;
-use crate::misfits::misfit_text;
 use crate::reasons::{Broken, Misshapen, Why};
 use crate::sentences::sentence;
-use crate::updates::update_text;
 use crate::wanted::wanted_words;
+use ray_builds::Misbuilt;
 use ray_causes::Cause;
 use ray_conflicts::Conflict;
 use ray_crowds::Crowd;
@@ -29,6 +24,10 @@ use ray_grounds::Ground;
 use ray_kinds::Misfit;
 use ray_limits::Limit;
 use ray_shape::{ShapeFault, Wrong, pointer_text};
+use ray_told::{
+    cause_text, clash_told, conflict_text, crowd_text, ground_text, limit_text, misbuilt_text,
+    misfit_text, update_text,
+};
 use ray_updates::Update;
 use std::alloc::{AllocError as NoMemory, Global};
 
@@ -83,7 +82,7 @@ fn by_rule(alloc: Global, broken: &Broken) -> Result<String, NoMemory>
     ensures { IfOk result (λ text. string_bytes text ≡ rule_told broken.now) }
 {
     let static_text = by_static_rule(alloc, broken)?;
-    let clash = clash_of(alloc, broken.refusal, &broken.clash)?;
+    let clash = clash_told(alloc, broken.refusal, &broken.clash)?;
     both(alloc, static_text.as_str(), clash.as_str())
 }
 
@@ -114,14 +113,23 @@ fn further(alloc: Global, broken: &Broken) -> Result<String, NoMemory>
     joined(alloc, limit.as_str(), misfit.as_str(), counted.as_str())
 }
 
-// The same by counts, by the source of an update and by parts that conflict.
+// The same by counts, by the source of an update, by parts that conflict and by geometries.
 fn counted(alloc: Global, broken: &Broken) -> Result<String, NoMemory>
     ensures { IfOk result (λ text. string_bytes text ≡ counted_told broken.now) }
 {
     let crowd = crowd_of(alloc, broken.refusal.command, broken.crowds)?;
     let update = update_of(alloc, broken.refusal.command, broken.updates)?;
+    let parts = parts(alloc, broken)?;
+    joined(alloc, crowd.as_str(), update.as_str(), parts.as_str())
+}
+
+// The same by parts that conflict and by geometries.
+fn parts(alloc: Global, broken: &Broken) -> Result<String, NoMemory>
+    ensures { IfOk result (λ text. string_bytes text ≡ parts_told broken.now) }
+{
     let conflict = conflict_of(alloc, broken.refusal.command, broken.conflicts)?;
-    joined(alloc, crowd.as_str(), update.as_str(), conflict.as_str())
+    let misbuilt = misbuilt_of(alloc, broken.refusal.command, broken.builds)?;
+    both(alloc, conflict.as_str(), misbuilt.as_str())
 }
 
 // The same of a command, where a cause is known.
@@ -190,6 +198,16 @@ fn conflict_of(alloc: Global, command: u32, conflict: Option<Conflict>) -> Resul
 {
     match conflict {
         Some(conflict) => conflict_text(alloc, command, conflict),
+        None => Ok(String::new(alloc)),
+    }
+}
+
+// The same of what a structure is built of, where that is known.
+fn misbuilt_of(alloc: Global, command: u32, misbuilt: Option<Misbuilt>) -> Result<String, NoMemory>
+    ensures { IfOk result (λ text. string_bytes text ≡ misbuilt_told command misbuilt) }
+{
+    match misbuilt {
+        Some(misbuilt) => misbuilt_text(alloc, command, misbuilt),
         None => Ok(String::new(alloc)),
     }
 }

@@ -11,7 +11,7 @@ use Rattle.ray_kinds.specs.declared.misfit.Misfit.{Misfit}
 use Rattle.ray_kinds.specs.declared.misfit.Misfit.TheVariants as misfits
 use Rattle.ray_kinds.specs.declared.misfit.Pair.{Pair}
 use Rattle.ray_kinds.specs.declared.misfit.Uses.{Uses}
-use Rattle.ray_why.specs.Words.{access_word, ray_word}
+use Rattle.ray_told.specs.Words.{access_word, ray_word}
 
 -- ---- the member that breaks it
 

@@ -1,5 +1,5 @@
 ghost use Rattle.std.specs.Prelude.{◌≡◌, IfOk, string_bytes};
-ghost use Rattle.ray_why.specs.Numbers.{multiple_text, outside_text, range_text};
+ghost use Rattle.ray_told.specs.Numbers.{multiple_text, outside_text, range_text};
 
 use ray_causes::Multiple;
 use ray_rules::ByteRange;

@@ -1,7 +1,7 @@
 ghost use Rattle.std.specs.Prelude.{◌≡◌, IfOk, string_bytes};
-ghost use Rattle.ray_why.specs.Misfits.{exclusive_text, kind_text, kind_words, misfit_member};
-ghost use Rattle.ray_why.specs.Misfits.{misfit_text, misfit_words, same_text, two_kinds_text};
-ghost use Rattle.ray_why.specs.Misfits.{private_text, unsupported_text, uses_text};
+ghost use Rattle.ray_told.specs.Misfits.{exclusive_text, kind_text, kind_words, misfit_member};
+ghost use Rattle.ray_told.specs.Misfits.{misfit_text, misfit_words, same_text, two_kinds_text};
+ghost use Rattle.ray_told.specs.Misfits.{private_text, unsupported_text, uses_text};
 
 use crate::words::{access_word, ray_word};
 use ray_causes::{Member, Name, member_text};
@@ -9,8 +9,12 @@ use ray_cmd::StructureKind;
 use ray_kinds::{Misfit, Pair, Uses};
 use std::alloc::{AllocError as NoMemory, Global};
 
-// What is told of what doesn't fit: the member, and what was compared.
-pub(crate) fn misfit_text(alloc: Global, command: u32, misfit: Misfit) -> Result<String, NoMemory>
+/// What is told of what doesn't fit: the member, and what was compared. Own.
+///
+/// # Errors
+///
+/// For want of memory alone.
+pub fn misfit_text(alloc: Global, command: u32, misfit: Misfit) -> Result<String, NoMemory>
     ensures { IfOk result (λ text. string_bytes text ≡ misfit_text command misfit) }
 {
     let member = member_text(alloc, command, misfit_member(misfit))?;

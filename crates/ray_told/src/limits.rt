@@ -1,7 +1,7 @@
 ghost use Rattle.std.specs.Prelude.{◌≡◌, IfOk, string_bytes};
-ghost use Rattle.ray_why.specs.Limits.{bound_text, full_text, limit_member, limit_text};
-ghost use Rattle.ray_why.specs.Limits.{limit_words, overlaps_text, sizes_text};
-ghost use Rattle.ray_why.specs.Numbers.{range_text};
+ghost use Rattle.ray_told.specs.Limits.{bound_text, full_text, limit_member, limit_text};
+ghost use Rattle.ray_told.specs.Limits.{limit_words, overlaps_text, sizes_text};
+ghost use Rattle.ray_told.specs.Numbers.{range_text};
 
 use crate::numbers::{multiple_text, outside_text, range_text};
 use ray_causes::{Member, Name, member_text};
@@ -9,8 +9,13 @@ use ray_limits::{Bound, Limit, Sizes};
 use ray_rules::ByteRange;
 use std::alloc::{AllocError as NoMemory, Global};
 
-// What is told of the number by which a command breaks a rule: the member, and what was compared.
-pub(crate) fn limit_text(alloc: Global, command: u32, limit: Limit) -> Result<String, NoMemory>
+/// What is told of the number by which a command breaks a rule: the member, and what was compared.
+/// Own.
+///
+/// # Errors
+///
+/// For want of memory alone.
+pub fn limit_text(alloc: Global, command: u32, limit: Limit) -> Result<String, NoMemory>
     ensures { IfOk result (λ text. string_bytes text ≡ limit_text command limit) }
 {
     let member = member_text(alloc, command, limit_member(limit))?;

@@ -1,5 +1,5 @@
 ghost use Rattle.std.specs.Prelude.{◌≡◌};
-ghost use Rattle.ray_why.specs.Words.{access_word, ray_word};
+ghost use Rattle.ray_told.specs.Words.{access_word, ray_word};
 
 use ray_kinds::{AccessWord, RayWord};
 

@@ -1,13 +1,18 @@
 ghost use Rattle.std.specs.Prelude.{◌≡◌, IfOk, string_bytes};
-ghost use Rattle.ray_why.specs.Told.{cause_text, compared, lacking_text, member_of};
-ghost use Rattle.ray_why.specs.Told.{use_word};
+ghost use Rattle.ray_told.specs.Causes.{cause_text, compared, lacking_text, member_of};
+ghost use Rattle.ray_told.specs.Causes.{use_word};
 
 use crate::numbers::{multiple_text, outside_text};
 use ray_causes::{BufferUse, Cause, Member, member_text};
 use std::alloc::{AllocError as NoMemory, Global};
 
-// What is told of that by which a command breaks a static rule: the member, and what was compared.
-pub(crate) fn cause_text(alloc: Global, command: u32, cause: Cause) -> Result<String, NoMemory>
+/// What is told of that by which a command breaks a static rule: the member, and what was
+/// compared. Own.
+///
+/// # Errors
+///
+/// For want of memory alone.
+pub fn cause_text(alloc: Global, command: u32, cause: Cause) -> Result<String, NoMemory>
     ensures { IfOk result (λ text. string_bytes text ≡ cause_text command cause) }
 {
     let member = member_text(alloc, command, member_of(cause))?;

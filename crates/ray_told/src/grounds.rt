@@ -1,7 +1,7 @@
 ghost use Rattle.std.specs.Prelude.{◌≡◌, IfOk, string_bytes};
-ghost use Rattle.ray_why.specs.Grounds.{fact_member, fact_text, flight_text, ground_member};
-ghost use Rattle.ray_why.specs.Grounds.{ground_text, ground_words, phase_word, phases_text};
-ghost use Rattle.ray_why.specs.Grounds.{held_text, origin_member, unbuilt_text};
+ghost use Rattle.ray_told.specs.Grounds.{fact_member, fact_text, flight_text, ground_member};
+ghost use Rattle.ray_told.specs.Grounds.{ground_text, ground_words, phase_word, phases_text};
+ghost use Rattle.ray_told.specs.Grounds.{held_text, origin_member, unbuilt_text};
 
 use crate::origins::origin_text;
 use ray_causes::{Member, Name, member_text};
@@ -9,8 +9,13 @@ use ray_grounds::{Fact, Ground, Origin};
 use ray_rules::Phase;
 use std::alloc::{AllocError as NoMemory, Global};
 
-// What is told of the ground on which a command is refused: the member, and what was compared.
-pub(crate) fn ground_text(alloc: Global, command: u32, basis: Ground) -> Result<String, NoMemory>
+/// What is told of the ground on which a command is refused: the member, and what was compared.
+/// Own.
+///
+/// # Errors
+///
+/// For want of memory alone.
+pub fn ground_text(alloc: Global, command: u32, basis: Ground) -> Result<String, NoMemory>
     ensures { IfOk result (λ text. string_bytes text ≡ ground_text command basis) }
 {
     let member = member_text(alloc, command, ground_member(basis))?;

@@ -9,7 +9,7 @@ use Rattle.ray_limits.specs.declared.limit.Bound.{Bound}
 use Rattle.ray_limits.specs.declared.limit.Limit.{Limit}
 use Rattle.ray_limits.specs.declared.limit.Limit.TheVariants as limits
 use Rattle.ray_limits.specs.declared.limit.Sizes.{Sizes}
-use Rattle.ray_why.specs.Numbers.{multiple_text, outside_text, range_text}
+use Rattle.ray_told.specs.Numbers.{multiple_text, outside_text, range_text}
 
 -- ---- the member that breaks it
 

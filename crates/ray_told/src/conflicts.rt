@@ -1,17 +1,17 @@
 ghost use Rattle.std.specs.Prelude.{◌≡◌, IfOk, string_bytes};
-ghost use Rattle.ray_why.specs.Conflicts.{conflict_member, conflict_text, conflict_words};
-ghost use Rattle.ray_why.specs.Conflicts.{other_text, way_name, way_word};
+ghost use Rattle.ray_told.specs.Conflicts.{conflict_member, conflict_text, conflict_words};
+ghost use Rattle.ray_told.specs.Conflicts.{other_text, way_name, way_word};
 
 use ray_causes::{Member, Name, member_text};
 use ray_conflicts::{Conflict, Way};
 use std::alloc::{AllocError as NoMemory, Global};
 
-// What is told of parts that conflict: the member, and what was compared.
-pub(crate) fn conflict_text(
-    alloc: Global,
-    command: u32,
-    conflict: Conflict,
-) -> Result<String, NoMemory>
+/// What is told of parts that conflict: the member, and what was compared. Own.
+///
+/// # Errors
+///
+/// For want of memory alone.
+pub fn conflict_text(alloc: Global, command: u32, conflict: Conflict) -> Result<String, NoMemory>
     ensures { IfOk result (λ text. string_bytes text ≡ conflict_text command conflict) }
 {
     let member = member_text(alloc, command, conflict_member(conflict))?;

@@ -1,6 +1,6 @@
 ghost use Rattle.std.specs.Prelude.{◌≡◌, IfOk, string_bytes};
-ghost use Rattle.ray_why.specs.Grounds.{contents_text, entry_text, lack_words, origin_text};
-ghost use Rattle.ray_why.specs.Grounds.{stale_entry_text, stale_text};
+ghost use Rattle.ray_told.specs.Grounds.{contents_text, entry_text, lack_words, origin_text};
+ghost use Rattle.ray_told.specs.Grounds.{stale_entry_text, stale_text};
 
 use ray_grounds::{Entry, Lack, Origin, Stale};
 use std::alloc::{AllocError as NoMemory, Global};

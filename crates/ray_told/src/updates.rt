@@ -1,14 +1,18 @@
 ghost use Rattle.std.specs.Prelude.{◌≡◌, IfOk, string_bytes};
-ghost use Rattle.ray_why.specs.Updates.{change_spot, change_text, change_word, matter_word};
-ghost use Rattle.ray_why.specs.Updates.{spot_and_text, update_spot, update_text, update_words};
+ghost use Rattle.ray_told.specs.Updates.{change_spot, change_text, change_word, matter_word};
+ghost use Rattle.ray_told.specs.Updates.{spot_and_text, update_spot, update_text, update_words};
 
 use ray_causes::{Member, Name};
 use ray_crowds::{Spot, spot_text};
 use ray_updates::{Change, Matter, Update};
 use std::alloc::{AllocError as NoMemory, Global};
 
-// What is told of an update that differs from its source: the spot, and what was compared.
-pub(crate) fn update_text(alloc: Global, command: u32, update: Update) -> Result<String, NoMemory>
+/// What is told of an update that differs from its source: the spot, and what was compared. Own.
+///
+/// # Errors
+///
+/// For want of memory alone.
+pub fn update_text(alloc: Global, command: u32, update: Update) -> Result<String, NoMemory>
     ensures { IfOk result (λ text. string_bytes text ≡ update_text command update) }
 {
     let words = update_words(alloc, update)?;

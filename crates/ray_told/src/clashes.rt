@@ -1,14 +1,18 @@
 ghost use Rattle.std.specs.Prelude.{◌≡◌, [], IfOk, string_bytes};
 ghost use Rattle.std.specs.Option.{option_map_or};
 ghost use Rattle.ray_clash.specs.Telling.{clash_text};
-ghost use Rattle.ray_why.specs.Clashes.{clash_told, earlier_in};
+ghost use Rattle.ray_told.specs.Clashes.{clash_told, earlier_in};
 
 use ray_clash::{Clash, clash_text};
 use ray_cmd::{Place, Refusal};
 use std::alloc::{AllocError as NoMemory, Global};
 
-// What is told of a command that is at odds with an earlier one, where it is told.
-pub(crate) fn clash_of(
+/// What is told of a command that is at odds with an earlier one, where it is told. Own.
+///
+/// # Errors
+///
+/// For want of memory alone.
+pub fn clash_told(
     alloc: Global,
     refusal: Refusal,
     clash: &Option<Clash>,

@@ -1,13 +1,17 @@
 ghost use Rattle.std.specs.Prelude.{◌≡◌, IfOk, string_bytes};
-ghost use Rattle.ray_why.specs.Crowds.{count_text, crowd_spot, crowd_text, crowd_words};
-ghost use Rattle.ray_why.specs.Crowds.{distance_text, script_spot, script_text};
+ghost use Rattle.ray_told.specs.Crowds.{count_text, crowd_spot, crowd_text, crowd_words};
+ghost use Rattle.ray_told.specs.Crowds.{distance_text, script_spot, script_text};
 
 use ray_causes::{Member, Name};
 use ray_crowds::{Count, Crowd, Distance, OfScript, Spot, spot_text};
 use std::alloc::{AllocError as NoMemory, Global};
 
-// What is told of that of which a command has too much: the spot, and what was compared.
-pub(crate) fn crowd_text(alloc: Global, command: u32, crowd: Crowd) -> Result<String, NoMemory>
+/// What is told of that of which a command has too much: the spot, and what was compared. Own.
+///
+/// # Errors
+///
+/// For want of memory alone.
+pub fn crowd_text(alloc: Global, command: u32, crowd: Crowd) -> Result<String, NoMemory>
     ensures { IfOk result (λ text. string_bytes text ≡ crowd_text command crowd) }
 {
     let spot = spot_text(alloc, command, crowd_spot(crowd))?;

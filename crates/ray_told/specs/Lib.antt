@@ -1,0 +1,11 @@
+pub mod Builds
+pub mod Causes
+pub mod Clashes
+pub mod Conflicts
+pub mod Crowds
+pub mod Grounds
+pub mod Limits
+pub mod Misfits
+pub mod Numbers
+pub mod Updates
+pub mod Words
