@@ -1,10 +1,12 @@
 //! The program `vkray_why`: reads a recording from standard input and tells on standard output why
-//! it is refused. The first line is the one that `vkray check` writes, and so is the status.
+//! it is refused. The first line is the one that `vkray check` writes, and so is the status. With
+//! `--all` it tells of all commands that are refused, below what it tells of the first.
 #![tactic(auto)]
 
 use ray_check::check_rules;
-use ray_cmd::{Recording, Refusal};
+use ray_cmd::{Recording, Refusal, read_recording};
 use ray_io::{ReadError, Sink, Source, StdSink, StdSource, read_all, write_all};
+use ray_refusals::{every_refusal, every_text};
 use ray_why::{Rules, Why, told, why_of};
 use std::alloc::{AllocError, Global};
 use std::io::ErrorKind;
@@ -16,14 +18,22 @@ use std::{env, io};
 const MOST_BYTES: u32 = 1 << 26;
 
 // What `--help` writes.
-const HELP: &str = "vkray_why [check] < recording.json\n\
-                    tells why a recording is refused, below the line that vkray check writes\n";
+const HELP: &str = "vkray_why [check] [--all] < recording.json\n\
+                    tells why a recording is refused, below the line that vkray check writes\n\
+                    --all tells of each command that is refused, as advice\n";
 
 // What `--version` writes.
 const VERSION: &str = "vkray_why 1.1.0\n";
 
 // The status of an answer for which there is no memory.
 const NO_MEMORY: u8 = 7;
+
+// Of how many commands that are refused is told.
+#[derive(Clone, Copy)]
+enum Scope {
+    First,
+    All,
+}
 
 // What is written, and the status once it is.
 #[derive(Drop)]
@@ -95,11 +105,16 @@ fn reply_to<S: Source>(
     source: &mut S,
 ) -> Result<Reply, AllocError> {
     match words {
-        [] => of_source(alloc, source),
+        [] => of_source(alloc, source, Scope::First),
         [word] => match word.as_str() {
-            "check" => of_source(alloc, source),
+            "check" => of_source(alloc, source, Scope::First),
+            "--all" => of_source(alloc, source, Scope::All),
             "--help" => of_text(alloc, 0, HELP),
             "--version" => of_text(alloc, 0, VERSION),
+            _ => of_text(alloc, 3, "bad-words\n"),
+        },
+        [word, more] => match (word.as_str(), more.as_str()) {
+            ("check", "--all") => of_source(alloc, source, Scope::All),
             _ => of_text(alloc, 3, "bad-words\n"),
         },
         _ => of_text(alloc, 3, "bad-words\n"),
@@ -107,9 +122,9 @@ fn reply_to<S: Source>(
 }
 
 // What is told of the recording that a source has.
-fn of_source<S: Source>(alloc: Global, source: &mut S) -> Result<Reply, AllocError> {
+fn of_source<S: Source>(alloc: Global, source: &mut S, scope: Scope) -> Result<Reply, AllocError> {
     match read_all(alloc, source, MOST_BYTES) {
-        Ok(bytes) => of_bytes(alloc, bytes.as_slice()),
+        Ok(bytes) => of_bytes(alloc, bytes.as_slice(), scope),
         Err(ReadError::ReadFault) => of_text(alloc, 4, "read-fault\n"),
         Err(ReadError::TooLong) => of_text(alloc, 6, "too-long\n"),
         Err(ReadError::NoMemory) => Err(AllocError),
@@ -117,13 +132,29 @@ fn of_source<S: Source>(alloc: Global, source: &mut S) -> Result<Reply, AllocErr
 }
 
 // What is told of the bytes of a recording.
-fn of_bytes(alloc: Global, bytes: &[u8]) -> Result<Reply, AllocError> {
+fn of_bytes(alloc: Global, bytes: &[u8], scope: Scope) -> Result<Reply, AllocError> {
     let why = why_of::<Checked>(alloc, bytes)?;
-    let text = told(alloc, &why)?;
+    let first = told(alloc, &why)?;
+    let text = match (scope, &why) {
+        (Scope::All, Why::Refused(_)) => with_all(alloc, bytes, first)?,
+        _ => first,
+    };
     Ok(Reply {
         status: status_of(&why),
         text,
     })
+}
+
+// What is told of all commands that are refused, below what is told of the first.
+fn with_all(alloc: Global, bytes: &[u8], first: String) -> Result<String, AllocError> {
+    match read_recording(alloc, bytes) {
+        Ok(recording) => {
+            let every = every_refusal(alloc, &recording)?;
+            let all = every_text(alloc, &every)?;
+            format!(in alloc; "{first}{all}")
+        }
+        Err(_) => Err(AllocError),
+    }
 }
 
 // The status of an answer.
