@@ -32,17 +32,23 @@ def checked():
                 yield f"{path.parent.name}/{path.stem}", case, answer["text"], answer["status"]
 
 
-def told(case):
+def told(case, *words):
     """Returns the status and the lines that vkray_why gives of a case."""
-    done = subprocess.run([WHY], input=given(case), stdout=subprocess.PIPE, timeout=120)
+    done = subprocess.run([WHY, *words], input=given(case), stdout=subprocess.PIPE, timeout=120)
     return done.returncode, done.stdout.decode().splitlines()
+
+
+def place(line):
+    """Returns the number of the command of a line `refused I RULE` and that of its rule."""
+    _, command, rule = line.split()[:3]
+    return int(command), int(rule[1:])
 
 
 def is_told(case, line, lines):
     """Whether something stands below the first line and the sentence of the rule, but for the end of a recording."""
     if not line.startswith("refused"):
-        return len(lines) > 1 or line == "ok"
-    return len(lines) > 2 or int(line.split()[1]) == len(case["recording"])
+        return len(lines) > 1 or line in ("ok", "too-long")
+    return len(lines) > 2 or int(line.split()[1]) == len(json.loads(given(case)))
 
 
 @needs_why
@@ -55,3 +61,12 @@ class Tells(unittest.TestCase):
         for (name, case, text, status), (came, lines) in zip(cases, answers):
             self.assertEqual((came, lines[0] + "\n"), (status, text), name)
             self.assertTrue(is_told(case, lines[0], lines), name)
+
+    def test_the_first_is_the_least_of_all(self):
+        cases = [it for it in checked() if it[2].startswith("refused")]
+        self.assertGreater(len(cases), 400)
+        with concurrent.futures.ThreadPoolExecutor(os.cpu_count()) as workers:
+            answers = list(workers.map(lambda it: told(it[1], "--all"), cases))
+        for (name, _, text, status), (came, lines) in zip(cases, answers):
+            every = [it for it in lines[1:] if it.startswith("refused")]
+            self.assertEqual((came, min(every, key=place) + "\n"), (status, text), name)

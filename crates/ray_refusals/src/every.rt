@@ -11,11 +11,11 @@ use std::alloc::{AllocError as NoMemory, Global};
 /// All refusals of a recording. (Own.)
 #[derive(Debug, Drop)]
 pub struct Every {
-    /// Of each command that breaks a static rule, V1 to V24 or V28 to V31, the refusal by the least;
-    /// and that of the end.
+    /// Of each command that breaks a static rule, V1 to V24 or V28 to V31, the refusal by the
+    /// least; and that of the end.
     pub statics: Vec<Refusal>,
-    /// Of each of the first commands that breaks a rule on hazards, V25 to V27 or V32, the refusal by
-    /// the least.
+    /// Of each of the first commands that breaks a rule on hazards, V25 to V27 or V32, the refusal
+    /// by the least.
     pub hazards: Vec<Refusal>,
     /// How many of the first commands are looked at for hazards: those before one that names what
     /// isn't live, has sizes too small or makes a structure over another, and so leaves no status.

@@ -5,8 +5,8 @@
 //! `hazards_below` of ray_sync what it gives; and [`every_text`], which makes a text of it, by
 //! `every_told` of `specs/Told`.
 //!
-//! It stands on ray_valid (the static rules), ray_sync (the rules on hazards), ray_status, ray_rules
-//! (the definitions) and ray_why (the line of a refusal).
+//! It stands on ray_valid (the static rules), ray_sync (the rules on hazards), ray_status and
+//! ray_rules (the definitions), and on ray_why (the line of a refusal).
 #![tactic(auto)]
 
 mod every;

@@ -1,6 +1,6 @@
 ghost use Rattle.std.specs.Prelude.{◌≡◌, ◌++◌, IfOk, OnOk, string_bytes};
 ghost use Rattle.ray_why.specs.Lines.{refusal_line};
-ghost use Rattle.ray_refusals.specs.Told.{count_of, every_told, left_out, lines_of, refusals_text, unlooked};
+ghost use Rattle.ray_refusals.specs.Told.{every_told, left_out, lines_of, refusals_text, unlooked};
 
 use crate::every::Every;
 use ray_cmd::Refusal;
@@ -11,12 +11,11 @@ use std::alloc::{AllocError as NoMemory, Global};
 const MOST_LINES: usize = 1000;
 
 // What stands above them.
-const HEAD: &str =
-    "all refusals, where each command is taken as it is; this is advice, since one that breaks \
-                    a rule leaves no defined state:\n";
+const HEAD: &str = "all refusals, where each command is taken as it is; this is advice, since \
+                    one that breaks a rule leaves no defined state:\n";
 
-/// What is told of all refusals of a recording: a line for each, as `vkray check` writes it, those of
-/// static rules before those of rules on hazards, 1,000 at most; and from where on no hazard is
+/// What is told of all refusals of a recording: a line for each, as `vkray check` writes it, those
+/// of static rules before those of rules on hazards, 1,000 at most; and from where on no hazard is
 /// looked for. (Own.)
 ///
 /// # Errors
