@@ -44,11 +44,11 @@ def place(line):
     return int(command), int(rule[1:])
 
 
-def is_told(case, line, lines):
-    """Whether something stands below the first line and the sentence of the rule, but for the end of a recording."""
+def is_told(line, lines):
+    """Whether something stands below the first line, and of a refusal below the sentence of the rule."""
     if not line.startswith("refused"):
         return len(lines) > 1 or line in ("ok", "too-long")
-    return len(lines) > 2 or int(line.split()[1]) == len(json.loads(given(case)))
+    return len(lines) > 2
 
 
 @needs_why
@@ -60,7 +60,7 @@ class Tells(unittest.TestCase):
             answers = list(workers.map(lambda it: told(it[1]), cases))
         for (name, case, text, status), (came, lines) in zip(cases, answers):
             self.assertEqual((came, lines[0] + "\n"), (status, text), name)
-            self.assertTrue(is_told(case, lines[0], lines), name)
+            self.assertTrue(is_told(lines[0], lines), name)
 
     def test_the_first_is_the_least_of_all(self):
         cases = [it for it in checked() if it[2].startswith("refused")]

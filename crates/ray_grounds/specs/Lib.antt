@@ -1,4 +1,5 @@
 pub mod Asking
+pub mod Ends
 pub mod Entries
 pub mod Facts
 pub mod Grounds

@@ -5,7 +5,7 @@
 //! what it tells is so in the recording: a [`Fact`] of the command and of what stands where it does
 //! (`specs/Facts`), an [`Origin`] of what it reads (`specs/Origins`), or the command that submits
 //! last before it (`specs/Submits`). A member of the command is a `Member` of ray_causes, and so is
-//! its text.
+//! its text. [`unfinished_of`] tells of the end, by `specs/Ends`.
 //!
 //! It stands on ray_causes (members), ray_status (what stands where) and ray_rules (the
 //! definitions). The members of a command are gone over in one order (`listing`), and each is
@@ -13,6 +13,7 @@
 #![tactic(auto)]
 
 mod asked;
+mod ends;
 mod entries;
 mod fact;
 mod finding;
@@ -27,6 +28,7 @@ mod submits;
 mod testing;
 mod unbuilt;
 
+pub use crate::ends::unfinished_of;
 pub use crate::fact::Fact;
 pub use crate::finding::ground_of;
 pub use crate::grounds::Ground;

@@ -33,7 +33,7 @@ fn wrong_here(status: &Status, command: &Command) -> Option<Fact>
 }
 
 // Whether two states are the same.
-fn is_same_phase(one: Phase, other: Phase) -> bool
+pub(crate) fn is_same_phase(one: Phase, other: Phase) -> bool
     ensures { result ≡ is_same_phase one other }
 {
     one == other

@@ -3,6 +3,7 @@ pub mod Causes
 pub mod Clashes
 pub mod Conflicts
 pub mod Crowds
+pub mod Ends
 pub mod Grounds
 pub mod Limits
 pub mod Misfits

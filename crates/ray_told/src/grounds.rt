@@ -108,7 +108,7 @@ fn phases_text(alloc: Global, found: &str, needed: &str) -> Result<String, NoMem
 }
 
 // A state of the command buffer.
-fn phase_word(phase: Phase) -> &'static str
+pub(crate) fn phase_word(phase: Phase) -> &'static str
     ensures { result.now ≡ phase_word phase }
 {
     match phase {

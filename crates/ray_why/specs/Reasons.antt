@@ -16,6 +16,7 @@ use Rattle.ray_shape.specs.Faults.{IsShapeFault}
 use Rattle.ray_shape.specs.Wrong.{stands}
 use Rattle.ray_builds.specs.Builds.{IsMisbuiltAt, is_rule_8}
 use Rattle.ray_causes.specs.Causes.{IsCauseAt}
+use Rattle.ray_grounds.specs.Ends.{IsUnfinishedAt, is_of_end}
 use Rattle.ray_grounds.specs.Grounds.{IsGroundAt}
 use Rattle.ray_clash.specs.Clashes.{IsClashAt}
 use Rattle.ray_conflicts.specs.Conflicts.{IsConflictAt}
@@ -54,6 +55,8 @@ pub record IsBroken (broken : Broken) (commands : List Command) : Type 0 where
   pub conflicts : IfSome broken.conflicts (λ conflict. IsConflictAt commands broken.refusal conflict)
   pub builds : IfSome broken.builds (λ misbuilt. IsMisbuiltAt commands broken.refusal misbuilt)
   pub builds_told : is_some broken.builds ≡ is_rule_8 broken.refusal.rule
+  pub unfinished : IfSome broken.unfinished (λ phase. IsUnfinishedAt commands broken.refusal phase)
+  pub unfinished_told : is_some broken.unfinished ≡ is_of_end commands broken.refusal
 
 -- what the rules on the recording alone say of it
 abbrev pub IsOfRules : Why → List Command → Type 0

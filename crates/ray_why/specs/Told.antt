@@ -5,6 +5,7 @@ use Rattle.ray_told.specs.Causes.{cause_told}
 use Rattle.ray_told.specs.Clashes.{clash_told}
 use Rattle.ray_told.specs.Conflicts.{conflict_told}
 use Rattle.ray_told.specs.Crowds.{crowd_told}
+use Rattle.ray_told.specs.Ends.{end_told}
 use Rattle.ray_told.specs.Grounds.{ground_told}
 use Rattle.ray_told.specs.Limits.{limit_told}
 use Rattle.ray_told.specs.Misfits.{misfit_told}
@@ -18,10 +19,11 @@ abbrev pub place_of : List ℕ → List ℕ → List ℕ → List ℕ
 place_of pointer found words =
     codes "at: " ++ (pointer ++ (codes "\nfound: " ++ (found ++ (codes "\nwanted: " ++ (words ++ codes "\n")))))
 
--- what is told by parts that conflict and by geometries of the command for which a recording is refused
+-- what is told by parts that conflict and by geometries of the command for which a recording is refused, and of the end
 abbrev pub parts_told : Broken → List ℕ
 parts_told broken =
-    conflict_told broken.refusal.command broken.conflicts ++ misbuilt_told broken.refusal.command broken.builds
+    conflict_told broken.refusal.command broken.conflicts
+    ++ (misbuilt_told broken.refusal.command broken.builds ++ end_told broken.unfinished)
 
 -- the same by counts, by the source of an update and by these
 abbrev pub counted_told : Broken → List ℕ

@@ -14,9 +14,10 @@ use ray_clash::{Clash, clash_of};
 use ray_cmd::{Recording, RecordingFault, Refusal, recording_of};
 use ray_conflicts::{Conflict, conflict_of};
 use ray_crowds::{Crowd, crowd_of};
-use ray_grounds::{Ground, ground_of};
+use ray_grounds::{Ground, ground_of, unfinished_of};
 use ray_kinds::{Misfit, misfit_of};
 use ray_limits::{Limit, limit_of};
+use ray_rules::Phase;
 use ray_shape::{ShapeFault, Step, shape_fault, value_at};
 use ray_updates::{Update, update_of};
 use serde_json::{Error, Value};
@@ -56,6 +57,8 @@ pub struct Broken {
     pub conflicts: Option<Conflict>,
     /// The same of V8, which is always told.
     pub builds: Option<Misbuilt>,
+    /// In which state the command buffer is at the end, where the end is refused; always told.
+    pub unfinished: Option<Phase>,
     /// By which accesses it is at odds with an earlier command: of V25, V26, V27 and V32.
     pub clash: Option<Clash>,
 }
@@ -162,6 +165,7 @@ fn refused_by(alloc: Global, recording: &Recording, refusal: Refusal) -> Result<
     let clash = clash_of(alloc, recording, refusal)?;
     let updates = update_of(alloc, recording, refusal)?;
     let builds = misbuilt_of(alloc, recording, refusal)?;
+    let unfinished = unfinished_of(alloc, recording, refusal)?;
     Ok(Why::Refused(Broken {
         refusal,
         cause,
@@ -173,6 +177,7 @@ fn refused_by(alloc: Global, recording: &Recording, refusal: Refusal) -> Result<
         updates,
         conflicts: conflict_of(recording, refusal),
         builds,
+        unfinished,
     }))
 }
 

@@ -5,6 +5,7 @@ ghost use Rattle.ray_told.specs.Builds.{misbuilt_told};
 ghost use Rattle.ray_told.specs.Causes.{cause_told};
 ghost use Rattle.ray_told.specs.Conflicts.{conflict_told};
 ghost use Rattle.ray_told.specs.Crowds.{crowd_told};
+ghost use Rattle.ray_told.specs.Ends.{end_told};
 ghost use Rattle.ray_told.specs.Grounds.{ground_told};
 ghost use Rattle.ray_told.specs.Limits.{limit_told};
 ghost use Rattle.ray_told.specs.Misfits.{misfit_told};
@@ -23,10 +24,11 @@ use ray_crowds::Crowd;
 use ray_grounds::Ground;
 use ray_kinds::Misfit;
 use ray_limits::Limit;
+use ray_rules::Phase;
 use ray_shape::{ShapeFault, Wrong, pointer_text};
 use ray_told::{
-    cause_text, clash_told, conflict_text, crowd_text, ground_text, limit_text, misbuilt_text,
-    misfit_text, update_text,
+    cause_text, clash_told, conflict_text, crowd_text, end_text, ground_text, limit_text,
+    misbuilt_text, misfit_text, update_text,
 };
 use ray_updates::Update;
 use std::alloc::{AllocError as NoMemory, Global};
@@ -123,13 +125,24 @@ fn counted(alloc: Global, broken: &Broken) -> Result<String, NoMemory>
     joined(alloc, crowd.as_str(), update.as_str(), parts.as_str())
 }
 
-// The same by parts that conflict and by geometries.
+// The same by parts that conflict, by geometries and of the end.
 fn parts(alloc: Global, broken: &Broken) -> Result<String, NoMemory>
     ensures { IfOk result (λ text. string_bytes text ≡ parts_told broken.now) }
 {
     let conflict = conflict_of(alloc, broken.refusal.command, broken.conflicts)?;
     let misbuilt = misbuilt_of(alloc, broken.refusal.command, broken.builds)?;
-    both(alloc, conflict.as_str(), misbuilt.as_str())
+    let end = end_of(alloc, broken.unfinished)?;
+    joined(alloc, conflict.as_str(), misbuilt.as_str(), end.as_str())
+}
+
+// The same of the end, where it is refused.
+fn end_of(alloc: Global, found: Option<Phase>) -> Result<String, NoMemory>
+    ensures { IfOk result (λ text. string_bytes text ≡ end_told found) }
+{
+    match found {
+        Some(found) => end_text(alloc, found),
+        None => Ok(String::new(alloc)),
+    }
 }
 
 // The same of a command, where a cause is known.
